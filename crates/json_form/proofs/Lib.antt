@@ -1,0 +1,5 @@
+pub mod WholeParts
+pub mod Present
+pub mod Binds
+pub mod Fields
+pub mod Lists

@@ -1,0 +1,3 @@
+pub mod formers
+pub mod Phrases
+pub mod Readers

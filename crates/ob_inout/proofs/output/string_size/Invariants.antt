@@ -1,0 +1,9 @@
+use Rattle.std.proofs.Common.{◌≡◌, ◌+◌, ◌*◌, ◌≤◌, length, drop}
+use Rattle.ob_inout.specs.Writing.{string_text}
+use Rattle.ob_inout.proofs.output.string_size.Given as goal
+
+abbrev pub invariant-loop-ch : goal.invariant-loop-ch
+invariant-loop-ch l = record {
+  counted : l.size + length (string_text (drop l.ch-index l.characters)) ≡ length (string_text l.characters);
+  bounded : l.size ≤ 2 * l.ch-index;
+}

@@ -1,0 +1,5 @@
+pub mod ModuleTree
+pub mod Run
+pub mod Arithmetic
+pub mod Meaning
+pub mod InRange

@@ -1,0 +1,9 @@
+pub mod Symbols
+pub mod Gap
+pub mod GapReading
+pub mod Places
+pub mod Spelling
+pub mod Tokens
+pub mod Exactly
+pub mod Scanning
+pub mod TokensOf

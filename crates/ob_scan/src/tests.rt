@@ -1,0 +1,129 @@
+use crate::scanner::scan;
+use crate::token::{Kind, Token};
+use ob_base::{Code, Refused};
+use std::alloc::{AllocError, Global};
+use std::test::Fail;
+
+// A name, string or number as it is, and a reserved word or sign by its name behind '!'.
+fn show(alloc: Global, token: &Token, shown: &mut Vec<u8>) -> Result<(), AllocError> {
+    match &token.kind {
+        Kind::Ident(name) => shown.extend_from_slice(name.as_slice())?,
+        Kind::Integer(number) => {
+            let digits = number.to_string(alloc)?;
+            shown.extend_from_slice(digits.as_bytes())?;
+        }
+        Kind::Text(chars) => {
+            shown.push(b'"')?;
+            shown.extend_from_slice(chars.as_slice())?;
+        }
+        Kind::Symbol(symbol) => {
+            let name = format!(in alloc; "{symbol:?}")?;
+            shown.push(b'!')?;
+            shown.extend_from_slice(name.as_bytes())?;
+        }
+    }
+    shown.push(b' ')?;
+    Ok(())
+}
+
+fn shown(alloc: Global, text: &str) -> Result<Vec<u8>, AllocError> {
+    let mut shown = Vec::new(alloc);
+    match scan(alloc, text) {
+        Ok(tokens) => {
+            for token in tokens.as_slice() {
+                show(alloc, token, &mut shown)?;
+            }
+        }
+        Err(Refused::Memory) => return Err(AllocError),
+        Err(Refused::Fault(fault)) => shown.push(match fault.code {
+            Code::Character => b'1',
+            Code::Comment => b'2',
+            Code::String => b'3',
+            Code::Number => b'4',
+            _ => b'5',
+        })?,
+    }
+    Ok(shown)
+}
+
+fn last_span(alloc: Global, text: &str) -> Result<[usize; 4], AllocError> {
+    match scan(alloc, text) {
+        Ok(tokens) => match tokens.as_slice() {
+            [.., token] => {
+                let span = token.span;
+                Ok([span.start, span.end, span.line, span.column])
+            }
+            [] => Ok([0; 4]),
+        },
+        Err(Refused::Memory) => Err(AllocError),
+        Err(Refused::Fault(fault)) => Ok([0, 0, fault.line, fault.column]),
+    }
+}
+
+#[test]
+fn words_and_signs(rt: HostRuntime) -> Result<(), Fail> {
+    assert_eq!(rt;
+        shown(rt.alloc(), "MODULE a1; ModulE")?.as_slice(),
+        b"!Module a1 !Semicolon ModulE ".as_slice()
+    );
+    assert_eq!(rt;
+        shown(rt.alloc(), "a:=b<=c..d.e:f^")?.as_slice(),
+        b"a !Becomes b !LessEqual c !DotDot d !Period e !Colon f !Arrow ".as_slice()
+    );
+    assert_eq!(rt;
+        shown(rt.alloc(), " (* a (* b *) *)\t")?.as_slice(),
+        b"".as_slice()
+    );
+    assert_eq!(rt;
+        shown(rt.alloc(), "(* a (* b *)")?.as_slice(),
+        b"2".as_slice()
+    );
+    assert_eq!(rt; shown(rt.alloc(), "a ! b")?.as_slice(), b"1".as_slice());
+    Ok(())
+}
+
+#[test]
+fn numbers(rt: HostRuntime) -> Result<(), Fail> {
+    assert_eq!(rt;
+        shown(rt.alloc(), "12 0FFH 0FFFFFFFFH 2147483647")?.as_slice(),
+        b"12 255 -1 2147483647 ".as_slice()
+    );
+    assert_eq!(rt;
+        shown(rt.alloc(), "41X 1..2")?.as_slice(),
+        b"\"A 1 !DotDot 2 ".as_slice()
+    );
+    assert_eq!(rt; shown(rt.alloc(), "12E")?.as_slice(), b"4".as_slice());
+    assert_eq!(rt; shown(rt.alloc(), "1.")?.as_slice(), b"4".as_slice());
+    assert_eq!(rt; shown(rt.alloc(), "41X.")?.as_slice(), b"4".as_slice());
+    assert_eq!(rt;
+        shown(rt.alloc(), "2147483648")?.as_slice(),
+        b"4".as_slice()
+    );
+    assert_eq!(rt; shown(rt.alloc(), "100X")?.as_slice(), b"4".as_slice());
+    Ok(())
+}
+
+#[test]
+fn strings(rt: HostRuntime) -> Result<(), Fail> {
+    assert_eq!(rt;
+        shown(rt.alloc(), "\"a\u{e9}\" b")?.as_slice(),
+        b"\"a\xe9 b ".as_slice()
+    );
+    assert_eq!(rt; shown(rt.alloc(), "\"a")?.as_slice(), b"3".as_slice());
+    assert_eq!(rt; shown(rt.alloc(), "\"a\nb\"")?.as_slice(), b"3".as_slice());
+    assert_eq!(rt;
+        shown(rt.alloc(), "\"\u{100}\"")?.as_slice(),
+        b"3".as_slice()
+    );
+    Ok(())
+}
+
+#[test]
+fn places(rt: HostRuntime) -> Result<(), Fail> {
+    assert_eq!(rt;
+        last_span(rt.alloc(), "\"\u{e9}\"\n  (* \u{e9} *) IF")?,
+        [16, 18, 2, 11]
+    );
+    assert_eq!(rt; last_span(rt.alloc(), "a\n b 12E")?, [0, 0, 2, 4]);
+    Ok(())
+}
