@@ -1,4 +1,5 @@
--- Which texts are messages, in facts about their fields, with no word on faults.
+-- Which texts are messages, in facts about their fields, with no word on faults ("Messaging in Jupyter", version
+-- 5.4).
 use Rattle.std.specs.Prelude.{◌≡◌, ◌≤◌, ℕ, List, [], true, false, pos, length, codes, Option, Some, option_and_then}
 use Rattle.std.specs.Result.{result_ok}
 use Rattle.serde_json.specs.Data.{Data}

@@ -17,7 +17,7 @@ impl Output {
     pub fn status(execution_state: State) -> Output
         ensures { result ≡ Status execution_state }
     {
-        Output::Status(execution_state)
+        Self::Status(execution_state)
     }
 
     /// `execute_input`: a cell that begins, with the count that then holds.
@@ -28,7 +28,7 @@ impl Output {
     ) -> Result<Output, AllocError>
         ensures { IfOk result (λ o. o ≡ ExecuteInput code.now execution_count) }
     {
-        Ok(Output::ExecuteInput {
+        Ok(Self::ExecuteInput {
             code: Text::from_str(alloc, code)?,
             execution_count,
         })
@@ -38,35 +38,35 @@ impl Output {
     pub fn stream(alloc: Global, text: &str) -> Result<Output, AllocError>
         ensures { IfOk result (λ o. o ≡ Stream text.now) }
     {
-        Ok(Output::stream_of(String::from_str(alloc, text)?))
+        Ok(Self::stream_of(String::from_str(alloc, text)?))
     }
 
     /// `stream`, of a text that is taken over. It takes no memory.
     pub fn stream_of(text: String) -> Output
         ensures { result ≡ Stream (string_bytes text) }
     {
-        Output::Stream(Text::from_string(text))
+        Self::Stream(Text::from_string(text))
     }
 
     /// `error`: a cell's error, whose value may be empty.
     pub fn error(alloc: Global, ename: &str, evalue: &str) -> Result<Output, AllocError>
         ensures { IfOk result (λ o. o ≡ Error (record { ename = ename.now; evalue = evalue.now })) }
     {
-        Ok(Output::Error(Failure::new(alloc, ename, evalue)?))
+        Ok(Self::Error(Failure::new(alloc, ename, evalue)?))
     }
 
     /// `input_request`: a line is asked for, without a prompt.
     pub fn input_request() -> Output
         ensures { result ≡ InputRequest }
     {
-        Output::InputRequest
+        Self::InputRequest
     }
 
     /// `execute_reply` to a cell that ended well.
     pub fn done_reply(execution_count: u64) -> Output
         ensures { result ≡ ExecuteReply (Done execution_count) }
     {
-        Output::ExecuteReply(Outcome::Done { execution_count })
+        Self::ExecuteReply(Outcome::Done { execution_count })
     }
 
     /// `execute_reply` to a cell that ended by an error.
@@ -80,7 +80,7 @@ impl Output {
             ≡ ExecuteReply (Failed execution_count (record { ename = ename.now; evalue = evalue.now }))) }
     {
         let failure = Failure::new(alloc, ename, evalue)?;
-        Ok(Output::ExecuteReply(Outcome::Failed {
+        Ok(Self::ExecuteReply(Outcome::Failed {
             execution_count,
             failure,
         }))
@@ -90,63 +90,63 @@ impl Output {
     pub fn aborted_reply() -> Output
         ensures { result ≡ ExecuteReply Aborted }
     {
-        Output::ExecuteReply(Outcome::Aborted)
+        Self::ExecuteReply(Outcome::Aborted)
     }
 
     /// `kernel_info_reply`: the kernel and its language.
     pub fn kernel_info_reply() -> Output
         ensures { result ≡ KernelInfoReply }
     {
-        Output::KernelInfoReply
+        Self::KernelInfoReply
     }
 
     /// `is_complete_reply`.
     pub fn is_complete_reply(status: Completeness) -> Output
         ensures { result ≡ IsCompleteReply status }
     {
-        Output::IsCompleteReply(status)
+        Self::IsCompleteReply(status)
     }
 
     /// `complete_reply` without completions.
     pub fn complete_reply(cursor_pos: Whole) -> Output
         ensures { result ≡ CompleteReply cursor_pos }
     {
-        Output::CompleteReply { cursor_pos }
+        Self::CompleteReply { cursor_pos }
     }
 
     /// `inspect_reply` where nothing was found.
     pub fn inspect_reply() -> Output
         ensures { result ≡ InspectReply }
     {
-        Output::InspectReply
+        Self::InspectReply
     }
 
     /// `history_reply` without a history.
     pub fn history_reply() -> Output
         ensures { result ≡ HistoryReply }
     {
-        Output::HistoryReply
+        Self::HistoryReply
     }
 
     /// `comm_info_reply` without comms.
     pub fn comm_info_reply() -> Output
         ensures { result ≡ CommInfoReply }
     {
-        Output::CommInfoReply
+        Self::CommInfoReply
     }
 
     /// `interrupt_reply`.
     pub fn interrupt_reply() -> Output
         ensures { result ≡ InterruptReply }
     {
-        Output::InterruptReply
+        Self::InterruptReply
     }
 
     /// `shutdown_reply`.
     pub fn shutdown_reply(restart: bool) -> Output
         ensures { result ≡ ShutdownReply restart }
     {
-        Output::ShutdownReply { restart }
+        Self::ShutdownReply { restart }
     }
 
     /// The type of the message that tells it.

@@ -5,6 +5,8 @@
 mod boxed;
 mod fault;
 mod items;
+#[cfg(test)]
+mod tests;
 mod text;
 
 pub use boxed::Boxed;

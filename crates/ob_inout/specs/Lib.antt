@@ -1,1 +1,4 @@
 pub mod Writing
+pub mod Reading
+pub mod Runs
+pub mod Buffer

@@ -1,4 +1,4 @@
-ghost use Rattle.std.specs.Prelude.{◌≡◌, ℕ, ◌+◌, ◌≤◌, ◌++◌, length, replicate, string_bytes, IsOk, OnErr, OnOk};
+ghost use Rattle.std.specs.Prelude.{◌≡◌, ◌+◌, ◌≤◌, ◌++◌, length, replicate, string_bytes, IsOk, OnErr, OnOk};
 ghost use Rattle.std.specs.String.{string_capacity, string_len};
 ghost use Rattle.ob_inout.specs.Writing as spec;
 
@@ -23,14 +23,14 @@ pub fn put_int(output: &mut String, value: i32, width: i32) -> Result<(), AllocE
     output.push_str(number)
 }
 
-/// Writes the character of the number `ch` (of CHAR, 0 to 255), as `Out.Char`: two bytes from 128 on.
+/// Writes the character of that number (a CHAR, 0 to 255), as `Out.Char`: two bytes from 128 on.
 /// After want of memory the output is unchanged.
 #[tactic(auto, unfolding(crate::specs::Writing::char_text))]
-pub fn put_char(output: &mut String, ch: u8) -> Result<(), AllocError>
-    ensures ok { OnOk result (string_bytes output.new ≡ string_bytes output.old ++ spec.char_text ch) }
+pub fn put_char(output: &mut String, character: u8) -> Result<(), AllocError>
+    ensures ok { OnOk result (string_bytes output.new ≡ string_bytes output.old ++ spec.char_text character) }
     ensures err { OnErr result (string_bytes output.new ≡ string_bytes output.old) }
 {
-    output.push(char::from(ch))
+    output.push(char::from(character))
 }
 
 /// Writes the characters (of CHAR) before the first 0X, or all of them where there is none, as `Out.String`.
@@ -64,11 +64,11 @@ fn string_size(characters: &[u8]) -> usize
     ensures { result ≡ length (spec.string_text characters.now) }
 {
     let mut size = 0;
-    for &ch in characters {
-        if ch == 0 {
+    for &c in characters {
+        if c == 0 {
             break;
         }
-        size += char::from(ch).len_utf8();
+        size += char::from(c).len_utf8();
     }
     size
 }

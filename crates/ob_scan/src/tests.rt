@@ -1,5 +1,5 @@
 use crate::scanner::scan;
-use crate::token::{Kind, Token};
+use crate::token::{Kind, Symbol, Token, same_symbol};
 use ob_base::{Code, Refused};
 use std::alloc::{AllocError, Global};
 use std::test::Fail;
@@ -57,6 +57,15 @@ fn last_span(alloc: Global, text: &str) -> Result<[usize; 4], AllocError> {
         },
         Err(Refused::Memory) => Err(AllocError),
         Err(Refused::Fault(fault)) => Ok([0, 0, fault.line, fault.column]),
+    }
+}
+
+// Whether more text could mend the fault.
+fn is_at_end(alloc: Global, text: &str) -> Result<bool, AllocError> {
+    match scan(alloc, text) {
+        Ok(_) => Ok(false),
+        Err(Refused::Memory) => Err(AllocError),
+        Err(Refused::Fault(fault)) => Ok(fault.at_end),
     }
 }
 
@@ -125,5 +134,31 @@ fn places(rt: HostRuntime) -> Result<(), Fail> {
         [16, 18, 2, 11]
     );
     assert_eq!(rt; last_span(rt.alloc(), "a\n b 12E")?, [0, 0, 2, 4]);
+    Ok(())
+}
+
+#[test]
+fn places_of_faults(rt: HostRuntime) -> Result<(), Fail> {
+    assert_eq!(rt; last_span(rt.alloc(), "a\n (* b (* c *)")?, [0, 0, 2, 2]);
+    assert_eq!(rt; last_span(rt.alloc(), "a \"b")?, [0, 0, 1, 3]);
+    assert_eq!(rt; last_span(rt.alloc(), "a  !")?, [0, 0, 1, 4]);
+    assert!(rt; is_at_end(rt.alloc(), "a (* b")?);
+    assert!(rt; !is_at_end(rt.alloc(), "a \"b")?);
+    Ok(())
+}
+
+#[test]
+fn names_have_at_most_64_characters(rt: HostRuntime) -> Result<(), Fail> {
+    let longest = "a23456789012345678901234567890123456789012345678901234567890abcd";
+    assert_eq!(rt; last_span(rt.alloc(), longest)?, [0, 64, 1, 1]);
+    let longer = "a23456789012345678901234567890123456789012345678901234567890abcde";
+    assert_eq!(rt; shown(rt.alloc(), longer)?.as_slice(), b"4".as_slice());
+    Ok(())
+}
+
+#[test]
+fn symbols_are_compared(rt: HostRuntime) -> Result<(), Fail> {
+    assert!(rt; same_symbol(Symbol::If, Symbol::If));
+    assert!(rt; !same_symbol(Symbol::If, Symbol::In));
     Ok(())
 }

@@ -1,0 +1,5 @@
+pub mod Rule
+pub mod Block
+pub mod Typing
+pub mod Statements
+pub mod Modules

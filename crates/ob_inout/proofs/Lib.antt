@@ -1,0 +1,5 @@
+pub mod Again
+mod DigitRuns
+mod DigitValues
+mod Lines
+mod Strings

@@ -1,0 +1,17 @@
+pub mod Phrase
+pub mod Name
+pub mod Expression
+pub mod Statement
+pub mod Structure
+pub mod Declaration
+pub mod Grammar
+pub mod Reading
+pub mod NameReading
+pub mod ExpressionReading
+pub mod StatementReading
+pub mod StructureReading
+pub mod DeclarationReading
+pub mod GrammarReading
+pub mod CellText
+pub mod TreeOf
+pub mod FirstToken

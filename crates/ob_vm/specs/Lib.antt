@@ -1,0 +1,4 @@
+pub mod Stacks
+pub mod Steps
+pub mod States
+pub mod Operands

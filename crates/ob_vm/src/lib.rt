@@ -1,0 +1,13 @@
+//! The machine: it runs stack code in slices of turns.
+#![tactic(auto)]
+
+mod image;
+mod machine;
+mod operands;
+mod run;
+mod state;
+mod step;
+
+pub use image::Image;
+pub use machine::{Machine, Room};
+pub use run::Turned;
