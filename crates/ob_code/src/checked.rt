@@ -2,6 +2,7 @@
 
 ghost use Rattle.std.specs.Prelude.{◌≡◌, ℕ, ◌<◌, length, IsTrue, IfSome, Option, Some, slice_get, slice_index};
 ghost use Rattle.ob_code.specs.Valid.{IsValid, Fits, LinesFit, height_at};
+ghost use Rattle.ob_code.specs.Stuck.{IsNeverStuck};
 ghost use Rattle.ob_code.specs.declared.instr.Line.{Line};
 
 use crate::instr::{CodeModule, Instr, Line, Procedure};
@@ -33,19 +34,24 @@ impl Checked {
         Checked { code }
     }
 
-    /// The code itself.
+    /// The code itself. No run of it leaves it, misses an operand or goes on for ever without a turn.
+    #[tactic(auto, using(crate::proofs::Never::never_stuck))]
     pub fn code(&self) -> &CodeModule
         ensures value { result.now ≡ self.now }
         ensures valid { IsValid result.now }
+        ensures runs { IsNeverStuck result.now.procedures.items }
     {
         &self.code
     }
 }
 
-/// Tests code that somebody made.
+/// Tests code that somebody made. What is answered is that code; no run of it leaves it, misses an operand or goes on for
+/// ever without a turn.
+#[tactic(auto, using(crate::proofs::Never::never_stuck))]
 pub fn validate(code: CodeModule) -> Option<Checked>
     ensures value { IfSome result (λ c. c ≡ code) }
     ensures valid { IfSome result (λ _. IsValid code) }
+    ensures runs { IfSome result (λ _. IsNeverStuck code.procedures.items) }
 {
     if are_valid(&code) {
         Some(Checked::new(code))

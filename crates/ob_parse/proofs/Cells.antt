@@ -1,5 +1,5 @@
 -- What is read as a cell is one, and what is one is read.
-use Rattle.std.proofs.Common.{◌≡◌, ◌↔◌, ℕ, ◌<◌, ◌≤◌, Bool, true, false, cond, List, [], ◌∷◌, length, Option, Some, None, Result, Ok, Err, refl, sym, ap, subst, ◌∙◌, arith}
+use Rattle.std.proofs.Common.{◌≡◌, ◌<◌, ◌≤◌, Bool, true, false, cond, List, [], ◌∷◌, length, Option, Some, None, Result, Ok, Err, refl, sym, ap, subst, ◌∙◌, arith}
 use Rattle.std.specs.Prelude.{IfOk}
 use Rattle.ob_base.specs.declared.fault.Code.{Code}
 use Rattle.ob_base.specs.declared.fault.Refused.{Refused}
@@ -27,12 +27,12 @@ use Rattle.ob_parse.specs.Reading.{Reader, Reads, Outcome, eat, many, if_ident, 
 use Rattle.ob_parse.specs.GrammarReading as r
 use Rattle.ob_parse.specs.GrammarReading.{is_semicolon, at_semicolon, behind_semicolons}
 use Rattle.ob_parse.proofs.Exact.{Exact, Anything, OrAbsent, IsAbsent, answer, answers, same_answer, Seq, Is, Either, exact_seq, exact_pure, exact_as, exact_maybe_as, exact_where, exact_either, exact_where_some, absent_where, before_pure}
-use Rattle.ob_parse.proofs.OneToken.{exact_expect, exact_eat, exact_ident, Starts, starts_by, absent_start, other_symbol, made, Closes, closes_by, absent_closing}
+use Rattle.ob_parse.proofs.OneToken.{exact_expect, exact_eat, exact_ident, starts_by, absent_start, other_symbol, made, Closes, closes_by, absent_closing}
 use Rattle.ob_parse.proofs.Separated.{exact_separated}
 use Rattle.ob_parse.proofs.Optional.{exact_optional, optional_begins}
 use Rattle.ob_parse.proofs.Entries.{exact_entries, entries_follow, ident_at}
 use Rattle.ob_parse.proofs.Sections.{Later, later_at, later_by, absent_later}
-use Rattle.ob_parse.proofs.Declarations.{exact_body, Again, exact_name}
+use Rattle.ob_parse.proofs.Declarations.{exact_body, exact_name}
 use Rattle.ob_parse.proofs.Procedures.{exact_declarations, declarations_begin}
 
 -- ---- imports

@@ -1,5 +1,5 @@
 -- Each reader of a declaration is exact for its production.
-use Rattle.std.proofs.Common.{◌≡◌, ℕ, zero, suc, ◌<◌, ◌≤◌, Bool, true, false, cond, List, [], ◌∷◌, length, Option, Some, None, Ok, Err, refl, sym, ap, subst, ◌∙◌, arith}
+use Rattle.std.proofs.Common.{◌≡◌, ℕ, zero, suc, ◌<◌, Bool, true, false, cond, List, [], ◌∷◌, length, Option, Some, None, Err, refl, sym, ap, subst, ◌∙◌, arith}
 use Rattle.std.specs.Str.{bytes_eq}
 use Rattle.std.proofs.lemmas.Slice.Eq.{bytes_eq-Decides}
 use Rattle.ob_base.specs.declared.fault.Code.TheVariants as codes
@@ -11,7 +11,6 @@ use Rattle.ob_scan.specs.declared.token.Token.{Token}
 use Rattle.ob_scan.specs.Symbols.{same_symbol}
 use Rattle.ob_parse.specs.declared.tree.Ident.{Ident}
 use Rattle.ob_parse.specs.declared.tree.Qualident.{Qualident}
-use Rattle.ob_parse.specs.declared.tree.Statement.{Statement}
 use Rattle.ob_parse.specs.declared.tree.FormalType.{FormalType, out-FormalType, roll-FormalType, out-roll-FormalType, roll-out-FormalType}
 use Rattle.ob_parse.specs.declared.tree.FormalType.TheOpen.{FormalType-F}
 use Rattle.ob_parse.specs.declared.tree.FormalSection.{FormalSection}
@@ -35,7 +34,7 @@ use Rattle.ob_parse.specs.NameReading as names
 use Rattle.ob_parse.specs.ExpressionReading as exr
 use Rattle.ob_parse.specs.StatementReading as statement
 use Rattle.ob_parse.proofs.Exact.{Exact, Anything, OrAbsent, IsAbsent, answer, answers, Seq, Is, Made, Either, exact_seq, exact_pure, exact_as, exact_maybe_as, exact_where, exact_made, exact_either, exact_where_some, absent_where, before_made, before_pure, exact_refuse}
-use Rattle.ob_parse.proofs.OneToken.{exact_expect, exact_eat, exact_opens, Opens, Ends, ends_by, Starts, absent_start, other_symbol, Closes, closes_at, closes_by, closes_ends, absent_closing}
+use Rattle.ob_parse.proofs.OneToken.{exact_expect, exact_eat, exact_opens, Opens, Ends, ends_by, Starts, absent_start, other_symbol, Closes, closes_at, closes_ends, absent_closing}
 use Rattle.ob_parse.proofs.Separated.{exact_separated}
 use Rattle.ob_parse.proofs.Optional.{exact_optional, closed_list, exact_closed}
 use Rattle.ob_parse.proofs.Entries.{exact_entries}

@@ -1,5 +1,5 @@
 -- Each reader of a part of an expression is exact for its production.
-use Rattle.std.proofs.Common.{◌≡◌, ℕ, zero, suc, ◌<◌, ◌≤◌, true, false, List, [], ◌∷◌, length, Option, Some, None, Ok, Err, refl, sym, ap, subst, ◌∙◌, arith}
+use Rattle.std.proofs.Common.{◌≡◌, ℕ, zero, suc, ◌<◌, ◌≤◌, true, false, List, [], ◌∷◌, length, Option, Some, None, refl, sym, ap, subst, ◌∙◌, arith}
 use Rattle.ob_base.specs.declared.fault.Code.TheVariants as codes
 use Rattle.ob_scan.specs.declared.token.Kind.{Kind}
 use Rattle.ob_scan.specs.declared.token.Kind.TheVariants as kinds
@@ -22,11 +22,10 @@ use Rattle.ob_parse.specs.Phrase as phrase
 use Rattle.ob_parse.specs.Phrase.{Phrase, ◌⨾◌, nothing, symbol_at, symbol, each, maybe, separated, listed, opens}
 use Rattle.ob_parse.specs.Expression as p
 use Rattle.ob_parse.specs.Expression.{FactorLayer, SelectorLayer, sign_symbol, add_symbol, mul_symbol, relation_symbol}
-use Rattle.ob_parse.specs.Reading as reading
-use Rattle.ob_parse.specs.Reading.{Reader, ◌>>=◌, pure, and_then, eat, expect, operator, where_some}
+use Rattle.ob_parse.specs.Reading.{Reader, ◌>>=◌, pure, eat, operator}
 use Rattle.ob_parse.specs.ExpressionReading as r
 use Rattle.ob_parse.specs.ExpressionReading.{sign_of, add_of, mul_of, relation_of}
-use Rattle.ob_parse.proofs.Exact.{Exact, Follow, Anything, OrAbsent, IsAbsent, Repeats, answer, same_answer, Seq, Is, Made, Either, exact_seq, exact_pure, exact_as, exact_maybe_as, exact_where, exact_many, each_follows, exact_made, exact_either, exact_or_absent, exact_where_some, absent_where, before_made, before_pure, exact_refuse, Never, MadeSome, exact_made_some}
+use Rattle.ob_parse.proofs.Exact.{Exact, Follow, Anything, OrAbsent, IsAbsent, Repeats, answer, same_answer, Seq, Is, Made, Either, exact_seq, exact_pure, exact_as, exact_maybe_as, exact_many, each_follows, exact_made, exact_either, exact_or_absent, exact_where_some, absent_where, before_made, before_pure, exact_refuse, MadeSome, exact_made_some}
 use Rattle.ob_parse.proofs.OneToken.{exact_expect, exact_eat, exact_ident, exact_operator, exact_opens, Opens, Ends, ends_at, ends_by, absent_eat, absent_operator, Starts, starts_by, absent_start, absent_operator_start, other_symbol}
 use Rattle.ob_parse.proofs.Operators.{signs, relations, adds, muls, sign_starts, relation_ends, add_ends, mul_ends, add_binding, mul_binding, relation_binding, sign_starts_expr}
 

@@ -1,11 +1,11 @@
 -- An expression begins with the token that its tree names.
-use Rattle.std.proofs.Common.{◌≡◌, ℕ, zero, suc, true, false, List, [], ◌∷◌, Option, Some, None, refl, sym, subst}
+use Rattle.std.proofs.Common.{◌≡◌, ℕ, true, false, List, ◌∷◌, Option, Some, None, refl, sym, subst}
 use Rattle.ob_scan.specs.declared.token.Kind.{Kind}
 use Rattle.ob_scan.specs.declared.token.Span.{Span}
 use Rattle.ob_scan.specs.declared.token.Token.{Token}
 use Rattle.ob_parse.specs.declared.tree.Sign.{Sign}
 use Rattle.ob_parse.specs.declared.tree.Expr.{Expr, out-Expr}
-use Rattle.ob_parse.specs.declared.tree.Simple.{Simple, out-Simple}
+use Rattle.ob_parse.specs.declared.tree.Simple.{out-Simple}
 use Rattle.ob_parse.specs.declared.tree.Term.{Term, out-Term}
 use Rattle.ob_parse.specs.declared.tree.Factor.{Factor, out-Factor}
 use Rattle.ob_parse.specs.declared.tree.Designator.{Designator, out-Designator}

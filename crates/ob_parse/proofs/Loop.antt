@@ -1,11 +1,11 @@
 -- A loop that reads one more item in each turn, beside `many`.
-use Rattle.std.proofs.Common.{◌≡◌, ℕ, zero, suc, ◌+◌, ◌<◌, ◌≤◌, List, [], ◌∷◌, ◌++◌, length, Option, Some, None, Result, Ok, Err, refl, sym, ap, subst, ◌∙◌, append_assoc, arith}
+use Rattle.std.proofs.Common.{◌≡◌, ℕ, zero, suc, ◌<◌, List, [], ◌∷◌, ◌++◌, length, Option, Some, None, Ok, Err, refl, sym, ap, subst, ◌∙◌, append_assoc, arith}
 use Rattle.std.proofs.lemmas.List.{append-nil}
 use Rattle.ob_base.specs.declared.fault.Code.{Code}
 use Rattle.ob_base.specs.declared.fault.Refused.{Refused}
 use Rattle.ob_base.specs.declared.fault.Refused.TheVariants as refused
 use Rattle.ob_scan.specs.declared.token.Token.{Token}
-use Rattle.ob_parse.specs.Reading.{Outcome, Reader, Reads, and_then, pure, with_first, goes_on, many_after, many_from, many}
+use Rattle.ob_parse.specs.Reading.{Outcome, Reader, Reads, and_then, pure, with_first, many_after, many_from, many}
 
 -- what was read before, and what is still read
 abbrev pub with_front : {A : Type 0} → List A → Outcome (List A) → Outcome (List A)

@@ -1,5 +1,5 @@
 -- Each reader of a name or a label is exact for its production.
-use Rattle.std.proofs.Common.{◌≡◌, ℕ, ◌<◌, ◌≤◌, true, false, List, [], ◌∷◌, length, Option, Some, None, Ok, Err, refl, sym, ap, subst, ◌∙◌, arith}
+use Rattle.std.proofs.Common.{◌≡◌, ◌≤◌, true, List, [], ◌∷◌, length, Option, Some, None, refl, sym, ap, subst, ◌∙◌, arith}
 use Rattle.ob_scan.specs.declared.token.Kind.{Kind}
 use Rattle.ob_scan.specs.declared.token.Kind.TheVariants as kinds
 use Rattle.ob_scan.specs.declared.token.Span.{Span}
@@ -18,7 +18,7 @@ use Rattle.ob_parse.specs.Name as p
 use Rattle.ob_parse.specs.Reading as reading
 use Rattle.ob_parse.specs.Reading.{Reader, eat, at_ident, and_then, pure, where_some}
 use Rattle.ob_parse.specs.NameReading as r
-use Rattle.ob_parse.proofs.Exact.{Exact, Anything, OrAbsent, IsAbsent, answer, answers, same_answer, Seq, Is, exact_seq, exact_pure, exact_as, exact_maybe_as, exact_where_some, absent_where, before_pure, and_then_ok, exact_or_absent, exact_where}
+use Rattle.ob_parse.proofs.Exact.{Exact, Anything, OrAbsent, IsAbsent, answer, answers, same_answer, exact_seq, exact_pure, exact_as, exact_maybe_as, exact_where_some, absent_where, before_pure, and_then_ok}
 use Rattle.ob_parse.proofs.OneToken.{exact_eat, exact_ident, Ends, ends_at, ends_by, absent_eat, other_symbol, Starts, starts_by, made}
 use Rattle.ob_parse.proofs.Entries.{ident_at}
 use Rattle.ob_parse.proofs.Separated.{exact_separated}

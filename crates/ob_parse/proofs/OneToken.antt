@@ -1,5 +1,5 @@
 -- Readers of one token, and which tokens go on with what stands before them.
-use Rattle.std.proofs.Common.{◌≡◌, ℕ, zero, suc, ◌<◌, ◌≤◌, Bool, true, false, cond, List, [], ◌∷◌, length, Option, Some, None, Ok, Err, refl, sym, ap, subst, ◌∙◌, arith}
+use Rattle.std.proofs.Common.{◌≡◌, ℕ, zero, suc, ◌<◌, ◌≤◌, Bool, true, false, cond, List, [], ◌∷◌, length, Option, Some, None, Err, refl, sym, ap, subst, ◌∙◌, arith}
 use Rattle.ob_base.specs.declared.fault.Code.TheVariants as codes
 use Rattle.ob_scan.specs.declared.token.Kind.{Kind}
 use Rattle.ob_scan.specs.declared.token.Kind.TheVariants as kinds
@@ -14,7 +14,7 @@ use Rattle.ob_parse.specs.Phrase as phrase
 use Rattle.ob_parse.specs.Phrase.{Phrase, symbol_at, maybe}
 use Rattle.ob_parse.specs.Reading as reading
 use Rattle.ob_parse.specs.Reading.{Outcome, eat, expect, is_symbol, operator, operator_by, ident_by}
-use Rattle.ob_parse.proofs.Exact.{Exact, Follow, Anything, OrAbsent, IsAbsent, answer, answers, same_answer}
+use Rattle.ob_parse.proofs.Exact.{Exact, Anything, OrAbsent, IsAbsent, answer, answers, same_answer}
 
 -- ---- a symbol
 

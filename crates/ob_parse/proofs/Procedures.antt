@@ -1,7 +1,6 @@
 -- Each reader of declarations and procedures is exact for its production.
-use Rattle.std.proofs.Common.{◌≡◌, ℕ, zero, suc, ◌<◌, ◌≤◌, List, [], ◌∷◌, length, Option, Some, None, Ok, Err, refl, sym, ap, subst, ◌∙◌, arith}
+use Rattle.std.proofs.Common.{◌≡◌, ℕ, zero, suc, List, length, Option, Some, None, Ok, refl, sym, ap, subst, arith}
 use Rattle.ob_base.specs.declared.fault.Code.TheVariants as codes
-use Rattle.ob_scan.specs.declared.token.Span.{Span}
 use Rattle.ob_scan.specs.declared.token.Symbol.TheVariants as s
 use Rattle.ob_scan.specs.declared.token.Token.{Token}
 use Rattle.ob_parse.specs.declared.tree.Declarations.{Declarations, out-Declarations, roll-Declarations, out-roll-Declarations, roll-out-Declarations}
@@ -11,15 +10,15 @@ use Rattle.ob_parse.specs.Phrase.{Phrase, ◌⨾◌, symbol_at, symbol, each, ma
 use Rattle.ob_parse.specs.Name.{ident_def}
 use Rattle.ob_parse.specs.Statement.{statements}
 use Rattle.ob_parse.specs.Declaration as p
-use Rattle.ob_parse.specs.Reading.{Reader, eat, many}
+use Rattle.ob_parse.specs.Reading.{Reader, eat}
 use Rattle.ob_parse.specs.DeclarationReading as r
-use Rattle.ob_parse.proofs.Exact.{Exact, Anything, OrAbsent, IsAbsent, Repeats, Seq, Is, Made, exact_seq, exact_pure, exact_as, exact_maybe_as, exact_many, each_follows, exact_made, exact_where_some, absent_where, before_made, exact_refuse}
+use Rattle.ob_parse.proofs.Exact.{Exact, Anything, OrAbsent, IsAbsent, Repeats, exact_seq, exact_pure, exact_as, exact_maybe_as, exact_many, each_follows, exact_made, exact_where_some, absent_where, before_made, exact_refuse}
 use Rattle.ob_parse.proofs.OneToken.{exact_expect, exact_eat, exact_opens, closes_by}
 use Rattle.ob_parse.proofs.Optional.{optional_begins}
 use Rattle.ob_parse.proofs.Sections.{Later, later_at, later_by, absent_later}
 use Rattle.ob_parse.proofs.Expressions.{pred_of, some_levels}
 use Rattle.ob_parse.proofs.Names.{exact_ident_def}
-use Rattle.ob_parse.proofs.Declarations.{exact_formals, formals_follow, heading_follows, exact_constants, exact_types, exact_vars, exact_body, exact_returned, returned_follows, body_follows, Again, exact_name}
+use Rattle.ob_parse.proofs.Declarations.{exact_formals, formals_follow, heading_follows, exact_constants, exact_types, exact_vars, exact_body, exact_returned, returned_follows, body_follows, exact_name}
 
 abbrev DeclarationsLayer : Type 0
 DeclarationsLayer = Declarations-F Declarations Procedure

@@ -1,5 +1,5 @@
 -- Each reader of a part of a statement is exact for its production.
-use Rattle.std.proofs.Common.{◌≡◌, ◌⊎◌, ℕ, zero, suc, ◌<◌, ◌≤◌, Bool, true, false, cond, List, [], ◌∷◌, length, Option, Some, None, Ok, Err, refl, sym, ap, subst, ◌∙◌, arith}
+use Rattle.std.proofs.Common.{◌≡◌, ℕ, zero, suc, ◌≤◌, Bool, true, false, cond, List, [], ◌∷◌, length, Option, Some, None, refl, sym, ap, subst, ◌∙◌, arith}
 use Rattle.ob_base.specs.declared.fault.Code.TheVariants as codes
 use Rattle.ob_scan.specs.declared.token.Kind.{Kind}
 use Rattle.ob_scan.specs.declared.token.Kind.TheVariants as kinds
@@ -16,8 +16,7 @@ use Rattle.ob_parse.specs.declared.tree.Case.{Case, out-Case, roll-Case, out-rol
 use Rattle.ob_parse.specs.declared.tree.ForHead.{ForHead}
 use Rattle.ob_parse.specs.declared.tree.LabelRange.{LabelRange}
 use Rattle.ob_parse.specs.declared.tree.Statement.TheOpen.{Statement-F, Branch-F, Case-F}
-use Rattle.ob_parse.specs.Phrase as phrase
-use Rattle.ob_parse.specs.Phrase.{Phrase, ◌⨾◌, nothing, symbol_at, symbol, each, maybe, separated, optional}
+use Rattle.ob_parse.specs.Phrase.{Phrase, ◌⨾◌, symbol_at, symbol, each, maybe, separated, optional}
 use Rattle.ob_parse.specs.Name.{label_range}
 use Rattle.ob_parse.specs.Expression as ex
 use Rattle.ob_parse.specs.Statement as p
@@ -27,8 +26,8 @@ use Rattle.ob_parse.specs.Reading.{Outcome, Reader, eat}
 use Rattle.ob_parse.specs.StatementReading as r
 use Rattle.ob_parse.specs.ExpressionReading as exr
 use Rattle.ob_parse.specs.StatementReading.{at_case_end, ends_case}
-use Rattle.ob_parse.proofs.Exact.{Exact, exact_where, Follow, Anything, OrAbsent, IsAbsent, Repeats, answer, answers, same_answer, Seq, Made, Either, exact_seq, exact_as, exact_maybe_as, exact_many, Is, each_follows, exact_made, exact_pure, exact_either, exact_where_some, absent_where, before_made, before_pure, exact_refuse}
-use Rattle.ob_parse.proofs.OneToken.{exact_expect, exact_eat, exact_ident, Starts, start_of, Ends, ends_at, ends_by, absent_eat, other_symbol, Closes, closes_at, closes_by, closes_ends, closing, closing_at, binding_of, absent_closing}
+use Rattle.ob_parse.proofs.Exact.{Exact, exact_where, Anything, OrAbsent, IsAbsent, Repeats, answer, same_answer, Seq, Made, Either, exact_seq, exact_as, exact_maybe_as, exact_many, each_follows, exact_made, exact_pure, exact_either, exact_where_some, absent_where, before_made, before_pure, exact_refuse}
+use Rattle.ob_parse.proofs.OneToken.{exact_expect, exact_eat, exact_ident, Starts, start_of, Ends, ends_by, other_symbol, Closes, closes_at, closes_by, closes_ends, closing, binding_of, absent_closing}
 use Rattle.ob_parse.proofs.Separated.{exact_separated}
 use Rattle.ob_parse.proofs.Optional.{exact_optional, optional_begins}
 use Rattle.ob_parse.proofs.Names.{exact_label_ranges, ranges_at_colon, ranges_start}

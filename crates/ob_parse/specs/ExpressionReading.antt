@@ -1,5 +1,5 @@
 -- Reading expressions.
-use Rattle.std.specs.Prelude.{◌≡◌, ℕ, zero, suc, List, [], ◌∷◌, true, false, Option, Some, None, Ok, Err}
+use Rattle.std.specs.Prelude.{ℕ, zero, suc, List, [], ◌∷◌, true, false, Option, Some, None, Err}
 use Rattle.ob_base.specs.declared.fault.Code.TheVariants as codes
 use Rattle.ob_scan.specs.declared.token.Kind.{Kind}
 use Rattle.ob_scan.specs.declared.token.Kind.TheVariants as kinds
@@ -24,7 +24,6 @@ use Rattle.ob_parse.specs.declared.tree.Factor.{Factor, roll-Factor}
 use Rattle.ob_parse.specs.declared.tree.Designator.{Designator, roll-Designator}
 use Rattle.ob_parse.specs.declared.tree.Selector.{Selector, roll-Selector}
 use Rattle.ob_parse.specs.declared.tree.Factor.TheOpen.{Factor-F, Selector-F}
-use Rattle.ob_parse.specs.Expression.{FactorLayer, SelectorLayer}
 use Rattle.ob_parse.specs.Reading.{Reader, ◌>>=◌, ◌>>◌, pure, refuse, eat, expect, ident, operator, opens, many, where_some, not_there}
 
 abbrev pub sign_of : Kind → Option Sign

@@ -6,7 +6,7 @@ use Rattle.ob_parse.specs.declared.tree.Sign.{Sign}
 use Rattle.ob_parse.specs.declared.tree.Expr.{Expr, out-Expr}
 use Rattle.ob_parse.specs.declared.tree.Simple.{Simple, out-Simple}
 use Rattle.ob_parse.specs.declared.tree.Term.{Term, out-Term}
-use Rattle.ob_parse.specs.declared.tree.Factor.{Factor, out-Factor}
+use Rattle.ob_parse.specs.declared.tree.Factor.{out-Factor}
 use Rattle.ob_parse.specs.declared.tree.Designator.{Designator, out-Designator}
 use Rattle.ob_parse.specs.declared.tree.Factor.TheOpen.{Factor-F}
 use Rattle.ob_parse.specs.Expression.{FactorLayer}

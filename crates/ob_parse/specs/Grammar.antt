@@ -1,6 +1,6 @@
 -- The grammar of cells, and which tree is that of a list of tokens: that of Wirth, The Programming Language Oberon
 -- (Oberon-07), with a list of commands as a second kind of cell.
-use Rattle.std.specs.Prelude.{◌≡◌, ℕ, List, [], ◌∷◌, Option, Result, Ok, Err}
+use Rattle.std.specs.Prelude.{◌≡◌, ℕ, List, [], Result, Ok, Err}
 use Rattle.ob_base.specs.declared.fault.Refused.{Refused}
 use Rattle.ob_base.specs.declared.fault.Refused.TheVariants as refused
 use Rattle.ob_scan.specs.declared.token.Span.{Span}

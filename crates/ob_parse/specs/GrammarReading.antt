@@ -1,5 +1,5 @@
 -- Reading cells.
-use Rattle.std.specs.Prelude.{ℕ, Bool, true, false, List, [], ◌∷◌, Option, Some, None, Ok, Err, if◌then◌else◌}
+use Rattle.std.specs.Prelude.{Bool, true, false, List, [], ◌∷◌, Option, Ok, Err, if◌then◌else◌}
 use Rattle.ob_base.specs.declared.fault.Code.TheVariants as codes
 use Rattle.ob_scan.specs.declared.token.Kind.{Kind}
 use Rattle.ob_scan.specs.declared.token.Kind.TheVariants as kinds
@@ -11,7 +11,7 @@ use Rattle.ob_parse.specs.declared.tree.Module.{Module}
 use Rattle.ob_parse.specs.declared.tree.Command.{Command}
 use Rattle.ob_parse.specs.declared.tree.Cell.{Cell}
 use Rattle.ob_parse.specs.declared.tree.Cell.TheVariants as cells
-use Rattle.ob_parse.specs.Reading.{Outcome, Reader, ◌>>=◌, ◌>>◌, pure, refuse, eat, expect, ident, many, where_some, not_there, separated, optional, if_ident}
+use Rattle.ob_parse.specs.Reading.{Reader, ◌>>=◌, ◌>>◌, pure, eat, expect, ident, many, where_some, not_there, separated, optional, if_ident}
 use Rattle.ob_parse.specs.StatementReading.{statements}
 use Rattle.ob_parse.specs.DeclarationReading.{declarations, name_again}
 use Rattle.ob_parse.specs.Grammar.{max_nesting}

@@ -1,5 +1,5 @@
 -- Reading names and labels.
-use Rattle.std.specs.Prelude.{ℕ, List, [], ◌∷◌, Option, Some, None, Ok, Err}
+use Rattle.std.specs.Prelude.{List, [], ◌∷◌, Option, Err}
 use Rattle.ob_base.specs.declared.fault.Code.TheVariants as codes
 use Rattle.ob_scan.specs.declared.token.Kind.{Kind}
 use Rattle.ob_scan.specs.declared.token.Kind.TheVariants as kinds
@@ -12,7 +12,7 @@ use Rattle.ob_parse.specs.declared.tree.Qualident.{Qualident}
 use Rattle.ob_parse.specs.declared.tree.Label.{Label}
 use Rattle.ob_parse.specs.declared.tree.Label.TheVariants as labels
 use Rattle.ob_parse.specs.declared.tree.LabelRange.{LabelRange}
-use Rattle.ob_parse.specs.Reading.{Reader, and_then, ◌>>=◌, ◌>>◌, pure, refuse, eat, ident, where_some, separated}
+use Rattle.ob_parse.specs.Reading.{Reader, and_then, ◌>>=◌, pure, refuse, eat, ident, where_some}
 
 unfoldable pub ident_def : Reader IdentDef
 ident_def = do

@@ -1,8 +1,7 @@
 -- The grammar of statements. The number says how many more constructs may nest in one.
-use Rattle.std.specs.Prelude.{◌≡◌, ℕ, zero, suc, List, [], ◌∷◌, Option, Some, None}
+use Rattle.std.specs.Prelude.{◌≡◌, ℕ, zero, suc, List, [], ◌∷◌, Some, None}
 use Rattle.ob_scan.specs.declared.token.Symbol.{Symbol}
 use Rattle.ob_scan.specs.declared.token.Symbol.TheVariants as s
-use Rattle.ob_scan.specs.declared.token.Token.{Token}
 use Rattle.ob_parse.specs.declared.tree.Expr.{Expr}
 use Rattle.ob_parse.specs.declared.tree.Designator.{Designator}
 use Rattle.ob_parse.specs.declared.tree.Statement.{Statement, out-Statement}

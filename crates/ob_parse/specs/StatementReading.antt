@@ -1,5 +1,5 @@
 -- Reading statements.
-use Rattle.std.specs.Prelude.{◌≡◌, ℕ, zero, suc, Bool, true, false, List, [], ◌∷◌, Option, Some, None, Ok, if◌then◌else◌}
+use Rattle.std.specs.Prelude.{ℕ, zero, suc, Bool, true, false, List, [], ◌∷◌, Option, Some, None, Ok, if◌then◌else◌}
 use Rattle.ob_base.specs.declared.fault.Code.TheVariants as codes
 use Rattle.ob_scan.specs.declared.token.Kind.{Kind}
 use Rattle.ob_scan.specs.declared.token.Span.{Span}

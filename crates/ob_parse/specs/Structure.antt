@@ -1,5 +1,5 @@
 -- The grammar of types. The number says how many more constructs may nest in one.
-use Rattle.std.specs.Prelude.{◌≡◌, ℕ, zero, suc, List}
+use Rattle.std.specs.Prelude.{ℕ, zero, suc}
 use Rattle.ob_scan.specs.declared.token.Symbol.TheVariants as s
 use Rattle.ob_parse.specs.declared.tree.TypeExpr.{TypeExpr, out-TypeExpr}
 use Rattle.ob_parse.specs.declared.tree.TypedNames.{TypedNames, out-TypedNames}

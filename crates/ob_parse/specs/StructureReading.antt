@@ -1,5 +1,5 @@
 -- Reading types.
-use Rattle.std.specs.Prelude.{ℕ, zero, suc, List, [], ◌∷◌, Ok, Err}
+use Rattle.std.specs.Prelude.{ℕ, zero, suc, List, [], ◌∷◌, Err}
 use Rattle.ob_base.specs.declared.fault.Code.TheVariants as codes
 use Rattle.ob_scan.specs.declared.token.Kind.{Kind}
 use Rattle.ob_scan.specs.declared.token.Kind.TheVariants as kinds
@@ -9,7 +9,7 @@ use Rattle.ob_scan.specs.declared.token.Token.{Token}
 use Rattle.ob_parse.specs.declared.tree.TypeExpr.{TypeExpr, roll-TypeExpr}
 use Rattle.ob_parse.specs.declared.tree.TypedNames.{TypedNames, roll-TypedNames}
 use Rattle.ob_parse.specs.declared.tree.TypeExpr.TheOpen.{TypeExpr-F}
-use Rattle.ob_parse.specs.Reading.{Reader, and_then, ◌>>=◌, ◌>>◌, pure, refuse, expect, opens, separated, closed_by}
+use Rattle.ob_parse.specs.Reading.{Reader, ◌>>=◌, ◌>>◌, pure, refuse, expect, opens, separated, closed_by}
 use Rattle.ob_parse.specs.NameReading.{ident_def, qualident}
 use Rattle.ob_parse.specs.ExpressionReading as expression
 

@@ -1,37 +1,50 @@
 use crate::parse_text;
 use crate::tree::{Cell, Module, Statement};
-use ob_base::{Fault, Refused};
+use ob_base::{Code, Refused};
 use std::alloc::{AllocError, Global};
 use std::test::Fail;
 
-fn summary_of_fault(fault: Fault) -> usize {
-    let code = fault.code as usize;
-    if fault.at_end { 1000 + code } else { code }
+#[derive(Clone, Copy, Debug, PartialEq, Eq)]
+enum Answer {
+    /// How many imports, entries of declarations and statements a module has.
+    Module(usize),
+    /// How many commands.
+    Commands(usize),
+    Fault(Code),
+    FaultAtEnd(Code),
 }
 
-fn summary_of_module(module: &Module) -> usize {
-    100 + module.imports.len()
-        + module.declarations.get().constants.len()
-        + module.declarations.get().types.len()
-        + module.declarations.get().variables.len()
-        + module.declarations.get().procedures.len()
-        + module.body.len()
+fn count(module: &Module) -> usize {
+    let declarations = module.declarations.get();
+    let entries = declarations
+        .constants
+        .len()
+        .saturating_add(declarations.types.len())
+        .saturating_add(declarations.variables.len())
+        .saturating_add(declarations.procedures.len());
+    entries
+        .saturating_add(module.imports.len())
+        .saturating_add(module.body.len())
 }
 
-fn summary_of_cell(cell: &Cell) -> usize {
+fn shape(cell: &Cell) -> Answer {
     match cell {
-        Cell::Module(module) => summary_of_module(module),
-        Cell::Commands(commands) => 200 + commands.len(),
+        Cell::Module(module) => Answer::Module(count(module)),
+        Cell::Commands(commands) => Answer::Commands(commands.len()),
     }
 }
 
-// 100 and the count of a module's parts, 200 and the count of commands, or the code of the fault (and 1000 at the end
-// of the text).
-fn summary(alloc: Global, text: &str) -> Result<usize, AllocError> {
+fn read(alloc: Global, text: &str) -> Result<Answer, AllocError> {
     match parse_text(alloc, text) {
-        Ok(cell) => Ok(summary_of_cell(&cell)),
+        Ok(cell) => Ok(shape(&cell)),
         Err(Refused::Memory) => Err(AllocError),
-        Err(Refused::Fault(fault)) => Ok(summary_of_fault(fault)),
+        Err(Refused::Fault(fault)) => {
+            Ok(if fault.at_end {
+                Answer::FaultAtEnd(fault.code)
+            } else {
+                Answer::Fault(fault.code)
+            })
+        }
     }
 }
 
@@ -60,20 +73,35 @@ fn nested(alloc: Global, depth: usize) -> Result<String, AllocError> {
 #[test]
 fn codes(rt: HostRuntime) -> Result<(), Fail> {
     let alloc = rt.alloc();
-    assert_eq!(rt; summary(alloc, "(* (* *)")?, 1002);
-    assert_eq!(rt; summary(alloc, "MODULE A; CONST s = \"a END A.")?, 3);
+    assert_eq!(rt; read(alloc, "(* (* *)")?, Answer::FaultAtEnd(Code::Comment));
     assert_eq!(rt;
-        summary(alloc, "MODULE A; CONST c = 2147483648; END A.")?,
-        4
+        read(alloc, "MODULE A; CONST s = \"a END A.")?,
+        Answer::Fault(Code::String)
     );
-    assert_eq!(rt; summary(alloc, "MODULE 1")?, 5);
-    assert_eq!(rt; summary(alloc, "MODULE A; BEGIN")?, 1005);
-    assert_eq!(rt; summary(alloc, "MODULE A; END B.")?, 7);
-    assert_eq!(rt; summary(alloc, "MODULE A; END B")?, 7);
-    assert_eq!(rt; summary(alloc, "MODULE A; END A. M.P")?, 5);
     assert_eq!(rt;
-        summary(alloc, "MODULE A; VAR r: RECORD (T) END; END A.")?,
-        5
+        read(alloc, "MODULE A; CONST c = 2147483648; END A.")?,
+        Answer::Fault(Code::Number)
+    );
+    assert_eq!(rt; read(alloc, "MODULE 1")?, Answer::Fault(Code::Token));
+    assert_eq!(rt;
+        read(alloc, "MODULE A; BEGIN")?,
+        Answer::FaultAtEnd(Code::Token)
+    );
+    assert_eq!(rt;
+        read(alloc, "MODULE A; END B.")?,
+        Answer::Fault(Code::EndName)
+    );
+    assert_eq!(rt;
+        read(alloc, "MODULE A; END B")?,
+        Answer::Fault(Code::EndName)
+    );
+    assert_eq!(rt;
+        read(alloc, "MODULE A; END A. M.P")?,
+        Answer::Fault(Code::Token)
+    );
+    assert_eq!(rt;
+        read(alloc, "MODULE A; VAR r: RECORD (T) END; END A.")?,
+        Answer::Fault(Code::Token)
     );
     assert_eq!(rt; place(alloc, "MODULE A; END B.")?, (1, 15));
     assert_eq!(rt; place(alloc, "MODULE A;\nBEGIN \n ")?, (3, 2));
@@ -83,9 +111,12 @@ fn codes(rt: HostRuntime) -> Result<(), Fail> {
 #[test]
 fn nesting(rt: HostRuntime) -> Result<(), Fail> {
     let most = nested(rt.alloc(), 200)?;
-    assert_eq!(rt; summary(rt.alloc(), most.as_str())?, 101);
+    assert_eq!(rt; read(rt.alloc(), most.as_str())?, Answer::Module(1));
     let more = nested(rt.alloc(), 201)?;
-    assert_eq!(rt; summary(rt.alloc(), more.as_str())?, 6);
+    assert_eq!(rt;
+        read(rt.alloc(), more.as_str())?,
+        Answer::Fault(Code::Nesting)
+    );
     assert_eq!(rt; place(rt.alloc(), more.as_str())?, (1, 221));
     Ok(())
 }
@@ -93,11 +124,11 @@ fn nesting(rt: HostRuntime) -> Result<(), Fail> {
 #[test]
 fn commands(rt: HostRuntime) -> Result<(), Fail> {
     let alloc = rt.alloc();
-    assert_eq!(rt; summary(alloc, "")?, 200);
-    assert_eq!(rt; summary(alloc, ";")?, 200);
-    assert_eq!(rt; summary(alloc, "M.P M.P")?, 202);
-    assert_eq!(rt; summary(alloc, ";; M.P; N.Q;;")?, 202);
-    assert_eq!(rt; summary(alloc, "M.P M")?, 1005);
+    assert_eq!(rt; read(alloc, "")?, Answer::Commands(0));
+    assert_eq!(rt; read(alloc, ";")?, Answer::Commands(0));
+    assert_eq!(rt; read(alloc, "M.P M.P")?, Answer::Commands(2));
+    assert_eq!(rt; read(alloc, ";; M.P; N.Q;;")?, Answer::Commands(2));
+    assert_eq!(rt; read(alloc, "M.P M")?, Answer::FaultAtEnd(Code::Token));
     Ok(())
 }
 
@@ -122,7 +153,7 @@ BEGIN
   Nothing
 END All.";
 
-fn seventh_has_cases(module: &Module) -> usize {
+fn case_count(module: &Module) -> usize {
     match module.body.as_slice() {
         [_, _, _, _, _, Statement::Case(_, _, cases), ..] => cases.len(),
         _ => 0,
@@ -132,11 +163,31 @@ fn seventh_has_cases(module: &Module) -> usize {
 #[test]
 fn all_productions(rt: HostRuntime) -> Result<(), Fail> {
     // 2 imports, 3 constants, 2 types, 2 lists of variables, 2 procedures, 7 statements.
-    assert_eq!(rt; summary(rt.alloc(), ALL)?, 118);
+    assert_eq!(rt; read(rt.alloc(), ALL)?, Answer::Module(18));
     let cell = parse_text(rt.alloc(), ALL);
     let Ok(Cell::Module(module)) = &cell else {
-        return Ok(());
+        return Err(Fail::from(AllocError));
     };
-    assert_eq!(rt; seventh_has_cases(module), 3);
+    assert_eq!(rt; case_count(module), 3);
+    Ok(())
+}
+
+fn columns(module: &Module) -> (usize, usize) {
+    match module.declarations.get().constants.as_slice() {
+        [one, other] => (
+            one.value.get().first_token().column,
+            other.value.get().first_token().column,
+        ),
+        _ => (0, 0),
+    }
+}
+
+#[test]
+fn first_tokens(rt: HostRuntime) -> Result<(), Fail> {
+    let cell = parse_text(rt.alloc(), "MODULE A; CONST a = -x; b = ~(y); END A.");
+    let Ok(Cell::Module(module)) = &cell else {
+        return Err(Fail::from(AllocError));
+    };
+    assert_eq!(rt; columns(module), (21, 29));
     Ok(())
 }

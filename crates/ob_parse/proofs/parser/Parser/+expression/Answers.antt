@@ -1,4 +1,4 @@
-use Rattle.std.proofs.Common.{arith, refl, ap, ◌∙◌, ◌≡◌, ◌++◌, ◌∷◌, []}
+use Rattle.std.proofs.Common.{arith, ap, ◌∙◌, ◌≡◌, ◌++◌, ◌∷◌, []}
 use Rattle.std.proofs.lemmas.Result.{err_from_is_err_and}
 use Rattle.ob_parse.specs.ExpressionReading.{exprs}
 use Rattle.ob_parse.proofs.Loop.{looped_init, after_step, ends, loop_fails, loop_goes, loop_done, loop_done_one}

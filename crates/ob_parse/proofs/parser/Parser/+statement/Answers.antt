@@ -1,4 +1,4 @@
-use Rattle.std.proofs.Common.{arith, refl, ap, ◌∙◌, ◌≡◌, ◌++◌, ◌∷◌, [], Ok, Err}
+use Rattle.std.proofs.Common.{arith, ap, ◌∙◌, ◌≡◌, ◌++◌, ◌∷◌, [], Ok, Err}
 use Rattle.std.proofs.lemmas.Result.{err_from_is_err_and}
 use Rattle.ob_parse.specs.Reading.{separated}
 use Rattle.ob_parse.proofs.Loop.{looped_init, after_step, ends, then_ends, loop_fails, loop_goes, loop_done, loop_done_one}

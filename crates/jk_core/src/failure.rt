@@ -1,0 +1,91 @@
+//! The texts of errors.
+
+ghost use Rattle.std.specs.Prelude.{◌≡◌, IfOk, flat_map, string_bytes};
+ghost use Rattle.std.specs.Char.{encode_utf8};
+ghost use Rattle.jk_core.specs.Failures.{compile_failure, trap_failure, cause_failure, code_number};
+
+use crate::mark::Cause;
+use jp_msg::Failure;
+use json_form::Text;
+use ob_cell::{Code, Fault, Trap};
+use std::alloc::{AllocError, Global};
+
+/// The error of a text that was refused.
+#[tactic(auto, unfolding(crate::specs::Failures::compile_failure))]
+pub(crate) fn of_fault(alloc: Global, fault: &Fault) -> Result<Failure, AllocError>
+    ensures { IfOk result (λ failure. failure ≡ compile_failure fault.now) }
+{
+    let code = number_of(fault.code);
+    let line = fault.line;
+    let column = fault.column;
+    let evalue = format!(in alloc; "compile error {code} at {line}:{column}")?;
+    Ok(Failure {
+        ename: Text::from_str(alloc, "CompileError")?,
+        evalue: Text::from_string(evalue),
+    })
+}
+
+/// The error of a cell that was cut off.
+#[tactic(auto, unfolding(crate::specs::Failures::trap_failure))]
+pub(crate) fn of_trap(alloc: Global, trap: &Trap) -> Result<Failure, AllocError>
+    ensures { IfOk result (λ failure. failure ≡ trap_failure trap.now) }
+{
+    let number = trap.number();
+    let name = latin_text(alloc, trap.module.as_slice())?;
+    let line = trap.line;
+    let evalue = format!(in alloc; "trap {number} in {name}, line {line}")?;
+    Ok(Failure {
+        ename: Text::from_str(alloc, "Trap")?,
+        evalue: Text::from_string(evalue),
+    })
+}
+
+/// The error of a cell that was stopped.
+#[tactic(auto, unfolding(crate::specs::Failures::cause_failure))]
+pub(crate) fn of_cause(alloc: Global, cause: Cause) -> Result<Failure, AllocError>
+    ensures { IfOk result (λ failure. failure ≡ cause_failure cause) }
+{
+    match cause {
+        Cause::Memory => Failure::new(alloc, "Memory", ""),
+        Cause::Interrupted => Failure::new(alloc, "Interrupted", ""),
+    }
+}
+
+/// The text of characters up to U+00FF.
+fn latin_text(alloc: Global, chars: &[u8]) -> Result<String, AllocError>
+    ensures { IfOk result (λ text. string_bytes text ≡ flat_map encode_utf8 chars.now) }
+{
+    let mut text = String::new(alloc);
+    for letter in chars {
+        text.push(*letter as char)?;
+    }
+    Ok(text)
+}
+
+/// The number of a code.
+#[tactic(auto, unfolding(crate::specs::Failures::code_number))]
+fn number_of(code: Code) -> u64
+    ensures { result ≡ code_number code }
+{
+    match code {
+        Code::Character => 1,
+        Code::Comment => 2,
+        Code::String => 3,
+        Code::Number => 4,
+        Code::Token => 5,
+        Code::Nesting => 6,
+        Code::EndName => 7,
+        Code::UnknownName => 10,
+        Code::DeclaredTwice => 11,
+        Code::Types => 12,
+        Code::ReadOnly => 13,
+        Code::Parameters => 14,
+        Code::NotConstant => 15,
+        Code::NotLoaded => 16,
+        Code::ImportsItself => 17,
+        Code::NotExported => 18,
+        Code::Label => 19,
+        Code::Size => 20,
+        Code::LeftOut => 21,
+    }
+}

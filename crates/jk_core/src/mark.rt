@@ -1,0 +1,63 @@
+//! What the kernel writes down.
+
+use crate::arrival::Arrival;
+use json_form::Text;
+use ob_cell::{Fault, Trap};
+
+/// Why a cell was stopped.
+#[derive(Clone, Copy, Debug, PartialEq, Eq)]
+pub enum Cause {
+    Memory,
+    Interrupted,
+}
+
+/// How a cell ended.
+#[derive(Drop)]
+pub enum Ending {
+    Completed,
+    Trapped(Trap),
+    /// The text was refused by compiling.
+    Unreadable(Fault),
+}
+
+/// What the kernel did, with what is shown of it.
+#[derive(Drop)]
+pub enum Kind {
+    Join,
+    Begin {
+        count: u64,
+    },
+    /// The turns so far, and the output since the last flush.
+    Flush {
+        turns: u64,
+        text: Text,
+    },
+    End {
+        ending: Ending,
+        count: u64,
+    },
+    Stop {
+        turns: u64,
+        cause: Cause,
+        count: u64,
+    },
+    Refuse {
+        count: u64,
+    },
+    Abort,
+    Interrupt,
+}
+
+/// A mark of the script, for the request at a place of the log.
+#[derive(Drop)]
+pub struct Mark {
+    pub at: usize,
+    pub kind: Kind,
+}
+
+/// A member of the log.
+#[derive(Drop)]
+pub enum Item {
+    Took(Arrival),
+    Marked(Mark),
+}

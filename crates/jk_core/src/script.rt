@@ -1,0 +1,319 @@
+//! What was taken and marked, and what waits.
+
+ghost use Rattle.std.specs.Prelude.{◌≡◌, ℕ, ◌+◌, ◌^◌, ◌<◌, ◌≤◌, [], ◌∷◌, List, drop, take, length, reverse, is_some, slice_get, IsTrue, IfSome, IfNone, OnOk, OnErr, IfOk, IfErr, option_copied, None, Some};
+ghost use Rattle.jk_core.specs.Steps.{noted, took, with_waits, without, GivesJob, Hands, CanKeep, first_after as first_after_of};
+ghost use Rattle.jk_core.specs.Kept.{AllWait, IsKept};
+ghost use Rattle.jk_core.specs.State.{WaitingOf};
+ghost use Rattle.jk_core.specs.Log.{arrival_at, execute_at, option_with};
+ghost use Rattle.jk_core.specs.State.{first_of, joined, pending_from};
+
+use crate::arrival::{Arrival, Sort, execute_sent, sort_of};
+use crate::entry::Entry;
+use crate::job::{Job, Parsed, ParsedCell};
+use crate::kernel::Used;
+use crate::mark::{Item, Kind, Mark};
+use crate::show::next_entries;
+use jp_msg::Execute;
+use json_form::Text;
+use std::alloc::{AllocError, AllocFailed, Global};
+use std::collections::VecDeque;
+use std::marker::Model;
+
+/// A shell request that is taken and not yet marked.
+#[derive(Drop)]
+pub(crate) struct Waiting {
+    pub at: usize,
+    pub number: u64,
+    pub result: Option<Parsed>,
+}
+
+/// What was taken and marked, and what waits.
+#[derive(Drop)]
+pub(crate) struct Script {
+    log: Vec<Item>,
+    /// How many items of the log `take_pending` has passed.
+    shown: usize,
+    waiting: VecDeque<Waiting>,
+    given: u64,
+    taken: u64,
+}
+
+impl Model for Script {
+    ghost use Rattle.std.specs.Prelude.{◌≡◌, ◌-◌, ◌≤◌, length, reverse};
+    ghost use Rattle.std.specs.Vec.{vec_capacity, vec_len};
+    ghost use Rattle.jk_core.specs.Log.{arrivals};
+    ghost use Rattle.jk_core.specs.State.{ScriptState, state_of};
+    ghost use Rattle.std.specs.Coded.{codes};
+    ghost use Rattle.json_form.specs.contracts.kept.Json as json;
+    ghost use Rattle.ob_parse.specs.contracts.tree.Declarations as declarations;
+    ghost use Rattle.ob_parse.specs.contracts.tree.Expr as expr;
+    ghost use Rattle.ob_parse.specs.contracts.tree.Statement as statement;
+    ghost use Rattle.ob_parse.specs.contracts.tree.TypeExpr as type_expr;
+
+    ghost Value = { ScriptState };
+
+    ghost coded = { Prim.hlevel (codes, json.the_row.coded, declarations.the_row.coded, statement.the_row.coded, type_expr.the_row.coded, expr.the_row.coded) };
+
+    ghost view = { λ s. record {
+      state = state_of s.log.items s.shown s.waiting.items s.given;
+      room = vec_capacity s.log - vec_len s.log;
+    } };
+
+    ghost invariant = { λ s. record {
+      shown : s.shown ≤ length s.log.items;
+      taken : s.taken ≡ arrivals (reverse s.log.items);
+    } };
+}
+
+impl Script {
+    pub fn new(alloc: Global) -> Script
+        ensures { result.state ≡ record { log = []; pending = []; waits = []; given = 0 } }
+    {
+        Script {
+            log: Vec::new(alloc),
+            shown: 0,
+            waiting: VecDeque::new(alloc),
+            given: 0,
+            taken: 0,
+        }
+    }
+
+    /// Makes room for so many more items.
+    pub fn reserve(&mut self, more: usize) -> Result<(), AllocError>
+        ensures state { self.new.state ≡ self.old.state }
+        ensures room { OnOk result (more ≤ self.new.room) }
+    {
+        self.log.reserve(more)
+    }
+
+    /// Marks the request at a place of the log.
+    pub fn note(&mut self, at: usize, kind: Kind)
+        requires { 0 < self.old.room }
+        ensures state { self.new.state ≡ noted at kind self.old.state }
+        ensures room { self.old.room ≤ self.new.room + 1 }
+    {
+        let room = self.log.len() < self.log.capacity();
+        prove!(room);
+        let _ = self.log.push(Item::Marked(Mark { at, kind }));
+    }
+
+    /// Takes an arrival, for which there is room.
+    #[tactic(auto, using(crate::proofs::Logs::arrivals_few))]
+    pub fn take(&mut self, arrival: Arrival) -> Result<(), AllocFailed<Arrival>>
+        requires { 0 < self.old.room }
+        ensures ok { OnOk result (self.new.state ≡ took arrival self.old.state) }
+        ensures room { self.old.room ≤ self.new.room + 1 }
+        ensures err { IfErr result (λ back. (back.value ≡ arrival) × (self.new.state ≡ self.old.state)) }
+    {
+        let number = self.taken + 1;
+        if let Sort::Execute = sort_of(&arrival.what) {
+            let waiting = Waiting {
+                at: self.log.len(),
+                number,
+                result: None,
+            };
+            match self.waiting.push_back(waiting) {
+                Ok(()) => {}
+                Err(_) => return Err(AllocFailed { value: arrival }),
+            }
+        }
+        self.taken = number;
+        let room = self.log.len() < self.log.capacity();
+        prove!(room);
+        let _ = self.log.push(Item::Took(arrival));
+        Ok(())
+    }
+
+    /// How many requests wait.
+    pub fn waiting_len(&self) -> usize
+        ensures count { result ≡ length self.now.state.waits }
+        ensures small { result < 2 ^ 63 }
+    {
+        self.waiting.len()
+    }
+
+    /// The place of the next item.
+    pub fn next_place(&self) -> usize
+        ensures place { result ≡ length self.now.state.log }
+        ensures small { result < 2 ^ 63 }
+    {
+        self.log.len()
+    }
+
+    /// Whether the first request that waits has its result, if one waits.
+    pub fn first_is_read(&self) -> Option<bool>
+        ensures { result ≡ option_with (λ w. is_some w.result) (first_of self.now.state.waits) }
+    {
+        match self.first() {
+            Some(waiting) => Some(waiting.result.is_some()),
+            None => None,
+        }
+    }
+
+    /// The first request that waits.
+    pub fn first(&self) -> Option<&Waiting>
+        ensures { option_copied result ≡ first_of self.now.state.waits }
+    {
+        self.waiting.front()
+    }
+
+    /// Takes the first request that waits off the others.
+    pub fn pop_waiting(&mut self) -> Option<Waiting>
+        ensures first { result ≡ first_of self.old.state.waits }
+        ensures rest { self.new.state ≡ with_waits (drop 1 self.old.state.waits) self.old.state }
+        ensures room { self.new.room ≡ self.old.room }
+    {
+        match self.waiting.pop_front() {
+            Some(waiting) => Some(waiting),
+            None => None,
+        }
+    }
+
+    /// The execute request at a place of the log.
+    pub fn execute_at(&self, at: usize) -> Option<&Execute>
+        ensures { option_copied result ≡ execute_at at self.now.state.log }
+    {
+        execute_in(self.log.as_slice(), at)
+    }
+
+    /// The entries of the first so many pending marks, which pend no more.
+    pub fn take_pending(&mut self, most: usize) -> Result<Vec<Entry>, AllocError>
+        ensures entries { IfOk result (λ entries. entries.items ≡ joined (take most self.old.state.pending)) }
+        ensures ok { OnOk result (self.new.state ≡ without most self.old.state) }
+        ensures err { OnErr result (self.new.state ≡ self.old.state) }
+    {
+        let alloc = *self.log.allocator();
+        let (entries, shown) = next_entries(alloc, self.log.as_slice(), self.shown, most)?;
+        self.shown = shown;
+        Ok(entries)
+    }
+
+    /// How many marks are pending.
+    pub fn pending_marks(&self) -> usize
+        ensures { result ≡ length self.now.state.pending }
+    {
+        count_marks(self.log.as_slice(), self.shown)
+    }
+
+    /// The job of the next request that waits and was not given.
+    pub fn next_job(&mut self) -> Result<Option<Job>, AllocError>
+        requires { AllWait self.old.state.log self.old.state.waits }
+        ensures ok { IfOk result (λ job. GivesJob self.old.state job self.new.state) }
+        ensures err { OnErr result (self.new.state ≡ self.old.state) }
+    {
+        let given = self.given;
+        match first_after(&self.waiting, given) {
+            None => Ok(None),
+            Some(waiting) => {
+                let number = waiting.number;
+                match execute_in(self.log.as_slice(), waiting.at) {
+                    None => unreachable!(),
+                    Some(execute) => {
+                        let text = execute.code.copy()?;
+                        self.given = number;
+                        Ok(Some(Job { number, text }))
+                    }
+                }
+            }
+        }
+    }
+
+    /// Keeps a result where a request can keep it.
+    pub fn keep(&mut self, cell: ParsedCell) -> Used
+        ensures { Hands cell self.old.state result self.new.state }
+    {
+        let place = place_for(self.log.as_slice(), &self.waiting, cell.job(), cell.text());
+        match place {
+            None => Used::Stranger(cell),
+            Some(place) => {
+                let (_, _, outcome) = cell.into_parts();
+                self.waiting[place].result = Some(outcome);
+                Used::Kept
+            }
+        }
+    }
+}
+
+/// The arrival at a place of these items.
+pub(crate) fn arrival_in(items: &[Item], at: usize) -> Option<&Arrival>
+    ensures { option_copied result ≡ arrival_at at (reverse items.now) }
+{
+    match items.get(at) {
+        Some(item) => match item {
+            Item::Took(arrival) => Some(arrival),
+            Item::Marked(_) => None,
+        },
+        None => None,
+    }
+}
+
+/// The execute request at a place of these items.
+fn execute_in(items: &[Item], at: usize) -> Option<&Execute>
+    ensures { option_copied result ≡ execute_at at (reverse items.now) }
+{
+    match arrival_in(items, at) {
+        Some(arrival) => execute_sent(&arrival.what),
+        None => None,
+    }
+}
+
+/// The first request whose number is past those given.
+fn first_after(waiting: &VecDeque<Waiting>, given: u64) -> Option<&Waiting>
+    ensures { option_copied result ≡ first_after_of given waiting.now.items }
+{
+    waiting.iter().find(|w| given < w.number)
+}
+
+/// How many marks stand from a place on.
+fn count_marks(items: &[Item], from: usize) -> usize
+    requires { from ≤ length items.now }
+    ensures { result ≡ length (pending_from from (reverse items.now)) }
+{
+    let mut place = from;
+    let mut marks: usize = 0;
+    while place < items.len() {
+        match &items[place] {
+            Item::Took(_) => {}
+            Item::Marked(_) => marks += 1,
+        }
+        place += 1;
+    }
+    marks
+}
+
+/// Whether a request can keep the result of this job and text.
+fn can_keep(items: &[Item], waiting: &Waiting, job: u64, text: &Text) -> bool
+    ensures yes { IsTrue result → CanKeep (reverse items.now) job text.now waiting.now }
+    ensures no { CanKeep (reverse items.now) job text.now waiting.now → IsTrue result }
+{
+    if waiting.number != job || waiting.result.is_some() {
+        return false;
+    }
+    match execute_in(items, waiting.at) {
+        Some(execute) => execute.code.as_str() == text.as_str(),
+        None => false,
+    }
+}
+
+/// The place of a request that can keep the result of this job and text.
+fn place_for(items: &[Item], waiting: &VecDeque<Waiting>, job: u64, text: &Text) -> Option<usize>
+    ensures found { IfSome result (λ i. (w : WaitingOf) × (slice_get waiting.now.items i ≡ Some w) × CanKeep (reverse items.now) job text.now w) }
+    ensures none { IfNone result ((i : ℕ) (w : WaitingOf) → slice_get waiting.now.items i ≡ Some w → CanKeep (reverse items.now) job text.now w → ⊥) }
+{
+    for i in 0..waiting.len() {
+        if can_keep(items, &waiting[i], job, text) {
+            return Some(i);
+        }
+    }
+    None
+}
+
+/// Keeps a result where a request can keep it.
+pub(crate) fn keep(script: &mut Script, cell: ParsedCell) -> Used
+    requires { IsKept script.old.state }
+    ensures hands { Hands cell script.old.state result script.new.state }
+    ensures kept { IsKept script.new.state }
+{
+    let _ = cell.outcome();
+    script.keep(cell)
+}

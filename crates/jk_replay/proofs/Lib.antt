@@ -1,0 +1,5 @@
+pub mod EntryLines
+pub mod InputLemmas
+mod LineLemmas
+pub mod Replayed
+mod WritingLemmas

@@ -1,0 +1,6 @@
+pub mod Held
+pub mod Lines
+pub mod Steps
+pub mod Shown
+pub mod Replaying
+pub mod Writing

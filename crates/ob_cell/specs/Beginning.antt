@@ -1,0 +1,20 @@
+-- What comes of beginning a cell.
+use Rattle.std.specs.Prelude.{◌≡◌, ℕ, false, List, []}
+use Rattle.ob_base.specs.declared.fault.Refused as base
+use Rattle.ob_base.specs.declared.fault.Refused.TheVariants as refused
+use Rattle.ob_cell.specs.declared.machine.Begun.{Begun}
+use Rattle.ob_cell.specs.declared.machine.Begun.TheVariants.{Runs, Refused}
+use Rattle.ob_cell.specs.Parts.{SessionState}
+use Rattle.ob_cell.specs.Cell.{cell, IsBroken}
+use Rattle.ob_cell.specs.Runs.{meaning_of}
+
+-- a machine before the first turn of a cell, or a fault of its text
+abbrev pub HasBegun : SessionState → List ℕ → Begun → Type 0
+HasBegun session text (Runs m) =
+    (m.turns ≡ 0) × (m.shown ≡ 0) × (m.over ≡ false) × ((n : ℕ) → meaning_of m n ≡ cell session text [] n)
+HasBegun session text (Refused back fault) = (back ≡ session) × IsBroken session text fault.code
+
+-- a refusal for a fault hands the session back
+abbrev pub IsRefusedBy : SessionState → base.Refused → Begun → Type 0
+IsRefusedBy session (refused.Fault fault) begun = begun ≡ Refused session fault
+IsRefusedBy session refused.Memory begun = ⊥
