@@ -53,6 +53,7 @@ impl Job {
     pub fn parse(self, alloc: Global) -> ParsedCell
         ensures job { result.job ≡ self.number }
         ensures text { result.text ≡ self.text }
+        ensures right { IsResult result.text result.outcome }
     {
         let Job { number, text } = self;
         let outcome = outcome_of(alloc, text.as_str());

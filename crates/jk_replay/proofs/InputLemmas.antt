@@ -22,7 +22,7 @@ held_more start bytes piece le = drop-append-le start bytes piece le
 pub comes_then : (a b c : Option (List ℕ)) (i j k l : InputState) (bs cs : List ℕ) → k ≡ j → Comes a b i j bs → Comes b c k l cs → Comes a c i l (bs ++ cs)
 comes_then a b c i j k l bs cs e p q = both_come a b c i j l bs cs p (subst (λ m. Comes b c m l cs) e q)
 
-abbrev opening : InputState
+abbrev pub opening : InputState
 opening = record { held = []; taken = 0 }
 
 -- what was taken in all

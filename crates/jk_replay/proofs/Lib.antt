@@ -3,3 +3,6 @@ pub mod InputLemmas
 mod LineLemmas
 pub mod Replayed
 mod WritingLemmas
+mod Done
+mod Going
+mod Final

@@ -9,7 +9,7 @@ use Rattle.jk_core.specs.declared.job.Job.{Job}
 use Rattle.jk_core.specs.declared.kernel.Used.{Used}
 use Rattle.jk_core.specs.declared.kernel.Work.{Work}
 use Rattle.jk_core.specs.declared.kernel.Work.TheVariants as work
-use Rattle.jk_core.specs.Results.{Reading}
+use Rattle.jk_core.specs.Results.{Reading, IsResult}
 use Rattle.jk_core.specs.State.{KernelState, joined}
 use Rattle.jk_core.specs.Steps.{taken, GivesJob, Hands, Works, without}
 use Rattle.jk_replay.specs.declared.step.Step.{Step}
@@ -43,12 +43,13 @@ sends seat w s = record {
 abbrev pub joins : ℕ → ReplayState → ReplayState
 joins seat s = if slice_index_or s.sent seat 0 == 0 then sends seat what.Join s else s
 
--- the next job, if there is one, is given, read and handed in
+-- the next job, if there is one, is given, read and handed in: its tree, a fault that its text has, or want of memory
 abbrev pub ParsesOne : KernelState → KernelState → Type 0
 ParsesOne old new =
     GivesJob old None new
     ⊎ ((job : Job) × (reading : Reading) × (used : Used) × (mid : KernelState)
-    × GivesJob old (Some job) mid × (reading.job ≡ job.number) × (reading.text ≡ job.text) × Hands reading mid used new)
+    × GivesJob old (Some job) mid × (reading.job ≡ job.number) × (reading.text ≡ job.text)
+    × IsResult reading.text reading.outcome × Hands reading mid used new)
 
 -- all pending entries are shown
 abbrev pub shown : ReplayState → ReplayState

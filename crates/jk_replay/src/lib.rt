@@ -8,3 +8,6 @@ mod show;
 mod step;
 
 pub use replay::{End, ReplayFault, replay_lines};
+
+#[cfg(test)]
+mod tests;

@@ -1,9 +1,11 @@
 //! A replay from its first line to its end.
 
 ghost use Rattle.std.specs.Prelude.{◌≡◌, ◌-◌, ◌+◌, ◌≤◌, ℕ, List, [], length, OnOk};
-ghost use Rattle.std.specs.Io.KnownBytes.{Consumes};
-ghost use Rattle.jk_replay.specs.Held.{Comes};
+ghost use Rattle.std.specs.Io.KnownBytes.{Consumes, Appends};
+ghost use Rattle.jk_replay.specs.Playing.{LinePlayed, SlicePlayed, LastEnd, SlicesPlayed, of_input};
+ghost use Rattle.jk_replay.specs.Replays.{Replays};
 ghost use Rattle.jk_replay.specs.Writing.{WritesFront};
+ghost use Rattle.jk_replay.specs.declared.replay.ReplayFault.TheVariants as fault_as;
 
 use crate::input::{Input, InputFault, Line};
 use crate::replaying::Replay;
@@ -34,18 +36,24 @@ pub enum ReplayFault {
 }
 
 impl From<AllocError> for ReplayFault {
+    ghost from_gives = { λ _ e. e ≡ fault_as.Memory };
+
     fn from(_e: AllocError) -> ReplayFault {
         ReplayFault::Memory
     }
 }
 
 impl From<io::Error> for ReplayFault {
+    ghost from_gives = { λ _ e. e ≡ fault_as.Device };
+
     fn from(_e: io::Error) -> ReplayFault {
         ReplayFault::Device
     }
 }
 
 impl From<InputFault> for ReplayFault {
+    ghost from_gives = { λ fault e. e ≡ of_input fault };
+
     fn from(fault: InputFault) -> ReplayFault {
         match fault {
             InputFault::Device => ReplayFault::Device,
@@ -81,7 +89,10 @@ fn play_line<W: Write>(
     number: u64,
     line: &[u8],
     writer: &mut W,
-) -> Result<(), ReplayFault> {
+) -> Result<(), ReplayFault>
+    ensures { (front : List ℕ) × Appends (W.contents writer.old) (W.contents writer.new) front
+        × LinePlayed line.now number replay.old replay.new front result }
+{
     if line.is_empty() {
         return Ok(());
     }
@@ -95,29 +106,53 @@ fn play_line<W: Write>(
     Ok(())
 }
 
-/// Works slices until the kernel rests, at most so many.
-fn finish<W: Write>(
+/// Works a slice behind the last line, and writes what it shows. Where no slice would do anything, the answer is how
+/// the replay ends.
+fn play_slice<W: Write>(
     alloc: Global,
     replay: &mut Replay,
     writer: &mut W,
-) -> Result<End, ReplayFault> {
-    for _ in 0..LAST_SLICES {
-        match replay.kernel.work(LAST_TURNS) {
-            Work::Rest => return Ok(End::Rest),
-            Work::NeedsParse => return Ok(End::WorkLeft),
-            Work::NoMemory => return Err(ReplayFault::Memory),
-            Work::Ran => {
-                let lines = replay.pending_lines(alloc)?;
-                write_bytes(writer, lines.as_bytes())?;
-            }
+) -> Result<Option<End>, ReplayFault>
+    ensures { (front : List ℕ) × Appends (W.contents writer.old) (W.contents writer.new) front
+        × SlicePlayed replay.old replay.new front result }
+{
+    match replay.kernel.work(LAST_TURNS) {
+        Work::Rest => Ok(Some(End::Rest)),
+        Work::NeedsParse => Ok(Some(End::WorkLeft)),
+        Work::NoMemory => Err(ReplayFault::Memory),
+        Work::Ran => {
+            let lines = replay.pending_lines(alloc)?;
+            write_bytes(writer, lines.as_bytes())?;
+            Ok(None)
         }
     }
-    // Whether it rests now. What this slice would show is not written, since no slice is left.
+}
+
+/// Whether the kernel rests behind the last slice. What a slice of no turns would show is not written, since none is
+/// left.
+fn last_end(replay: &mut Replay) -> Result<End, ReplayFault>
+    ensures { LastEnd replay.old.kernel result }
+{
     match replay.kernel.work(0) {
         Work::Rest => Ok(End::Rest),
         Work::NoMemory => Err(ReplayFault::Memory),
         Work::Ran | Work::NeedsParse => Ok(End::WorkLeft),
     }
+}
+
+/// Works slices until the kernel rests, at most so many.
+fn finish<W: Write>(alloc: Global, replay: &mut Replay, writer: &mut W) -> Result<End, ReplayFault>
+    ensures { (front : List ℕ) × Appends (W.contents writer.old) (W.contents writer.new) front
+        × SlicesPlayed replay.old front result }
+{
+    let mut slices = 0;
+    'slices: while slices < LAST_SLICES {
+        if let Some(end) = play_slice(alloc, replay, writer)? {
+            return Ok(end);
+        }
+        slices += 1;
+    }
+    last_end(replay)
 }
 
 /// Replays lines on a kernel of its own, on one thread.
@@ -128,20 +163,25 @@ fn finish<W: Write>(
 /// identifier of the message that it is for) and `to` (`"all"` or a seat). Behind the last line slices of 1,000
 /// turns are worked until the kernel rests, at most 1,000 of them.
 ///
-/// It takes at most 67,108,865 bytes, the last one only to find that the input is too long.
+/// It takes at most 67,108,865 bytes, the last one only to find that the input is too long. What it writes is what
+/// `Replays` says for what it read: the entries of a legal log that go to all or to a seat, and where writing fails a
+/// beginning of them.
 pub fn replay_lines<R: Read, W: Write>(
     alloc: Global,
     reader: &mut R,
     writer: &mut W,
 ) -> Result<End, ReplayFault>
-    ensures { (taken : List ℕ) × Consumes (R.remaining reader.old) (R.remaining reader.new) taken × (length taken ≤ 67108865) }
+    ensures { (input written : List ℕ) × Consumes (R.remaining reader.old) (R.remaining reader.new) input × (length input ≤ 67108865)
+        × Appends (W.contents writer.old) (W.contents writer.new) written
+        × Replays input (R.remaining reader.new) written result }
 {
     let mut input = Input::new(alloc);
     let mut replay = Replay::new(alloc)?;
     let mut number: u64 = 0;
     'lines: loop {
-        number = number.saturating_add(1);
-        match input.next_line(alloc, reader)? {
+        let taken = input.next_line(alloc, reader)?;
+        number += 1;
+        match taken {
             Line::Ended(line) => play_line(alloc, &mut replay, number, line.as_slice(), writer)?,
             Line::Last(line) => {
                 play_line(alloc, &mut replay, number, line.as_slice(), writer)?;

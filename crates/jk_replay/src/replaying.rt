@@ -5,6 +5,7 @@ ghost use Rattle.std.specs.Str.{IsUtf8};
 ghost use Rattle.jk_core.specs.Steps.{taken, without};
 ghost use Rattle.jk_core.specs.State.{KernelState};
 ghost use Rattle.jk_replay.specs.Replaying as spec;
+ghost use Rattle.jk_replay.specs.Replays.{opening};
 
 use crate::show::show;
 use crate::step::Step;
@@ -33,7 +34,9 @@ fn sent_on(message: Shared<Message>) -> What
 
 impl Replay {
     /// A kernel that has taken nothing.
-    pub fn new(alloc: Global) -> Result<Replay, AllocError> {
+    pub fn new(alloc: Global) -> Result<Replay, AllocError>
+        ensures { IfOk result (λ replay. replay ≡ opening) }
+    {
         Ok(Replay {
             kernel: Kernel::new(alloc)?,
             sent: [0; 256],
