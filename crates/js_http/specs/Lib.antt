@@ -1,0 +1,10 @@
+pub mod Framing
+pub mod Headers
+pub mod Heads
+pub mod Methods
+pub mod Reading
+pub mod Requests
+pub mod Responses
+pub mod Serving
+pub mod Targets
+pub mod Writing

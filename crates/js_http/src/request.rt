@@ -1,0 +1,92 @@
+//! One request from a stream.
+ghost use Rattle.std.specs.Prelude.{◌≡◌, ◌≢◌, ◌≤◌, ◌++◌, ℕ, List, length, IfSome, ◌⊎◌, ◌==◌};
+ghost use Rattle.std.specs.List.{before_first, after_first};
+ghost use Rattle.std.specs.Io.KnownBytes.{Consumes};
+ghost use Rattle.js_http.specs.Requests.{Answers, Refuses, BeginsRefused, IsRequest};
+ghost use Rattle.js_http.specs.declared.refusal.HttpRefusal.{HttpRefusal};
+ghost use Rattle.js_http.specs.declared.request.Request.{Request};
+
+use crate::framing::body_len;
+use crate::read::{read_body, read_head};
+use crate::{Bytes, Headers, HttpRefusal, Method, Text};
+use std::alloc::Global;
+use std::io::Read;
+
+/// A request: its method, its target as it was sent, its header lines in order, and its body.
+#[derive(Debug, Drop)]
+pub struct Request {
+    pub method: Method,
+    pub target: Text,
+    pub headers: Headers,
+    pub body: Bytes,
+}
+
+impl Request {
+    /// The target up to its first question mark, or all of it.
+    pub fn path(&self) -> &str
+        ensures { result.now ≡ before_first (λ byte. byte == 63) self.now.target }
+    {
+        match self.target.as_str().split_once('?') {
+            Some((path, _)) => path,
+            None => self.target.as_str(),
+        }
+    }
+
+    /// The target behind its first question mark, or nothing.
+    pub fn query(&self) -> &str
+        ensures { result.now ≡ after_first (λ byte. byte == 63) self.now.target }
+    {
+        match self.target.as_str().split_once('?') {
+            Some((_, query)) => query,
+            None => "",
+        }
+    }
+}
+
+// The request at the front of a stream, or why there is none.
+fn take_request<R: Read>(alloc: Global, reader: &mut R) -> Result<Request, HttpRefusal>
+    ensures { (taken : List ℕ)
+        × Consumes (R.remaining reader.old) (R.remaining reader.new) taken
+        × (length taken ≤ 16793600) × Answers taken result }
+{
+    let mut reads = 0;
+    let (head, received) = read_head(alloc, reader, &mut reads)?;
+    let len = body_len(head.method.needs_length(), &head.headers)?;
+    let body = read_body(
+        alloc,
+        reader,
+        &received[head.len..],
+        len as usize,
+        &mut reads,
+    )?;
+    Ok(Request {
+        method: head.method,
+        target: head.target,
+        headers: head.headers,
+        body: Bytes::from(body),
+    })
+}
+
+/// Reads one request from the front of a stream, and reads no more once it is whole or refused.
+///
+/// It counts its reads: at most 16,793,600 of them give bytes. Any fault of the stream is `Ended`, an interrupted
+/// read too, and so is its end before the request is whole. What was taken of the stream is gone from it, whatever
+/// the answer is. A head that is both bad and too long may be refused as either.
+pub fn read_request<R: Read>(alloc: Global, reader: &mut R) -> Result<Request, HttpRefusal>
+    // The answer is to what was taken, and no more is taken than a request may have.
+    ensures taken { (taken : List ℕ)
+        × Consumes (R.remaining reader.old) (R.remaining reader.new) taken
+        × (length taken ≤ 16793600) × Answers taken result }
+    // However the bytes come, the answer is to all of them, unless the stream ends or fails first.
+    ensures stream { result ≢ Err HttpRefusal.Ended → IfSome (R.remaining reader.old) (λ input. Answers input result) }
+{
+    take_request(alloc, reader)
+}
+
+/// A law: bytes begin with one request at most; what begins with a request is refused for nothing but want of memory;
+/// and what begins with a head that is refused for what it says of its body is refused for that.
+pub fn one_request_law()
+    ensures request { (input : List ℕ) (r q : Request) → IsRequest input r → IsRequest input q → r ≡ q }
+    ensures no_refusal { (input : List ℕ) (r : Request) (e : HttpRefusal) → IsRequest input r → Refuses input e → e ≡ HttpRefusal.Memory }
+    ensures refusal { (input : List ℕ) (e f : HttpRefusal) → BeginsRefused input e → Refuses input f → (f ≡ e) ⊎ (f ≡ HttpRefusal.Memory) }
+{}

@@ -1,0 +1,145 @@
+//! Responses to a writer.
+ghost use Rattle.std.specs.Prelude.{◌≡◌, ◌+◌, ◌<◌, ◌++◌, ℕ, List, [], Some, None, length};
+ghost use Rattle.std.specs.List.{flat_map};
+ghost use Rattle.js_http.specs.Writing.{WritesFront};
+ghost use Rattle.js_http.specs.Responses.{location_line, lines_text, content_text, switch_text, response_text};
+
+use crate::Response;
+use itoa::Buffer;
+use std::io;
+use std::io::{ErrorKind, Write};
+
+// Writes all the bytes, or stops at the first fault.
+fn write_bytes<W: Write>(writer: &mut W, bytes: &[u8]) -> io::Result<()>
+    ensures { WritesFront (W.contents writer.old) (W.contents writer.new) bytes.now result }
+{
+    let mut rest = bytes;
+    'rest: while !rest.is_empty() {
+        let count = writer.write(rest)?;
+        if count == 0 {
+            return Err(ErrorKind::WriteZero.into());
+        }
+        rest = &rest[count..];
+    }
+    Ok(())
+}
+
+// Writes the parts one after the other.
+fn write_parts<W: Write>(writer: &mut W, parts: &[&[u8]]) -> io::Result<()>
+    ensures { WritesFront (W.contents writer.old) (W.contents writer.new) (flat_map (λ part. part.now) parts.now) result }
+{
+    for part in parts {
+        write_bytes(writer, part)?;
+    }
+    Ok(())
+}
+
+// Writes a response whose content has `len` bytes, in digits.
+fn write_lines<'t, W: Write>(
+    writer: &mut W,
+    status_line: &'t str,
+    len: &'t str,
+    body: &'t [u8],
+) -> io::Result<()>
+    ensures { WritesFront (W.contents writer.old) (W.contents writer.new)
+        (lines_text status_line.now [] len.now body.now) result }
+{
+    write_parts(
+        writer,
+        &[
+            status_line.as_bytes(),
+            b"\r\nContent-Type: application/json\r\nContent-Length: ",
+            len.as_bytes(),
+            b"\r\nConnection: close\r\n\r\n",
+            body,
+        ],
+    )
+}
+
+// The same with a line that says where a new thing is.
+fn write_located_lines<'t, W: Write>(
+    writer: &mut W,
+    status_line: &'t str,
+    location: &'t str,
+    len: &'t str,
+    body: &'t [u8],
+) -> io::Result<()>
+    ensures { WritesFront (W.contents writer.old) (W.contents writer.new)
+        (lines_text status_line.now (location_line (Some location.now)) len.now body.now) result }
+{
+    write_parts(
+        writer,
+        &[
+            status_line.as_bytes(),
+            b"\r\nContent-Type: application/json\r\nLocation: ",
+            location.as_bytes(),
+            b"\r\nContent-Length: ",
+            len.as_bytes(),
+            b"\r\nConnection: close\r\n\r\n",
+            body,
+        ],
+    )
+}
+
+fn write_content<W: Write>(writer: &mut W, status_line: &str, body: &[u8]) -> io::Result<()>
+    ensures { WritesFront (W.contents writer.old) (W.contents writer.new)
+        (content_text status_line.now None body.now) result }
+{
+    let mut buffer = Buffer::new();
+    write_lines(writer, status_line, buffer.format(body.len()), body)
+}
+
+fn write_located<W: Write>(
+    writer: &mut W,
+    status_line: &str,
+    location: &str,
+    body: &[u8],
+) -> io::Result<()>
+    ensures { WritesFront (W.contents writer.old) (W.contents writer.new)
+        (content_text status_line.now (Some location.now) body.now) result }
+{
+    let mut buffer = Buffer::new();
+    let len = buffer.format(body.len());
+    write_located_lines(writer, status_line, location, len, body)
+}
+
+fn write_switch<W: Write>(writer: &mut W, accept: &str) -> io::Result<()>
+    ensures { WritesFront (W.contents writer.old) (W.contents writer.new) (switch_text accept.now) result }
+{
+    write_parts(
+        writer,
+        &[
+            b"HTTP/1.1 101 Switching Protocols\r\nUpgrade: websocket\r\nConnection: Upgrade\r\nSec-WebSocket-Accept: ",
+            accept.as_bytes(),
+            b"\r\n\r\n",
+        ],
+    )
+}
+
+/// Writes the bytes of a response, and takes no memory. Where a write fails, is interrupted or takes nothing, that is
+/// the answer, and what was written is a beginning of them.
+#[tactic(auto, unfolding(crate::specs::Responses::response_text))]
+pub fn write_response<W: Write>(writer: &mut W, response: &Response) -> io::Result<()>
+    ensures { WritesFront (W.contents writer.old) (W.contents writer.new) (response_text response.now) result }
+{
+    match response {
+        Response::Success(body) => write_content(writer, "HTTP/1.1 200 OK", body.as_slice()),
+        Response::Created(None, body) => {
+            write_content(writer, "HTTP/1.1 201 Created", body.as_slice())
+        }
+        Response::Created(Some(location), body) => write_located(
+            writer,
+            "HTTP/1.1 201 Created",
+            location.as_str(),
+            body.as_slice(),
+        ),
+        Response::NoContent => write_bytes(
+            writer,
+            b"HTTP/1.1 204 No Content\r\nConnection: close\r\n\r\n",
+        ),
+        Response::SwitchingProtocols(accept) => write_switch(writer, accept.as_str()),
+        Response::Refused(status) => {
+            write_content(writer, status.line(), status.content().as_bytes())
+        }
+    }
+}
