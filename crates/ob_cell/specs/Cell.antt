@@ -24,7 +24,7 @@ no_program = record { name = []; tree = record { variables = 0; procedures = (re
 abbrev pub cell_rule : Cell → Rule Program
 cell_rule (cells.Module m) = Then (module_rule m) (λ tree. Given (record { name = m.name.name; tree = tree }))
 cell_rule (cells.Commands []) = Given no_program
-cell_rule (cells.Commands (c ∷ cs)) = Breaks code.Token
+cell_rule (cells.Commands (c ∷ cs)) = Breaks code.LeftOut
 
 -- this tree is the text's
 unfoldable pub IsTreeOf : List ℕ → Cell → Type 0

@@ -45,10 +45,10 @@ fn commands_program(alloc: Global, commands: &[Command]) -> Result<Program, Refu
 {
     match commands {
         [] => Ok(nothing(alloc)?),
-        [command, ..] => Err(Refused::Fault(Fault {
-            code: Code::Token,
-            line: command.module_name.span.line,
-            column: command.module_name.span.column,
+        [_, ..] => Err(Refused::Fault(Fault {
+            code: Code::LeftOut,
+            line: 1,
+            column: 1,
             at_end: false,
         })),
     }

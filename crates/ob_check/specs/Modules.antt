@@ -56,10 +56,10 @@ module_named name =
     else (if bytes_eq name (codes "In") then named.In
     else (if bytes_eq name (codes "SYSTEM") then named.System else named.Other))
 
--- In is not admitted yet, SYSTEM is left out, no other module is loaded
+-- In is not followed yet, SYSTEM is left out, no other module is loaded
 unfoldable pub imported : NamedModule → Rule Entry
 imported named.Out = Given entry.Out
-imported named.In = Breaks code.Token
+imported named.In = Breaks code.LeftOut
 imported named.System = Breaks code.LeftOut
 imported named.Other = Breaks code.NotLoaded
 
@@ -72,13 +72,13 @@ import_rule self s i =
 
 -- ---- variables
 
--- the type is INTEGER, which nothing hides. Other types are not admitted yet
+-- the type is INTEGER, which nothing hides. Other types are not followed yet
 abbrev pub type_layer : Scope → TypeExpr-F TypeExpr TypedNames → Rule (Unit {0})
 type_layer s (TypeExpr-F.Named q) =
-    Needs (is_none q.second && bytes_eq q.first.name (codes "INTEGER")) code.Token (
+    Needs (is_none q.second && bytes_eq q.first.name (codes "INTEGER")) code.LeftOut (
     Needs (is_new (find s q.first.name)) code.Types (Given tt))
-type_layer s (TypeExpr-F.Array span lengths element) = Breaks code.Token
-type_layer s (TypeExpr-F.Record span fields) = Breaks code.Token
+type_layer s (TypeExpr-F.Array span lengths element) = Breaks code.LeftOut
+type_layer s (TypeExpr-F.Record span fields) = Breaks code.LeftOut
 
 unfoldable pub type_rule : Scope → TypeExpr → Rule (Unit {0})
 type_rule s t = type_layer s (out-TypeExpr t)
@@ -95,12 +95,12 @@ unfoldable pub variables_rule : Declaring → TypedNames → Rule Declaring
 variables_rule d names =
     Then (type_rule d.scope (out-TypedNames names).of) (λ _. through variable_rule d (out-TypedNames names).names)
 
--- constants, types and procedures are not admitted yet
+-- constants, types and procedures are not followed yet
 unfoldable pub declarations_rule : Scope → Declarations → Rule Declaring
 declarations_rule s d =
-    Needs (is_empty (out-Declarations d).constants) code.Token (
-    Needs (is_empty (out-Declarations d).types) code.Token (
-    Needs (is_empty (out-Declarations d).procedures) code.Token (
+    Needs (is_empty (out-Declarations d).constants) code.LeftOut (
+    Needs (is_empty (out-Declarations d).types) code.LeftOut (
+    Needs (is_empty (out-Declarations d).procedures) code.LeftOut (
     through variables_rule (record { scope = s; variables = 0 }) (out-Declarations d).variables)))
 
 -- ---- modules

@@ -76,7 +76,7 @@ out_line (Some (e ∷ es)) = Breaks code.Parameters
 unfoldable pub out_call : Scope → ℕ → Option (List Expr) → OutName → Rule (Option TypedStatement)
 out_call s n actuals name.Int = out_int s n actuals
 out_call s n actuals name.Ln = out_line actuals
-out_call s n actuals name.Later = Breaks code.Token
+out_call s n actuals name.Later = Breaks code.LeftOut
 
 -- the name behind the name of the module
 abbrev pub called_layer : Scope → ℕ → Option (List Expr) → SelectorLayer → Rule (Option TypedStatement)
@@ -107,18 +107,18 @@ chain before (Some one) = before ++ one ∷ []
 unfoldable pub while_rule : Scope → ℕ → (List Statement → Rule (List TypedStatement)) → Branch → List Branch → Rule (Option TypedStatement)
 while_rule s n inner first [] =
     Then (Both (guard s n (out-Branch first).guard) (inner (out-Branch first).body)) (λ p. Given (Some (typed.While p.0 p.1)))
-while_rule s n inner first (other ∷ others) = Breaks code.Token
+while_rule s n inner first (other ∷ others) = Breaks code.LeftOut
 
--- IF, CASE, REPEAT and FOR are not admitted yet
+-- IF, CASE, REPEAT and FOR are not followed yet
 abbrev pub statement_layer : Scope → ℕ → (List Statement → Rule (List TypedStatement)) → StatementLayer → Rule (Option TypedStatement)
 statement_layer s n inner Statement-F.Empty = Given None
 statement_layer s n inner (Statement-F.Assign d e) = assignment s n d e
 statement_layer s n inner (Statement-F.Call d actuals) = call s n d actuals
 statement_layer s n inner (Statement-F.While first others) = while_rule s n inner first others
-statement_layer s n inner (Statement-F.If first others rest) = Breaks code.Token
-statement_layer s n inner (Statement-F.Case span e cases) = Breaks code.Token
-statement_layer s n inner (Statement-F.Repeat body e) = Breaks code.Token
-statement_layer s n inner (Statement-F.For head body) = Breaks code.Token
+statement_layer s n inner (Statement-F.If first others rest) = Breaks code.LeftOut
+statement_layer s n inner (Statement-F.Case span e cases) = Breaks code.LeftOut
+statement_layer s n inner (Statement-F.Repeat body e) = Breaks code.LeftOut
+statement_layer s n inner (Statement-F.For head body) = Breaks code.LeftOut
 
 unfoldable pub statement_of : Scope → ℕ → (List Statement → Rule (List TypedStatement)) → Statement → Rule (Option TypedStatement)
 statement_of s n inner x = statement_layer s n inner (out-Statement x)

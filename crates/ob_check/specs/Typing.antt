@@ -22,8 +22,8 @@ use Rattle.ob_parse.specs.declared.tree.Factor.{Factor, out-Factor}
 use Rattle.ob_parse.specs.declared.tree.Designator.{Designator, out-Designator}
 use Rattle.ob_parse.specs.declared.tree.Selector.{Selector, out-Selector}
 use Rattle.ob_parse.specs.declared.tree.Factor.TheOpen.{Factor-F}
-use Rattle.ob_types.specs.declared.Basic.{Basic}
-use Rattle.ob_types.specs.declared.Basic.TheVariants as basic
+use Rattle.ob_types.specs.declared.structure.Basic.{Basic}
+use Rattle.ob_types.specs.declared.structure.Basic.TheVariants as basic
 use Rattle.ob_mean.specs.declared.tree.Operator.{Operator}
 use Rattle.ob_mean.specs.declared.tree.Operator.TheVariants as operator
 use Rattle.ob_mean.specs.declared.tree.TypedExpr.{TypedExpr}
@@ -47,28 +47,26 @@ value basic tree = record { basic = basic; tree = tree }
 
 abbrev pub is_integer : Basic → Bool
 is_integer basic.Integer = true
-is_integer basic.Boolean = false
+is_integer _ = false
 
 abbrev pub is_boolean : Basic → Bool
-is_boolean basic.Integer = false
 is_boolean basic.Boolean = true
+is_boolean _ = false
 
 -- two numbers, which give this type
 abbrev pub numbers : Basic → Basic → Basic → Option Basic
 numbers basic.Integer basic.Integer result = Some result
-numbers basic.Integer basic.Boolean result = None
-numbers basic.Boolean b result = None
+numbers _ _ result = None
 
 -- two truth values, which give one
 abbrev pub truths : Basic → Basic → Option Basic
 truths basic.Boolean basic.Boolean = Some basic.Boolean
-truths basic.Boolean basic.Integer = None
-truths basic.Integer b = None
+truths _ _ = None
 
 -- two of one type, which give a truth value
 abbrev pub alike : Basic → Basic → Option Basic
 alike basic.Boolean b = truths basic.Boolean b
-alike basic.Integer b = numbers basic.Integer b basic.Boolean
+alike a b = numbers a b basic.Boolean
 
 abbrev pub mul_type : MulOperator → Basic → Basic → Option Basic
 mul_type mul.Times a b = numbers a b basic.Integer
@@ -82,7 +80,7 @@ mul_tree mul.Div line a b = typed.Binary operator.Quotient line a b
 mul_tree mul.Mod line a b = typed.Binary operator.Remainder line a b
 mul_tree mul.And line a b = typed.And a b
 
--- OR is not admitted yet
+-- OR is not followed yet
 abbrev pub add_operator : AddOperator → Option Operator
 add_operator add.Plus = Some operator.Plus
 add_operator add.Minus = Some operator.Minus
@@ -121,16 +119,16 @@ signed (Some (sign.Plus, span)) v = Needs (is_integer v.basic) code.Types (Given
 signed (Some (sign.Minus, span)) v = Needs (is_integer v.basic) code.Types (Given (value basic.Integer (typed.Negative v.tree)))
 
 module _ (inner : Expr → Rule Value) (s : Scope) where
-  -- strings, `~` and calls are not admitted yet
+  -- strings, `~` and calls are not followed yet
   abbrev pub factor_layer : FactorLayer → Rule Value
   factor_layer (Factor-F.Integer n span) = Given (value basic.Integer (typed.Constant n))
-  factor_layer (Factor-F.Text chars span) = Breaks code.Token
+  factor_layer (Factor-F.Text chars span) = Breaks code.LeftOut
   factor_layer (Factor-F.Truth b span) = Given (value basic.Boolean (typed.Constant (truth_number b)))
   factor_layer (Factor-F.Value d) =
       Then (there (find s (out-Designator d).name.name) code.UnknownName) (λ e. named e (out-Designator d).selectors)
-  factor_layer (Factor-F.Call d actuals) = Breaks code.Token
+  factor_layer (Factor-F.Call d actuals) = Breaks code.LeftOut
   factor_layer (Factor-F.Parens span e) = inner e
-  factor_layer (Factor-F.Not span f) = Breaks code.Token
+  factor_layer (Factor-F.Not span f) = Breaks code.LeftOut
 
   unfoldable pub factor_rule : Factor → Rule Value
   factor_rule f = factor_layer (out-Factor f)
@@ -148,7 +146,7 @@ module _ (inner : Expr → Rule Value) (s : Scope) where
   -- one term more
   unfoldable pub added_term : Value → AddedTerm → Rule Value
   added_term v x =
-      Then (there (add_operator (out-AddedTerm x).operator) code.Token) (λ op.
+      Then (there (add_operator (out-AddedTerm x).operator) code.LeftOut) (λ op.
       Then (term_rule (out-AddedTerm x).term) (λ w.
       Then (there (numbers v.basic w.basic basic.Integer) code.Types) (λ t.
       Given (value t (typed.Binary op (out-AddedTerm x).span.line v.tree w.tree)))))

@@ -39,6 +39,21 @@ pub fn fault(code: Code, span: Span) -> Fault
     }
 }
 
+/// The first character of a text.
+pub const START: Span = Span {
+    start: 0,
+    end: 0,
+    line: 1,
+    column: 1,
+};
+
+/// What the compiler can't follow yet is refused as if the language left it out.
+pub fn not_followed() -> Refused
+    ensures { IsFault code.LeftOut result }
+{
+    Refused::Fault(fault(Code::LeftOut, START))
+}
+
 fn numbers(left: Basic, right: Basic, given: Basic) -> Option<Basic>
     ensures { result ≡ spec.numbers left right given }
 {
@@ -146,7 +161,7 @@ fn signed(alloc: Global, sign: Option<(Sign, Span)>, value: Value) -> Result<Val
                 tree,
             })
         }
-        (Some((_, span)), Basic::Boolean) => Err(Refused::Fault(fault(Code::Types, span))),
+        (Some((_, span)), _) => Err(Refused::Fault(fault(Code::Types, span))),
     }
 }
 
@@ -232,7 +247,7 @@ fn added_term(
     ensures { Judges (spec.added_term (spec.inner_at scope.now levels) scope.now left x.now) result }
 {
     let Some(operator) = add_operator(x.operator) else {
-        return Err(Refused::Fault(fault(Code::Token, x.span)));
+        return Err(not_followed());
     };
     let right = term(alloc, scope, levels, &x.term)?;
     match numbers(left.basic, right.basic, Basic::Integer) {
@@ -314,9 +329,9 @@ fn factor(alloc: Global, scope: &Block, levels: u32, f: &Factor) -> Result<Value
             None => Err(Refused::Fault(fault(Code::UnknownName, d.name.span))),
         },
         Factor::Parens(span, e) => nested(alloc, scope, levels, *span, e.get()),
-        Factor::Text(_, span) => Err(Refused::Fault(fault(Code::Token, *span))),
-        Factor::Call(d, _) => Err(Refused::Fault(fault(Code::Token, d.name.span))),
-        Factor::Not(span, _) => Err(Refused::Fault(fault(Code::Token, *span))),
+        Factor::Text(_, _) => Err(not_followed()),
+        Factor::Call(_, _) => Err(not_followed()),
+        Factor::Not(_, _) => Err(not_followed()),
     }
 }
 

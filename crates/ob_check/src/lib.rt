@@ -8,3 +8,6 @@ mod statement;
 
 pub use block::Entry;
 pub use module::check;
+
+#[cfg(test)]
+mod tests;

@@ -6,7 +6,7 @@ ghost use Rattle.ob_check.specs.Modules as spec;
 ghost use Rattle.ob_mean.specs.ModuleTree.{ModuleTree};
 
 use crate::block::{Block, Entry};
-use crate::expression::fault;
+use crate::expression::{fault, not_followed};
 use crate::statement::statements;
 use ob_base::{Code, Items, Refused, Text};
 use ob_mean::TypedModule;
@@ -59,7 +59,7 @@ fn imported(name: NamedModule, span: Span) -> Result<Entry, Refused>
 {
     match name {
         NamedModule::Out => Ok(Entry::Out),
-        NamedModule::In => Err(Refused::Fault(fault(Code::Token, span))),
+        NamedModule::In => Err(not_followed()),
         NamedModule::System => Err(Refused::Fault(fault(Code::LeftOut, span))),
         NamedModule::Other => Err(Refused::Fault(fault(Code::NotLoaded, span))),
     }
@@ -116,15 +116,15 @@ fn integer_type(scope: &Block, t: &TypeExpr) -> Result<(), Refused>
     match t {
         TypeExpr::Named(name) => {
             if !(name.second.is_none() && name.first.name.as_slice() == b"INTEGER".as_slice()) {
-                return Err(Refused::Fault(fault(Code::Token, name.first.span)));
+                return Err(not_followed());
             }
             if scope.find(&name.first.name).is_some() {
                 return Err(Refused::Fault(fault(Code::Types, name.first.span)));
             }
             Ok(())
         }
-        TypeExpr::Array(span, _, _) => Err(Refused::Fault(fault(Code::Token, *span))),
-        TypeExpr::Record(span, _) => Err(Refused::Fault(fault(Code::Token, *span))),
+        TypeExpr::Array(_, _, _) => Err(not_followed()),
+        TypeExpr::Record(_, _) => Err(not_followed()),
     }
 }
 
@@ -185,14 +185,14 @@ fn all_variables(alloc: Global, scope: Block, lists: &[TypedNames]) -> Result<De
 fn declarations(alloc: Global, scope: Block, d: &Declarations) -> Result<Declaring, Refused>
     ensures { Judges (spec.declarations_rule scope d.now) result }
 {
-    if let [constant, ..] = d.constants.as_slice() {
-        return Err(Refused::Fault(fault(Code::Token, constant.name.name.span)));
+    if !d.constants.as_slice().is_empty() {
+        return Err(not_followed());
     }
-    if let [named, ..] = d.types.as_slice() {
-        return Err(Refused::Fault(fault(Code::Token, named.name.name.span)));
+    if !d.types.as_slice().is_empty() {
+        return Err(not_followed());
     }
-    if let [procedure, ..] = d.procedures.as_slice() {
-        return Err(Refused::Fault(fault(Code::Token, procedure.name.name.span)));
+    if !d.procedures.as_slice().is_empty() {
+        return Err(not_followed());
     }
     all_variables(alloc, scope, d.variables.as_slice())
 }

@@ -8,7 +8,7 @@ ghost use Rattle.ob_check.specs.Rule.{Judges, through};
 ghost use Rattle.ob_check.specs.Statements as spec;
 
 use crate::block::{Block, Entry};
-use crate::expression::{expr, fault, open};
+use crate::expression::{START, expr, fault, not_followed, open};
 use ob_base::{Code, Items, Refused, Text};
 use ob_mean::tree::{TypedExpr, TypedStatement};
 use ob_parse::tree::{Branch, Designator, Expr, Selector, Statement};
@@ -21,7 +21,7 @@ use std::alloc::Global;
 pub enum OutName {
     Int,
     Ln,
-    /// One that is not admitted yet.
+    /// One that is not followed yet.
     Later,
 }
 
@@ -57,7 +57,7 @@ fn number(
     let value = expr(alloc, scope, levels, e)?;
     match value.basic {
         Basic::Integer => Ok(value.tree),
-        Basic::Boolean => Err(Refused::Fault(fault(Code::Types, span))),
+        _ => Err(Refused::Fault(fault(Code::Types, span))),
     }
 }
 
@@ -150,7 +150,7 @@ fn out_call(
     match name {
         OutName::Int => out_int(alloc, scope, levels, span, actuals),
         OutName::Ln => out_line(span, actuals),
-        OutName::Later => Err(Refused::Fault(fault(Code::Token, span))),
+        OutName::Later => Err(not_followed()),
     }
 }
 
@@ -228,17 +228,9 @@ fn guard(
     let value = expr(alloc, scope, levels, e)?;
     match value.basic {
         Basic::Boolean => Ok(value.tree),
-        Basic::Integer => Err(Refused::Fault(fault(Code::Types, span))),
+        _ => Err(Refused::Fault(fault(Code::Types, span))),
     }
 }
-
-/// Where a construct is refused whose first token has no place in the tree.
-const NOWHERE: Span = Span {
-    start: 0,
-    end: 0,
-    line: 1,
-    column: 1,
-};
 
 #[cycle(statement)]
 #[tactic(auto, unfolding(crate::specs::Statements::while_rule))]
@@ -253,11 +245,11 @@ fn while_loop(
 {
     match others {
         [] => {
-            let condition = guard(alloc, scope, levels, NOWHERE, first.guard.get())?;
+            let condition = guard(alloc, scope, levels, START, first.guard.get())?;
             let body = statements(alloc, scope, levels, first.body.as_slice())?;
             Ok(Some(TypedStatement::While(condition, body)))
         }
-        [_, ..] => Err(Refused::Fault(fault(Code::Token, NOWHERE))),
+        [_, ..] => Err(not_followed()),
     }
 }
 
@@ -282,7 +274,7 @@ fn statement(
             first,
             others.as_slice(),
         ),
-        _ => Err(Refused::Fault(fault(Code::Token, NOWHERE))),
+        _ => Err(not_followed()),
     }
 }
 
@@ -334,6 +326,6 @@ pub fn statements(
 ) -> Result<Items<TypedStatement>, Refused>
     ensures { Judges (spec.statements_at scope.now levels xs.now) result }
 {
-    let inside = open(levels, NOWHERE)?;
+    let inside = open(levels, START)?;
     sequence(alloc, scope, inside, xs)
 }

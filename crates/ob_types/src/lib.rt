@@ -1,9 +1,21 @@
-//! The types of Oberon-07.
+//! The types of Oberon-07, and the interfaces of modules.
 #![tactic(auto)]
 
-/// A basic type of the part of the language that is there so far.
-#[derive(Clone, Copy, Debug, PartialEq, Eq)]
-pub enum Basic {
-    Integer,
-    Boolean,
-}
+mod compatible;
+mod copies;
+mod exports;
+mod interface_writing;
+mod keyed;
+mod laws;
+mod size;
+mod structure;
+#[cfg(test)]
+mod tests;
+mod type_writing;
+
+pub use compatible::{assignable, same, string_assignable};
+pub use exports::{Constant, Exported, Formal, FormalKind, Object, Signature};
+pub use keyed::{Interface, interface_text};
+pub use laws::same_type_law;
+pub use size::{MAX_CELLS, MAX_LEVELS, is_admitted, levels, zero_size};
+pub use structure::{Basic, Field, ObType, RecordName, RecordType};

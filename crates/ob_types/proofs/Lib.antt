@@ -1,0 +1,4 @@
+pub mod Equations
+pub mod Numbers
+pub mod SameType
+pub mod TextEquations

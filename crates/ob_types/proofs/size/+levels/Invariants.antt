@@ -1,0 +1,7 @@
+use Rattle.std.proofs.Common.{◌≡◌, ◌≤◌, min, max, drop}
+use Rattle.ob_types.specs.Types as spec
+use Rattle.ob_types.proofs.size.+levels.Given as goal
+
+abbrev pub invariant-fields_levels-loop-field : goal.invariant-fields_levels-loop-field
+invariant-fields_levels-loop-field l =
+    (l.most ≤ 4294967295) × (min (spec.levels_in l.fields) 4294967295 ≡ min (max l.most (spec.levels_in (drop l.field-index l.fields))) 4294967295)

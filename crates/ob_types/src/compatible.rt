@@ -1,0 +1,110 @@
+//! Whether two types are the same, and what may be assigned.
+
+ghost use Rattle.std.specs.Prelude.{◌≡◌};
+ghost use Rattle.std.specs.Cmp.Lexicographic.{pointwise};
+ghost use Rattle.std.specs.Str.{bytes_eq};
+ghost use Rattle.ob_types.specs.Types as spec;
+
+use crate::structure::{Basic, Field, ObType, RecordName};
+use ob_base::Text;
+
+/// Whether two types are the same: basic types by name, arrays by length and element, open arrays by element, records by
+/// name and written-out structure.
+#[cycle(same)]
+pub fn same(left: &ObType, right: &ObType) -> bool
+    ensures { result ≡ spec.same left.now right.now }
+{
+    match (left, right) {
+        (ObType::Basic(x), ObType::Basic(y)) => x == y,
+        (ObType::Array(n, x), ObType::Array(m, y)) => *n == *m && same(x.get(), y.get()),
+        (ObType::Open(x), ObType::Open(y)) => same(x.get(), y.get()),
+        (ObType::Record(x), ObType::Record(y)) => {
+            same_record(&x.name, &y.name) && same_fields(x.fields.as_slice(), y.fields.as_slice())
+        }
+        _ => false,
+    }
+}
+
+#[cycle(same)]
+fn same_fields(left: &[Field], right: &[Field]) -> bool
+    ensures { result ≡ pointwise spec.same_field left.now right.now }
+{
+    if left.len() != right.len() {
+        return false;
+    }
+    for i in 0..left.len() {
+        if !same_field(&left[i], &right[i]) {
+            return false;
+        }
+    }
+    true
+}
+
+#[cycle(same)]
+fn same_field(left: &Field, right: &Field) -> bool
+    ensures { result ≡ spec.same_field left.now right.now }
+{
+    left.name.same(&right.name) && left.exported == right.exported && same(&left.of, &right.of)
+}
+
+fn same_record(left: &RecordName, right: &RecordName) -> bool
+    ensures { result ≡ spec.same_record left.now right.now }
+{
+    left.module_name.same(&right.module_name)
+        && same_names(left.enclosing.as_slice(), right.enclosing.as_slice())
+        && left.declared.same(&right.declared)
+        && left.before == right.before
+}
+
+fn same_names(left: &[Text], right: &[Text]) -> bool
+    ensures { result ≡ pointwise bytes_eq left.now right.now }
+{
+    if left.len() != right.len() {
+        return false;
+    }
+    for i in 0..left.len() {
+        if !left[i].same(&right[i]) {
+            return false;
+        }
+    }
+    true
+}
+
+fn is_number(of: &ObType) -> bool
+    ensures { result ≡ spec.is_number of.now }
+{
+    match of {
+        ObType::Basic(Basic::Integer | Basic::Byte) => true,
+        _ => false,
+    }
+}
+
+/// Whether a value of the type `from` may be assigned to a variable of the type `to`: the types are the same, or INTEGER and
+/// BYTE mixed. For a string see `string_assignable`.
+pub fn assignable(to: &ObType, from: &ObType) -> bool
+    ensures { result ≡ spec.assignable to.now from.now }
+{
+    same(to, from) || (is_number(to) && is_number(from))
+}
+
+fn is_char(of: &ObType) -> bool
+    ensures { result ≡ spec.is_char of.now }
+{
+    match of {
+        ObType::Basic(Basic::Char) => true,
+        _ => false,
+    }
+}
+
+/// Whether a string of so many characters may be assigned to a variable of the type `to`: one character to a CHAR, fewer than
+/// its elements to an array of CHAR, and any to an open array of CHAR, whose length is known when the assignment runs.
+pub fn string_assignable(to: &ObType, length: usize) -> bool
+    ensures { result ≡ spec.string_assignable to.now length }
+{
+    match to {
+        ObType::Basic(Basic::Char) => length == 1,
+        ObType::Array(size, element) => is_char(element.get()) && length < *size as usize,
+        ObType::Open(element) => is_char(element.get()),
+        _ => false,
+    }
+}

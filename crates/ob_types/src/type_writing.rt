@@ -1,0 +1,123 @@
+//! Types as text.
+
+ghost use Rattle.std.specs.Prelude.{◌≡◌, ◌++◌, string_bytes, OnOk};
+ghost use Rattle.std.specs.Fmt.{decimal};
+ghost use Rattle.ob_types.specs.InterfaceText as spec;
+
+use crate::structure::{Basic, Field, ObType, RecordName, RecordType};
+use itoa::Buffer;
+use ob_base::Text;
+use std::alloc::AllocError;
+
+/// Appends the characters of a name.
+pub fn put_name(output: &mut String, name: &Text) -> Result<(), AllocError>
+    ensures { OnOk result (string_bytes output.new ≡ string_bytes output.old ++ spec.name_text name.now) }
+{
+    for &c in name.as_slice() {
+        output.push(char::from(c))?;
+    }
+    Ok(())
+}
+
+fn basic_letter(of: Basic) -> &'static str
+    ensures { result.now ≡ spec.basic_text of }
+{
+    match of {
+        Basic::Integer => "I",
+        Basic::Boolean => "B",
+        Basic::Char => "C",
+        Basic::Byte => "Y",
+    }
+}
+
+/// Appends a number.
+pub fn put_number(output: &mut String, number: u32) -> Result<(), AllocError>
+    ensures { OnOk result (string_bytes output.new ≡ string_bytes output.old ++ decimal number) }
+{
+    let mut digits = Buffer::new();
+    output.push_str(digits.format(number))
+}
+
+/// Appends the letter of a basic type.
+pub fn put_basic(output: &mut String, of: Basic) -> Result<(), AllocError>
+    ensures { OnOk result (string_bytes output.new ≡ string_bytes output.old ++ spec.basic_text of) }
+{
+    output.push_str(basic_letter(of))
+}
+
+fn put_enclosing(output: &mut String, procedures: &[Text]) -> Result<(), AllocError>
+    ensures { OnOk result (string_bytes output.new ≡ string_bytes output.old ++ spec.enclosing_text procedures.now) }
+{
+    for procedure in procedures {
+        put_name(output, procedure)?;
+        output.push('.')?;
+    }
+    Ok(())
+}
+
+#[tactic(auto, unfolding(crate::specs::InterfaceText::record_name_text))]
+fn put_record_name(output: &mut String, name: &RecordName) -> Result<(), AllocError>
+    ensures { OnOk result (string_bytes output.new ≡ string_bytes output.old ++ spec.record_name_text name.now) }
+{
+    put_name(output, &name.module_name)?;
+    output.push('.')?;
+    put_enclosing(output, name.enclosing.as_slice())?;
+    put_name(output, &name.declared)?;
+    output.push('.')?;
+    put_number(output, name.before)
+}
+
+/// Appends a type.
+#[cycle(type_writing)]
+pub fn put_type(output: &mut String, of: &ObType) -> Result<(), AllocError>
+    ensures { OnOk result (string_bytes output.new ≡ string_bytes output.old ++ spec.type_text of.now) }
+{
+    match of {
+        ObType::Basic(basic) => put_basic(output, *basic),
+        ObType::Array(length, element) => {
+            output.push('A')?;
+            put_number(output, *length)?;
+            output.push(' ')?;
+            put_type(output, element.get())
+        }
+        ObType::Open(element) => {
+            output.push('O')?;
+            put_type(output, element.get())
+        }
+        ObType::Record(record) => put_record(output, record),
+    }
+}
+
+#[cycle(type_writing)]
+fn put_record(output: &mut String, record: &RecordType) -> Result<(), AllocError>
+    ensures { OnOk result (string_bytes output.new ≡ string_bytes output.old ++ spec.record_text record.now) }
+{
+    output.push('R')?;
+    put_record_name(output, &record.name)?;
+    output.push('(')?;
+    put_fields(output, record.fields.as_slice())?;
+    output.push(')')
+}
+
+#[cycle(type_writing)]
+fn put_fields(output: &mut String, fields: &[Field]) -> Result<(), AllocError>
+    ensures { OnOk result (string_bytes output.new ≡ string_bytes output.old ++ spec.all_fields_text fields.now) }
+{
+    for field in fields {
+        put_field(output, field)?;
+    }
+    Ok(())
+}
+
+#[cycle(type_writing)]
+fn put_field(output: &mut String, field: &Field) -> Result<(), AllocError>
+    ensures { OnOk result (string_bytes output.new ≡ string_bytes output.old ++ spec.field_text field.now) }
+{
+    put_name(output, &field.name)?;
+    if field.exported {
+        output.push('*')?;
+    }
+    output.push(':')?;
+    put_type(output, &field.of)?;
+    output.push(';')
+}
