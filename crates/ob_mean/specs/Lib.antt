@@ -3,3 +3,4 @@ pub mod Run
 pub mod Arithmetic
 pub mod Meaning
 pub mod InRange
+pub mod whole

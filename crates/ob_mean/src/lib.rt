@@ -4,6 +4,7 @@
 mod module;
 mod range;
 pub mod tree;
+pub mod whole;
 
 ghost use Rattle.std.specs.Prelude.{◌≡◌};
 

@@ -1,0 +1,137 @@
+-- Values, places, and the store of all variables (Wirth, The Programming Language Oberon, Oberon-07: variables, arrays and
+-- records, and what a VAR parameter stands for).
+use Rattle.std.specs.Prelude.{ℕ, zero, suc, ◌+◌, ℤ, pos, List, [], ◌∷◌, ◌++◌}
+
+-- A place in a store: the store itself, or a part of a place by its number there. A store has a part for each loaded
+-- module and one for each call that is open; those have their variables as parts, an array its elements, a record its fields.
+pub data Place : Type 0 where
+  Whole : Place
+  Part : Place → ℕ → Place
+
+-- A value of basic type, which is a number (a truth value 1 or 0, a character its number); the place that a parameter
+-- names, of an open array with its length; or a row of values, which is nothing, or a value beside a row.
+pub data Value : Type 0 where
+  Cell : ℤ → Value
+  Named : Place → Value
+  Open : Place → ℕ → Value
+  Nothing : Value
+  Beside : Value → Value → Value
+
+-- ---- rows
+
+-- how many values stand in a row: of an array, its length
+abbrev pub count : Value → ℕ
+count (Cell z) = 0
+count (Named p) = 0
+count (Open p k) = 0
+count Nothing = 0
+count (Beside v rest) = suc (count rest)
+
+abbrev pub item : Value → ℕ → Value
+item (Cell z) i = Nothing
+item (Named p) i = Nothing
+item (Open p k) i = Nothing
+item Nothing i = Nothing
+item (Beside v rest) zero = v
+item (Beside v rest) (suc i) = item rest i
+
+abbrev pub with_item : Value → ℕ → Value → Value
+with_item (Cell z) i x = Cell z
+with_item (Named p) i x = Named p
+with_item (Open p k) i x = Open p k
+with_item Nothing i x = Nothing
+with_item (Beside v rest) zero x = Beside x rest
+with_item (Beside v rest) (suc i) x = Beside v (with_item rest i x)
+
+-- one row after another
+abbrev pub append : Value → Value → Value
+append (Cell z) t = t
+append (Named p) t = t
+append (Open p k) t = t
+append Nothing t = t
+append (Beside v rest) t = Beside v (append rest t)
+
+-- the first values of a row
+abbrev pub first : ℕ → Value → Value
+first zero v = Nothing
+first (suc k) (Cell z) = Nothing
+first (suc k) (Named p) = Nothing
+first (suc k) (Open p n) = Nothing
+first (suc k) Nothing = Nothing
+first (suc k) (Beside v rest) = Beside v (first k rest)
+
+-- a row of equal values
+abbrev pub row : ℕ → Value → Value
+row zero v = Nothing
+row (suc n) v = Beside v (row n v)
+
+-- ---- what stands at a place
+
+abbrev pub get : Value → Place → Value
+get s Whole = s
+get s (Part p i) = item (get s p) i
+
+-- the store with another value at a place
+abbrev pub set : Value → Place → Value → Value
+set s Whole v = v
+set s (Part p i) v = set s p (with_item (get s p) i v)
+
+-- the number that a cell holds
+abbrev pub number : Value → ℤ
+number (Cell z) = z
+number (Named p) = pos 0
+number (Open p k) = pos 0
+number Nothing = pos 0
+number (Beside v rest) = pos 0
+
+-- the place that a parameter names
+abbrev pub named : Value → Place
+named (Cell z) = Whole
+named (Named p) = p
+named (Open p k) = p
+named Nothing = Whole
+named (Beside v rest) = Whole
+
+-- ---- the picture of a store as one row of cells, which is what a machine keeps
+
+-- how many cells a value takes: the name of an open array has its length beside it
+abbrev pub size : Value → ℕ
+size (Cell z) = 1
+size (Named p) = 1
+size (Open p k) = 2
+size Nothing = 0
+size (Beside v rest) = size v + size rest
+
+-- how many cells stand before an item
+abbrev pub before : Value → ℕ → ℕ
+before (Cell z) i = 0
+before (Named p) i = 0
+before (Open p k) i = 0
+before Nothing i = 0
+before (Beside v rest) zero = 0
+before (Beside v rest) (suc i) = size v + before rest i
+
+-- the address of a place
+abbrev pub offset : Value → Place → ℕ
+offset s Whole = 0
+offset s (Part p i) = offset s p + before (get s p) i
+
+-- the value with each number 0, which is what addresses depend on, and what no assignment changes
+abbrev pub shape : Value → Value
+shape (Cell z) = Cell (pos 0)
+shape (Named p) = Named p
+shape (Open p k) = Open p k
+shape Nothing = Nothing
+shape (Beside v rest) = Beside (shape v) (shape rest)
+
+-- the cells of a value, where places have these addresses
+abbrev pub cells : (Place → ℕ) → Value → List ℤ
+cells f (Cell z) = z ∷ []
+cells f (Named p) = pos (f p) ∷ []
+cells f (Open p k) = pos (f p) ∷ pos k ∷ []
+cells f Nothing = []
+cells f (Beside v rest) = cells f v ++ cells f rest
+
+-- all variables as one row of cells
+abbrev pub image : Value → List ℤ
+image s = cells (offset (shape s)) s

@@ -1,0 +1,22 @@
+//! The whole language, without real numbers, sets, pointers and the extension of records: its typed trees. Every name is
+//! resolved, every type has been checked, and each line that a trap names is kept. What the trees mean stands in the
+//! definitions of this crate.
+//!
+//! A list of any length in a text is a list in its tree, so that no tree is deeper than its text nests.
+
+pub mod expression;
+pub mod module;
+pub mod operator;
+pub mod outcome;
+pub mod shape;
+pub mod statement;
+
+pub use expression::{Argument, Callee, Designator, Operation, TypedExpr, Variable};
+pub use module::{Loaded, ModuleVariable, Parameter, TypedModule, TypedProcedure};
+pub use operator::{Operator, Relation, UnaryOperator};
+pub use outcome::{Outcome, TrapKind, TurnKind};
+pub use shape::Shape;
+pub use statement::{
+    Action, Adjustment, Branch, CaseArm, ForHead, InputCall, LabelRange, OutputCall, Reader,
+    TypedStatement,
+};
