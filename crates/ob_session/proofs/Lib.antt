@@ -1,0 +1,9 @@
+pub mod Courses
+pub mod Reading
+pub mod Control
+pub mod Expressions
+pub mod Statements
+pub mod Programs
+pub mod Cells
+pub mod Links
+pub mod Rows

@@ -1,0 +1,5 @@
+pub mod Session
+pub mod Links
+pub mod Cells
+pub mod Laws
+pub mod Rows
