@@ -7,3 +7,4 @@ pub mod Programs
 pub mod Cells
 pub mod Links
 pub mod Rows
+pub mod Loads

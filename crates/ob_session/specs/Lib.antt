@@ -3,3 +3,4 @@ pub mod Links
 pub mod Cells
 pub mod Laws
 pub mod Rows
+pub mod Loads

@@ -1,6 +1,7 @@
 //! Laws of the definitions.
 
 ghost use Rattle.ob_session.specs.Laws.{EachIsLawful, EachIsFed};
+ghost use Rattle.ob_session.specs.Loads.{EachLoads};
 ghost use Rattle.ob_session.specs.Rows.{WorkedRows};
 ghost use Rattle.ob_session.specs.Links.{EachLinksExactly};
 
@@ -26,4 +27,10 @@ pub fn links_law()
 /// What small modules and commands come to, worked by hand.
 pub fn rows_law()
     ensures { WorkedRows }
+{}
+
+/// A module that is loaded is found by its name, with its variables at zero. Every other module is found as before, keeps its
+/// place, and keeps its variables.
+pub fn loads_law()
+    ensures { EachLoads }
 {}

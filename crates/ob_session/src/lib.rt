@@ -3,4 +3,4 @@
 
 mod laws;
 
-pub use laws::{fed_law, lawful_law, links_law, rows_law};
+pub use laws::{fed_law, lawful_law, links_law, loads_law, rows_law};
