@@ -151,11 +151,23 @@ fn records_are_the_same_by_name_and_structure(rt: HostRuntime) -> Result<(), Fai
     assert!(rt; same(&one, &record_of_one(alloc, b"a", false)?));
     assert!(rt; !same(&one, &record_of_one(alloc, b"b", false)?));
     assert!(rt; !same(&one, &record_of_one(alloc, b"a", true)?));
+    assert!(rt; same(&one, &one.copy(alloc)?));
+    Ok(())
+}
+
+#[test]
+fn names_of_records_are_compared(rt: HostRuntime) -> Result<(), Fail> {
+    let alloc = rt.alloc();
     let empty = record(alloc, b"N", 0, Items::new(alloc))?;
-    assert!(rt; !same(&one, &empty));
+    assert!(rt; !same(&record_of_one(alloc, b"a", false)?, &empty));
     assert!(rt; !same(&empty, &record(alloc, b"N", 1, Items::new(alloc))?));
     assert!(rt; !same(&empty, &record(alloc, b"M", 0, Items::new(alloc))?));
-    assert!(rt; same(&one, &one.copy(alloc)?));
+    Ok(())
+}
+
+#[test]
+fn arrays_are_the_same_by_length_and_element(rt: HostRuntime) -> Result<(), Fail> {
+    let alloc = rt.alloc();
     assert!(rt; !same(&array(alloc, 2, integer())?, &array(alloc, 3, integer())?));
     assert!(rt; !same(&open(alloc, integer())?, &array(alloc, 3, integer())?));
     Ok(())

@@ -89,13 +89,13 @@ pub fn put_type(output: &mut String, of: &ObType) -> Result<(), AllocError>
 }
 
 #[cycle(type_writing)]
-fn put_record(output: &mut String, record: &RecordType) -> Result<(), AllocError>
-    ensures { OnOk result (string_bytes output.new ≡ string_bytes output.old ++ spec.record_text record.now) }
+fn put_record(output: &mut String, of: &RecordType) -> Result<(), AllocError>
+    ensures { OnOk result (string_bytes output.new ≡ string_bytes output.old ++ spec.record_text of.now) }
 {
     output.push('R')?;
-    put_record_name(output, &record.name)?;
+    put_record_name(output, &of.name)?;
     output.push('(')?;
-    put_fields(output, record.fields.as_slice())?;
+    put_fields(output, of.fields.as_slice())?;
     output.push(')')
 }
 

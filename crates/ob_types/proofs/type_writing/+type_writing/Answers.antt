@@ -7,7 +7,7 @@ use Rattle.ob_types.proofs.type_writing.+type_writing.Goals as goal
 pub put_record-returns : goal.put_record-returns
 put_record-returns t c =
     let P : List ℕ → Type 0 = λ l. OnOk c.push-3.result (string_bytes c.push-3.new.self ≡ string_bytes c.args.output.now ++ l) in
-    subst P (sym (text_of_record c.args.record.now)) (search (rules, IfOk-equal, append_assoc))
+    subst P (sym (text_of_record c.args.of.now)) (search (rules, IfOk-equal, append_assoc))
 
 pub put_type-returns-in_ok-push-in-Array-2 : goal.put_type-returns-in_ok-push-in-Array-2
 put_type-returns-in_ok-push-in-Array-2 t c =

@@ -1,0 +1,5 @@
+pub mod Paths
+pub mod Places
+pub mod Shelves
+pub mod Memory
+pub mod MemoryShelves

@@ -1,0 +1,19 @@
+//! Files and folders under one root: a map from paths to items, in memory or in a folder of the system.
+#![tactic(auto)]
+
+mod file;
+mod item;
+mod memory;
+mod path;
+mod place;
+mod shelf;
+mod system;
+
+pub use file::FileShelf;
+pub use item::{Bytes, Item, Name, Names, ShelfRefusal};
+pub use memory::MemoryShelf;
+pub use path::is_path;
+pub use shelf::Shelf;
+
+#[cfg(test)]
+mod tests;

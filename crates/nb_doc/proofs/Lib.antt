@@ -1,0 +1,10 @@
+pub mod Among
+pub mod Distinct
+pub mod Free
+pub mod Passes
+pub mod Rows
+pub mod LineEnds
+pub mod Joining
+pub mod Trailing
+pub mod Again
+pub mod Law

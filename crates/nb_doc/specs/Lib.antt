@@ -1,0 +1,10 @@
+pub mod Steps
+pub mod Fields
+pub mod Ids
+pub mod Names
+pub mod Reading
+pub mod Writing
+pub mod OutputRow
+pub mod Building
+pub mod Documents
+pub mod TextForms

@@ -1,0 +1,30 @@
+//! Notebook documents ("The Jupyter notebook format", nbformat 4.5): read from texts of 4.0 to 4.5, and written.
+#![tactic(auto)]
+
+mod building;
+mod draft;
+mod fault;
+mod fields;
+mod ids;
+mod lines;
+mod listed;
+mod names;
+mod notebook;
+mod output_fields;
+mod output_row;
+mod raising;
+mod reading;
+mod row;
+mod version;
+mod writing;
+
+pub use fault::{NbBad, NbFault, number_of};
+pub use ids::is_allowed_id;
+pub use listed::Listed;
+pub use names::Names;
+pub use notebook::{Cell, Content, Execution, Notebook, Output};
+pub use reading::read_notebook;
+pub use writing::write_notebook;
+
+#[cfg(test)]
+mod tests;

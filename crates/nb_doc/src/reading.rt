@@ -1,0 +1,63 @@
+//! Reading notebooks.
+
+ghost use Rattle.std.specs.Prelude.{◌≡◌, false, Ok, IfOk};
+ghost use Rattle.serde_json.specs.View.{view};
+ghost use Rattle.serde_json.specs.Written.{has_float};
+ghost use Rattle.json_form.specs.Forms.{Gives};
+ghost use Rattle.nb_doc.specs.Steps.{Answers};
+ghost use Rattle.nb_doc.specs.declared.notebook.Notebook.{Notebook};
+ghost use Rattle.nb_doc.specs.TextForms.{IsNotebookText};
+ghost use Rattle.nb_doc.specs.Reading.{json_at, notebook_of, notebook_at};
+
+use crate::fault::NbBad;
+use crate::fields::read_drafts;
+use crate::ids::read_ids;
+use crate::notebook::Notebook;
+use crate::raising::raise_cells;
+use crate::version::read_version;
+use json_form::{Bad, Json};
+use serde_json::Value;
+use std::alloc::Global;
+
+/// The notebook that a text is, or its first fault, in the order of `NbFault`. A text of version 4.0 to 4.4 is
+/// raised to 4.5: a cell that has no id gets `run-` and the least number from 1 that no cell of the text has and no
+/// earlier cell got. Fields that have no name in the format are dropped.
+pub fn read_notebook(alloc: Global, text: &[u8]) -> Result<Notebook, NbBad>
+    // What is read is the text's notebook.
+    ensures found { IfOk result (IsNotebookText text.now) }
+    // A text that is a notebook is read, unless memory runs out.
+    ensures only { (n : Notebook) → IsNotebookText text.now n → Answers result (Ok n) }
+    // Which fault it is.
+    ensures exact { Answers result (notebook_at text.now) }
+{
+    notebook_in(alloc, text)
+}
+
+#[tactic(auto, using(crate::proofs::Passes::passes_fault), unfolding(crate::specs::Reading::notebook_at))]
+fn notebook_in(alloc: Global, text: &[u8]) -> Result<Notebook, NbBad>
+    ensures { Answers result (notebook_at text.now) }
+{
+    let json = read_json(alloc, text)?;
+    notebook(alloc, json.value())
+}
+
+#[tactic(auto, unfolding(crate::specs::Reading::json_at))]
+fn read_json(alloc: Global, text: &[u8]) -> Result<Json, Bad>
+    ensures { Gives result (json_at text.now) }
+{
+    Json::read_bytes(alloc, text)
+}
+
+#[tactic(auto, using(crate::proofs::Passes::passes_fault, crate::proofs::Passes::refuses_later), unfolding(crate::specs::Reading::notebook_of))]
+fn notebook(alloc: Global, value: &Value) -> Result<Notebook, NbBad>
+    requires { has_float (view value.now) ≡ false }
+    ensures { Answers result (notebook_of (view value.now)) }
+{
+    let age = read_version(value)?;
+    let drafts = read_drafts(alloc, age, value)?;
+    let ids = read_ids(alloc, drafts.cells.as_slice())?;
+    Ok(Notebook {
+        cells: raise_cells(alloc, drafts.cells, ids)?,
+        metadata: drafts.metadata,
+    })
+}

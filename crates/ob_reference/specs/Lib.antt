@@ -1,0 +1,6 @@
+pub mod Computing
+pub mod Kept
+pub mod States
+pub mod Lists
+pub mod Branches
+pub mod Answers

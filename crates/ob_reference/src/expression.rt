@@ -1,0 +1,231 @@
+//! Expressions and places.
+
+ghost use Rattle.std.specs.Prelude.{◌≡◌, List, pos, IfOk, MatchResult};
+ghost use Rattle.ob_mean.specs.whole.Values.{Part, count, get};
+ghost use Rattle.ob_mean.specs.declared.whole.module.Loaded.{Loaded};
+ghost use Rattle.ob_mean.specs.declared.whole.outcome.Outcome.TheVariants.{Trapped};
+ghost use Rattle.ob_reference.specs.declared.stop.Stop.TheVariants.{Stands};
+ghost use Rattle.ob_mean.specs.whole.Expressions as spec;
+ghost use Rattle.ob_reference.specs.Kept.{place_of};
+ghost use Rattle.ob_reference.specs.States.{Follows, scope_in, supply_in, world_in};
+ghost use Rattle.ob_reference.specs.Lists.{operation_pieces, value_pieces};
+
+use crate::arithmetic::{apply, apply_one, truth};
+use crate::state::{At, State};
+use crate::stop::{NoAnswer, Stop};
+use crate::text::texts_relate;
+use crate::variable::{count_at, number_at, text_at, variable_path};
+use ob_mean::whole::{Designator, Loaded, Operation, Outcome, TrapKind, TypedExpr};
+use std::alloc::Global;
+
+/// The value of an expression.
+#[cycle(evaluation)]
+#[tactic(auto, using(crate::proofs::Trees::unary_is, crate::proofs::Trees::chain_is, crate::proofs::Trees::every_is, crate::proofs::Trees::either_is))]
+pub(crate) fn value(
+    alloc: Global,
+    program: &[Loaded],
+    at: At,
+    room: u32,
+    state: &mut State,
+    e: &TypedExpr,
+) -> Result<i32, Stop>
+    ensures { Follows (λ v. v) result state.new (spec.value_of (scope_in program.now at) e.now (supply_in state.old) (world_in state.old)) }
+{
+    if room == 0 {
+        return Err(Stop::Unanswered);
+    }
+    match e {
+        TypedExpr::Constant(number) => Ok(*number),
+        TypedExpr::Read(d) => {
+            let path = place(alloc, program, at, room - 1, state, d)?;
+            Ok(number_at(&state.store, &path))
+        }
+        TypedExpr::InputDone => Ok(truth(state.input.is_done())),
+        TypedExpr::Unary(operator, line, operand) => {
+            let x = value(alloc, program, at, room - 1, state, operand.get())?;
+            finish(at.home, *line, apply_one(*operator, x))
+        }
+        TypedExpr::Chain(first, others) => {
+            let x = value(alloc, program, at, room - 1, state, first.get())?;
+            chain(alloc, program, at, room - 1, state, x, others.as_slice())
+        }
+        TypedExpr::Every(all) => every(alloc, program, at, room - 1, state, all.as_slice()),
+        TypedExpr::Either(all) => either(alloc, program, at, room - 1, state, all.as_slice()),
+        TypedExpr::Texts(relation, first, second) => {
+            let first = place(alloc, program, at, room - 1, state, first)?;
+            let second = place(alloc, program, at, room - 1, state, second)?;
+            let one = text_at(alloc, &state.store, &first)?;
+            let other = text_at(alloc, &state.store, &second)?;
+            Ok(truth(texts_relate(*relation, &one, &other)))
+        }
+        TypedExpr::Length(d) => {
+            let path = place(alloc, program, at, room - 1, state, d)?;
+            let count = count_at(&state.store, &path)?;
+            Ok(length(count)?)
+        }
+        TypedExpr::Function(_, _, _) => Err(Stop::Unanswered),
+    }
+}
+
+/// A computed number, or the trap in this line.
+fn finish(home: usize, line: usize, computed: Result<i32, TrapKind>) -> Result<i32, Stop>
+    ensures { MatchResult computed (λ v. result ≡ Ok v) (λ kind. result ≡ Err (Stands (Trapped kind home line))) }
+{
+    match computed {
+        Ok(number) => Ok(number),
+        Err(kind) => Err(Stop::Stands(Outcome::Trapped(kind, home, line))),
+    }
+}
+
+fn length(count: usize) -> Result<i32, NoAnswer>
+    ensures { IfOk result (λ v. v ≡ pos count) }
+{
+    match i32::try_from(count) {
+        Ok(number) => Ok(number),
+        Err(_) => Err(NoAnswer),
+    }
+}
+
+/// An operand, and operators with their second operands.
+#[cycle(evaluation)]
+#[tactic(auto, using(crate::proofs::Trees::chain_gives))]
+fn chain(
+    alloc: Global,
+    program: &[Loaded],
+    at: At,
+    room: u32,
+    state: &mut State,
+    first: i32,
+    others: &[Operation],
+) -> Result<i32, Stop>
+    ensures { Follows (λ v. v) result state.new (spec.chained (operation_pieces (scope_in program.now at) others.now) first (supply_in state.old) (world_in state.old)) }
+{
+    if room == 0 {
+        return Err(Stop::Unanswered);
+    }
+    match others {
+        [] => Ok(first),
+        [operation, rest @ ..] => {
+            let second = value(alloc, program, at, room - 1, state, &operation.operand)?;
+            match apply(operation.operator, first, second) {
+                Ok(number) => chain(alloc, program, at, room - 1, state, number, rest),
+                Err(kind) => { Err(Stop::Stands(Outcome::Trapped(kind, at.home, operation.line))) }
+            }
+        }
+    }
+}
+
+/// Whether each holds.
+#[cycle(evaluation)]
+fn every(
+    alloc: Global,
+    program: &[Loaded],
+    at: At,
+    room: u32,
+    state: &mut State,
+    all: &[TypedExpr],
+) -> Result<i32, Stop>
+    ensures { Follows (λ v. v) result state.new (spec.every (value_pieces (scope_in program.now at) all.now) (supply_in state.old) (world_in state.old)) }
+{
+    if room == 0 {
+        return Err(Stop::Unanswered);
+    }
+    match all {
+        [] => Ok(1),
+        [first, rest @ ..] => {
+            let holds = value(alloc, program, at, room - 1, state, first)?;
+            if holds == 0 {
+                Ok(0)
+            } else {
+                every(alloc, program, at, room - 1, state, rest)
+            }
+        }
+    }
+}
+
+/// Whether one of them holds.
+#[cycle(evaluation)]
+fn either(
+    alloc: Global,
+    program: &[Loaded],
+    at: At,
+    room: u32,
+    state: &mut State,
+    all: &[TypedExpr],
+) -> Result<i32, Stop>
+    ensures { Follows (λ v. v) result state.new (spec.either (value_pieces (scope_in program.now at) all.now) (supply_in state.old) (world_in state.old)) }
+{
+    if room == 0 {
+        return Err(Stop::Unanswered);
+    }
+    match all {
+        [] => Ok(0),
+        [first, rest @ ..] => {
+            let holds = value(alloc, program, at, room - 1, state, first)?;
+            if holds == 0 {
+                either(alloc, program, at, room - 1, state, rest)
+            } else {
+                Ok(1)
+            }
+        }
+    }
+}
+
+/// The element of an array.
+fn element(
+    at: At,
+    state: &State,
+    array: Vec<usize>,
+    index: i32,
+    line: usize,
+) -> Result<Vec<usize>, Stop>
+    ensures { (program : List Loaded) → Follows (λ path. place_of path.items) result state.now (spec.element (scope_in program at) (spec.index_in index (count (get (world_in state.now).store (place_of array.items)))) (place_of array.items) line (supply_in state.now) (world_in state.now)) }
+{
+    let count = count_at(&state.store, &array)?;
+    if index < 0 || index as usize >= count {
+        return Err(Stop::Stands(Outcome::Trapped(TrapKind::Index, at.home, line)));
+    }
+    Ok(part(array, index as usize)?)
+}
+
+/// A part of a place.
+#[tactic(auto, using(crate::proofs::Paths::part_of))]
+fn part(whole: Vec<usize>, number: usize) -> Result<Vec<usize>, NoAnswer>
+    ensures { IfOk result (λ path. place_of path.items ≡ Part (place_of whole.items) number) }
+{
+    let mut path = whole;
+    path.push(number)?;
+    Ok(path)
+}
+
+/// The place of a variable or a part of one.
+#[cycle(evaluation)]
+#[tactic(auto, using(crate::proofs::Trees::element_is, crate::proofs::Trees::field_is))]
+pub(crate) fn place(
+    alloc: Global,
+    program: &[Loaded],
+    at: At,
+    room: u32,
+    state: &mut State,
+    d: &Designator,
+) -> Result<Vec<usize>, Stop>
+    ensures { Follows (λ path. place_of path.items) result state.new (spec.place_of (scope_in program.now at) d.now (supply_in state.old) (world_in state.old)) }
+{
+    if room == 0 {
+        return Err(Stop::Unanswered);
+    }
+    match d {
+        Designator::Whole(variable) => {
+            Ok(variable_path(alloc, program, at, &state.store, *variable)?)
+        }
+        Designator::Element(array, line, index) => {
+            let array = place(alloc, program, at, room - 1, state, array.get())?;
+            let index = value(alloc, program, at, room - 1, state, index.get())?;
+            element(at, state, array, index, *line)
+        }
+        Designator::Field(record, number) => {
+            let whole = place(alloc, program, at, room - 1, state, record.get())?;
+            Ok(part(whole, *number)?)
+        }
+    }
+}

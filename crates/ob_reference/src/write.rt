@@ -1,0 +1,54 @@
+//! What Out writes.
+
+ghost use Rattle.std.specs.Prelude.{◌≡◌, OnOk};
+ghost use Rattle.ob_inout.specs.Writing.{char_text, int_text, line_end, string_text};
+ghost use Rattle.ob_mean.specs.whole.Runs.{write};
+ghost use Rattle.ob_mean.specs.whole.Texts as texts;
+ghost use Rattle.ob_mean.specs.whole.Values.{get};
+ghost use Rattle.ob_reference.specs.Kept.{place_of};
+ghost use Rattle.ob_reference.specs.States.{supply_in, world_in};
+
+use crate::row::natural;
+use crate::state::State;
+use crate::stop::NoAnswer;
+use crate::variable::characters_at;
+use ob_inout::{put_char, put_int, put_line_end, put_string};
+use std::alloc::Global;
+
+/// The character of a number.
+pub(crate) fn write_char(state: &mut State, number: i32) -> Result<(), NoAnswer>
+    ensures world { OnOk result (world_in state.new ≡ write (world_in state.old) (char_text (texts.natural number))) }
+    ensures supply { OnOk result (supply_in state.new ≡ supply_in state.old) }
+{
+    let c = natural(number)?;
+    put_char(&mut state.written, c)?;
+    Ok(())
+}
+
+/// A number in a field.
+pub(crate) fn write_int(state: &mut State, number: i32, width: i32) -> Result<(), NoAnswer>
+    ensures world { OnOk result (world_in state.new ≡ write (world_in state.old) (int_text number width)) }
+    ensures supply { OnOk result (supply_in state.new ≡ supply_in state.old) }
+{
+    put_int(&mut state.written, number, width)?;
+    Ok(())
+}
+
+/// The text at a place.
+pub(crate) fn write_text(alloc: Global, state: &mut State, path: &[usize]) -> Result<(), NoAnswer>
+    ensures world { OnOk result (world_in state.new ≡ write (world_in state.old) (string_text (texts.characters (get (world_in state.old).store (place_of path.now))))) }
+    ensures supply { OnOk result (supply_in state.new ≡ supply_in state.old) }
+{
+    let characters = characters_at(alloc, &state.store, path)?;
+    put_string(&mut state.written, &characters)?;
+    Ok(())
+}
+
+/// The end of a line.
+pub(crate) fn write_end(state: &mut State) -> Result<(), NoAnswer>
+    ensures world { OnOk result (world_in state.new ≡ write (world_in state.old) line_end) }
+    ensures supply { OnOk result (supply_in state.new ≡ supply_in state.old) }
+{
+    put_line_end(&mut state.written)?;
+    Ok(())
+}
