@@ -1,4 +1,4 @@
--- The worked rows, by computing.
+-- The worked cells, by computing.
 use Rattle.std.proofs.Common.{refl}
 use Rattle.std.specs.Char.{encode_utf8}
 use Rattle.std.specs.Fmt.{digits}

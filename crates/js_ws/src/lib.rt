@@ -1,0 +1,9 @@
+//! The handshake of WebSockets (RFC 6455, section 4.2).
+#![tactic(auto)]
+
+mod accept;
+
+pub use accept::accept_value;
+
+#[cfg(test)]
+mod tests;
