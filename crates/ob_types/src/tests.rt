@@ -66,42 +66,61 @@ fn deep(alloc: Global, levels: u32) -> Result<ObType, AllocError> {
     Ok(of)
 }
 
-#[test]
-fn the_text_of_a_small_module(rt: HostRuntime) -> Result<(), Fail> {
-    let alloc = rt.alloc();
+// Adds an exported object.
+fn add(
+    alloc: Global,
+    exports: &mut Items<Exported>,
+    name: &[u8],
+    object: Object,
+) -> Result<(), AllocError> {
+    exports.push(exported(alloc, name, object)?)
+}
+
+// What a small module exports.
+fn small_exports(alloc: Global) -> Result<Items<Exported>, AllocError> {
     let mut exports = Items::new(alloc);
-    let named = Object::TypeName(record_of_one(alloc, b"a", false)?);
-    exports.push(exported(alloc, b"T", named)?)?;
-    let variable = Object::Variable(record_of_one(alloc, b"a", false)?);
-    exports.push(exported(alloc, b"t", variable)?)?;
-    exports.push(exported(alloc, b"v", Object::Variable(integer()))?)?;
+    add(
+        alloc,
+        &mut exports,
+        b"T",
+        Object::TypeName(record_of_one(alloc, b"a", false)?),
+    )?;
+    add(
+        alloc,
+        &mut exports,
+        b"t",
+        Object::Variable(record_of_one(alloc, b"a", false)?),
+    )?;
+    add(alloc, &mut exports, b"v", Object::Variable(integer()))?;
     let signature = Signature {
         formals: Items::new(alloc),
         result: None,
     };
-    exports.push(exported(alloc, b"Inc", Object::Procedure(signature))?)?;
-    let interface = Interface::new(alloc, text(alloc, b"N")?, exports)?;
-    let wanted = "module N\ntype T RN.T.0(a:I;)\nvar t RN.T.0(a:I;)\nvar v I\nproc Inc()\n";
-    assert_eq!(rt; interface.key(), wanted);
-    assert_eq!(rt; interface_text(alloc, &interface)?.as_str(), wanted);
-    assert_eq!(rt; interface.name().as_slice(), b"N".as_slice());
-    assert_eq!(rt; interface.exports().len(), 4);
-    Ok(())
+    add(alloc, &mut exports, b"Inc", Object::Procedure(signature))?;
+    Ok(exports)
 }
 
-#[test]
-fn a_line_for_each_form(rt: HostRuntime) -> Result<(), Fail> {
-    let alloc = rt.alloc();
+// Whether the key and the text of a module with these exports are this.
+fn has_text(
+    alloc: Global,
+    name: &[u8],
+    exports: Items<Exported>,
+    wanted: &str,
+) -> Result<bool, AllocError> {
+    let interface = Interface::new(alloc, text(alloc, name)?, exports)?;
+    let written = interface_text(alloc, &interface)?;
+    Ok(interface.key() == wanted && written.as_str() == wanted)
+}
+
+// The same of a module M with one export.
+fn has_line(alloc: Global, name: &[u8], object: Object, wanted: &str) -> Result<bool, AllocError> {
     let mut exports = Items::new(alloc);
-    exports.push(exported(alloc, b"k", Object::Constant(Constant::Integer(-5)))?)?;
-    exports.push(exported(alloc, b"b", Object::Constant(Constant::Boolean(true)))?)?;
-    exports.push(exported(alloc, b"c", Object::Constant(Constant::Char(65)))?)?;
-    let word = Constant::Text(text(alloc, b"a\xFFZ")?);
-    exports.push(exported(alloc, b"s", Object::Constant(word))?)?;
-    let rows = array(alloc, 2, array(alloc, 3, ObType::Basic(Basic::Byte))?)?;
-    exports.push(exported(alloc, b"rows", Object::TypeName(rows))?)?;
-    let marked = record_of_one(alloc, b"f", true)?;
-    exports.push(exported(alloc, b"r", Object::Variable(marked))?)?;
+    add(alloc, &mut exports, name, object)?;
+    has_text(alloc, b"M", exports, wanted)
+}
+
+// `PROCEDURE (VAR a: INTEGER; b: ARRAY OF CHAR): BOOLEAN`.
+fn two_formals(alloc: Global) -> Result<Signature, AllocError> {
     let mut formals = Items::new(alloc);
     formals.push(Formal {
         kind: FormalKind::Variable,
@@ -111,106 +130,166 @@ fn a_line_for_each_form(rt: HostRuntime) -> Result<(), Fail> {
         kind: FormalKind::Value,
         of: open(alloc, ObType::Basic(Basic::Char))?,
     })?;
-    let signature = Signature {
+    Ok(Signature {
         formals,
         result: Some(Basic::Boolean),
-    };
-    exports.push(exported(alloc, b"P", Object::Procedure(signature))?)?;
-    let interface = Interface::new(alloc, text(alloc, b"M")?, exports)?;
-    let wanted =
-        "module M\nconst k I -5\nconst b B 1\nconst c C 65\nconst s S 61ff5a\ntype rows A2 A3 Y\nvar r RN.T.0(f*:I;)\nproc P(vI;pOC;):B\n";
-    assert_eq!(rt; interface.key(), wanted);
+    })
+}
+
+#[test]
+fn the_text_of_a_small_module(rt: HostRuntime) -> Result<(), Fail> {
+    let alloc = rt.alloc();
+    let wanted = "module N\ntype T RN.T.0(a:I;)\nvar t RN.T.0(a:I;)\nvar v I\nproc Inc()\n";
+    assert!(rt; has_text(alloc, b"N", small_exports(alloc)?, wanted)?);
     Ok(())
+}
+
+#[test]
+fn lines_of_constants(rt: HostRuntime) -> Result<(), Fail> {
+    let alloc = rt.alloc();
+    let number = Object::Constant(Constant::Integer(-5));
+    assert!(rt; has_line(alloc, b"k", number, "module M\nconst k I -5\n")?);
+    let truth = Object::Constant(Constant::Boolean(true));
+    assert!(rt; has_line(alloc, b"b", truth, "module M\nconst b B 1\n")?);
+    let character = Object::Constant(Constant::Char(65));
+    assert!(rt; has_line(alloc, b"c", character, "module M\nconst c C 65\n")?);
+    let word = Object::Constant(Constant::Text(text(alloc, b"a\xFFZ")?));
+    assert!(rt; has_line(alloc, b"s", word, "module M\nconst s S 61ff5a\n")?);
+    Ok(())
+}
+
+#[test]
+fn lines_of_types_and_procedures(rt: HostRuntime) -> Result<(), Fail> {
+    let alloc = rt.alloc();
+    let rows = array(alloc, 2, array(alloc, 3, ObType::Basic(Basic::Byte))?)?;
+    assert!(rt;
+        has_line(
+            alloc,
+            b"rows",
+            Object::TypeName(rows),
+            "module M\ntype rows A2 A3 Y\n"
+        )?
+    );
+    let marked = Object::Variable(record_of_one(alloc, b"f", true)?);
+    assert!(rt; has_line(alloc, b"r", marked, "module M\nvar r RN.T.0(f*:I;)\n")?);
+    let procedure = Object::Procedure(two_formals(alloc)?);
+    assert!(rt; has_line(alloc, b"P", procedure, "module M\nproc P(vI;pOC;):B\n")?);
+    Ok(())
+}
+
+// The cells and levels of a type, and whether there may be variables of it.
+fn sized(of: Result<ObType, AllocError>) -> Result<(u32, u32, bool), AllocError> {
+    let of = of?;
+    Ok((zero_size(&of), levels(&of), is_admitted(&of)))
+}
+
+// An array of arrays of INTEGER.
+fn square(alloc: Global, rows: u32, columns: u32) -> Result<ObType, AllocError> {
+    array(alloc, rows, array(alloc, columns, integer())?)
 }
 
 #[test]
 fn cells_and_levels_at_their_limits(rt: HostRuntime) -> Result<(), Fail> {
     let alloc = rt.alloc();
-    let full = array(alloc, 65_536, integer())?;
-    assert_eq!(rt; zero_size(&full), 65_536);
-    assert!(rt; is_admitted(&full));
-    assert!(rt; !is_admitted(&array(alloc, 65_537, integer())?));
-    let square = array(alloc, 256, array(alloc, 257, integer())?)?;
-    assert_eq!(rt; zero_size(&square), 65_792);
-    assert!(rt; !is_admitted(&square));
-    let huge = array(alloc, 65_536, array(alloc, 65_536, integer())?)?;
-    assert_eq!(rt; zero_size(&huge), u32::MAX);
-    assert_eq!(rt; zero_size(&record(alloc, b"N", 0, Items::new(alloc))?), 1);
-    assert_eq!(rt; zero_size(&open(alloc, integer())?), 0);
-    let deepest = deep(alloc, 200)?;
-    assert_eq!(rt; levels(&deepest), 200);
-    assert!(rt; is_admitted(&deepest));
-    assert!(rt; !is_admitted(&deep(alloc, 201)?));
+    assert_eq!(rt; sized(array(alloc, 65_536, integer()))?, (65_536, 1, true));
+    assert_eq!(rt; sized(array(alloc, 65_537, integer()))?, (65_537, 1, false));
+    assert_eq!(rt; sized(square(alloc, 256, 257))?, (65_792, 2, false));
+    assert_eq!(rt; sized(square(alloc, 65_536, 65_536))?, (u32::MAX, 2, false));
+    assert_eq!(rt;
+        sized(record(alloc, b"N", 0, Items::new(alloc)))?,
+        (1, 1, true)
+    );
+    assert_eq!(rt; sized(open(alloc, integer()))?, (0, 1, true));
+    assert_eq!(rt; sized(deep(alloc, 200))?, (1, 200, true));
+    assert_eq!(rt; sized(deep(alloc, 201))?, (1, 201, false));
     Ok(())
 }
 
+// Whether two types are the same.
+fn are_same(
+    one: Result<ObType, AllocError>,
+    other: Result<ObType, AllocError>,
+) -> Result<bool, AllocError> {
+    let one = one?;
+    let other = other?;
+    Ok(same(&one, &other))
+}
+
 #[test]
-fn records_are_the_same_by_name_and_structure(rt: HostRuntime) -> Result<(), Fail> {
+fn types_are_the_same_by_name_and_structure(rt: HostRuntime) -> Result<(), Fail> {
     let alloc = rt.alloc();
-    let one = record_of_one(alloc, b"a", false)?;
-    assert!(rt; same(&one, &record_of_one(alloc, b"a", false)?));
-    assert!(rt; !same(&one, &record_of_one(alloc, b"b", false)?));
-    assert!(rt; !same(&one, &record_of_one(alloc, b"a", true)?));
-    assert!(rt; same(&one, &one.copy(alloc)?));
+    assert!(rt;
+        are_same(
+            record_of_one(alloc, b"a", false),
+            record_of_one(alloc, b"a", false)
+        )?
+    );
+    assert!(rt;
+        !are_same(
+            record_of_one(alloc, b"a", false),
+            record_of_one(alloc, b"b", false)
+        )?
+    );
+    assert!(rt;
+        !are_same(
+            record_of_one(alloc, b"a", false),
+            record_of_one(alloc, b"a", true)
+        )?
+    );
+    assert!(rt; !are_same(array(alloc, 2, integer()), array(alloc, 3, integer()))?);
+    assert!(rt; !are_same(open(alloc, integer()), array(alloc, 3, integer()))?);
     Ok(())
+}
+
+// A record type T of a module without fields.
+fn empty(alloc: Global, module_name: &[u8], before: u32) -> Result<ObType, AllocError> {
+    record(alloc, module_name, before, Items::new(alloc))
 }
 
 #[test]
 fn names_of_records_are_compared(rt: HostRuntime) -> Result<(), Fail> {
     let alloc = rt.alloc();
-    let empty = record(alloc, b"N", 0, Items::new(alloc))?;
-    assert!(rt; !same(&record_of_one(alloc, b"a", false)?, &empty));
-    assert!(rt; !same(&empty, &record(alloc, b"N", 1, Items::new(alloc))?));
-    assert!(rt; !same(&empty, &record(alloc, b"M", 0, Items::new(alloc))?));
-    Ok(())
-}
-
-#[test]
-fn arrays_are_the_same_by_length_and_element(rt: HostRuntime) -> Result<(), Fail> {
-    let alloc = rt.alloc();
-    assert!(rt; !same(&array(alloc, 2, integer())?, &array(alloc, 3, integer())?));
-    assert!(rt; !same(&open(alloc, integer())?, &array(alloc, 3, integer())?));
+    assert!(rt; are_same(empty(alloc, b"N", 0), empty(alloc, b"N", 0))?);
+    assert!(rt; !are_same(empty(alloc, b"N", 0), empty(alloc, b"N", 1))?);
+    assert!(rt; !are_same(empty(alloc, b"N", 0), empty(alloc, b"M", 0))?);
     Ok(())
 }
 
 #[test]
 fn what_may_be_assigned(rt: HostRuntime) -> Result<(), Fail> {
-    let alloc = rt.alloc();
     let byte = ObType::Basic(Basic::Byte);
-    let char = ObType::Basic(Basic::Char);
-    assert!(rt; assignable(&byte, &integer()));
-    assert!(rt; assignable(&integer(), &byte));
-    assert!(rt; !assignable(&integer(), &ObType::Basic(Basic::Boolean)));
-    assert!(rt; !assignable(&char, &byte));
-    assert!(rt; string_assignable(&char, 1));
-    assert!(rt; !string_assignable(&char, 2));
-    let three = array(alloc, 3, ObType::Basic(Basic::Char))?;
-    assert!(rt; string_assignable(&three, 2));
-    assert!(rt; !string_assignable(&three, 3));
-    assert!(rt; string_assignable(&open(alloc, ObType::Basic(Basic::Char))?, 9));
-    assert!(rt; !string_assignable(&open(alloc, byte)?, 1));
+    let number = integer();
+    assert!(rt; assignable(&byte, &number));
+    assert!(rt; assignable(&number, &byte));
+    assert!(rt; !assignable(&number, &ObType::Basic(Basic::Boolean)));
+    assert!(rt; !assignable(&ObType::Basic(Basic::Char), &byte));
     Ok(())
+}
+
+// Whether a string of so many characters may be assigned to an array of so many characters.
+fn fits(alloc: Global, elements: u32, length: usize) -> Result<bool, AllocError> {
+    let of = array(alloc, elements, ObType::Basic(Basic::Char))?;
+    Ok(string_assignable(&of, length))
+}
+
+#[test]
+fn strings_that_may_be_assigned(rt: HostRuntime) -> Result<(), Fail> {
+    let alloc = rt.alloc();
+    assert!(rt; string_assignable(&ObType::Basic(Basic::Char), 1));
+    assert!(rt; !string_assignable(&ObType::Basic(Basic::Char), 2));
+    assert!(rt; fits(alloc, 3, 2)?);
+    assert!(rt; !fits(alloc, 3, 3)?);
+    Ok(())
+}
+
+// How many formals a copy of a signature has, and its result.
+fn copied(alloc: Global) -> Result<(usize, Option<Basic>), AllocError> {
+    let copy = two_formals(alloc)?.copy(alloc)?;
+    Ok((copy.formals.len(), copy.result))
 }
 
 #[test]
 fn a_signature_is_copied(rt: HostRuntime) -> Result<(), Fail> {
-    let alloc = rt.alloc();
-    let mut formals = Items::new(alloc);
-    formals.push(Formal {
-        kind: FormalKind::Variable,
-        of: record_of_one(alloc, b"a", true)?,
-    })?;
-    let signature = Signature {
-        formals,
-        result: Some(Basic::Char),
-    };
-    let copy = signature.copy(alloc)?;
-    assert_eq!(rt; copy.formals.len(), 1);
-    assert!(rt; copy.result == Some(Basic::Char));
-    let constant = Constant::Text(text(alloc, b"xy")?).copy(alloc)?;
-    let Constant::Text(characters) = constant else {
-        return Ok(());
-    };
-    assert_eq!(rt; characters.as_slice(), b"xy".as_slice());
+    assert!(rt; copied(rt.alloc())? == (2, Some(Basic::Boolean)));
     Ok(())
 }
