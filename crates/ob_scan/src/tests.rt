@@ -109,6 +109,14 @@ fn numbers(rt: HostRuntime) -> Result<(), Fail> {
         b"4".as_slice()
     );
     assert_eq!(rt; shown(rt.alloc(), "100X")?.as_slice(), b"4".as_slice());
+    assert_eq!(rt;
+        shown(rt.alloc(), "0FFX")?.as_slice(),
+        b"\"\xff ".as_slice()
+    );
+    assert_eq!(rt;
+        shown(rt.alloc(), "100000000H")?.as_slice(),
+        b"4".as_slice()
+    );
     Ok(())
 }
 
