@@ -1,0 +1,7 @@
+use Rattle.std.proofs.Common.{◌≡◌, ◌++◌, ◌≤◌, [], drop, take, length, map, reverse}
+use Rattle.ob_declare.specs.Rule.{answer, through}
+use Rattle.ob_declare.specs.WrittenTypes as spec
+use Rattle.ob_declare.proofs.written_type.lengths_of.Given as goal
+
+abbrev pub invariant-loop-e : goal.invariant-loop-e
+invariant-loop-e l = answer (through (spec.next_length (spec.inner_constant l.modules l.scope l.nesting)) [] l.list) ≡ answer (through (spec.next_length (spec.inner_constant l.modules l.scope l.nesting)) l.so_far (drop l.e-index l.list))

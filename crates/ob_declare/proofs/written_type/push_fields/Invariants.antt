@@ -1,0 +1,7 @@
+use Rattle.std.proofs.Common.{◌≡◌, ◌++◌, ◌≤◌, [], drop, take, length, map, reverse}
+use Rattle.ob_declare.specs.Rule.{answer, through}
+use Rattle.ob_declare.specs.WrittenTypes as spec
+use Rattle.ob_declare.proofs.written_type.push_fields.Given as goal
+
+abbrev pub invariant-loop-name : goal.invariant-loop-name
+invariant-loop-name l = l.so_far ≡ l.fn.first ++ map (spec.field_of l.of) (take l.name-index l.names)

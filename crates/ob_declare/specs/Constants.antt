@@ -1,0 +1,166 @@
+-- Constants (Wirth, The Programming Language Oberon, Oberon-07): a literal, a declared constant, or operators and the
+-- functions ABS, ODD, LSL, ASR, ROR, ORD, CHR of constants. The number says how many more constructs may nest.
+use Rattle.std.specs.Prelude.{ℕ, zero, suc, ℤ, List, [], ◌∷◌, Bool, true, false, Option, Some, None, ◌||◌, is_some, if◌then◌else◌}
+use Rattle.ob_base.specs.declared.fault.Code.{Code}
+use Rattle.ob_base.specs.declared.fault.Code.TheVariants as code
+use Rattle.ob_scan.specs.declared.token.Span.{Span}
+use Rattle.ob_parse.specs.declared.tree.Ident.{Ident}
+use Rattle.ob_parse.specs.declared.tree.Sign.{Sign}
+use Rattle.ob_parse.specs.declared.tree.Expr.{Expr, out-Expr}
+use Rattle.ob_parse.specs.declared.tree.Related.{Related, out-Related}
+use Rattle.ob_parse.specs.declared.tree.Simple.{Simple, out-Simple}
+use Rattle.ob_parse.specs.declared.tree.AddedTerm.{AddedTerm, out-AddedTerm}
+use Rattle.ob_parse.specs.declared.tree.Term.{Term, out-Term}
+use Rattle.ob_parse.specs.declared.tree.NextFactor.{NextFactor, out-NextFactor}
+use Rattle.ob_parse.specs.declared.tree.Factor.{Factor, out-Factor}
+use Rattle.ob_parse.specs.declared.tree.Designator.{Designator, out-Designator}
+use Rattle.ob_parse.specs.declared.tree.Selector.{Selector, out-Selector}
+use Rattle.ob_parse.specs.declared.tree.Factor.TheOpen.{Factor-F, Selector-F}
+use Rattle.ob_types.specs.declared.exports.Constant.{Constant}
+use Rattle.ob_types.specs.declared.exports.Object.{Object}
+use Rattle.ob_types.specs.declared.exports.Object.TheVariants as object
+use Rattle.ob_declare.specs.declared.block.Declared.{Declared}
+use Rattle.ob_declare.specs.declared.block.Entry.{Entry}
+use Rattle.ob_declare.specs.declared.block.Entry.TheVariants as entry
+use Rattle.ob_declare.specs.declared.folding.Folded.{Folded}
+use Rattle.ob_declare.specs.declared.folding.Folded.TheVariants as folded
+use Rattle.ob_declare.specs.declared.imports.LoadedModule.{LoadedModule}
+use Rattle.ob_declare.specs.declared.predeclared.Function.{Function}
+use Rattle.ob_declare.specs.declared.predeclared.Function.TheVariants as function
+use Rattle.ob_declare.specs.Block.{find}
+use Rattle.ob_declare.specs.Imports.{exported_at}
+use Rattle.ob_declare.specs.Predeclared.{basic_named, function_named, is_procedure_named, is_left_out}
+use Rattle.ob_declare.specs.Rule.{Rule, Given, Breaks, Then, Needs, Both, there, through}
+use Rattle.ob_declare.specs.Folding.{sum_of, product_of, sign_of, not_of, relation_of, related_of, one_of, two_of, folded_of, constant_of}
+
+abbrev pub Scope : Type 0
+Scope = List Declared
+
+abbrev pub Modules : Type 0
+Modules = List LoadedModule
+
+abbrev pub FactorLayer : Type 0
+FactorLayer = Factor-F Factor Selector AddedTerm Designator Expr NextFactor Related Simple Term
+
+abbrev pub SelectorLayer : Type 0
+SelectorLayer = Selector-F Factor Selector AddedTerm Designator Expr NextFactor Related Simple Term
+
+-- ---- names
+
+-- what is broken where nothing declares a name: one of a type or a predeclared procedure is no value
+abbrev pub absent : List ℕ → Code
+absent name =
+    if is_left_out name then code.LeftOut
+    else (if is_some (basic_named name) || is_some (function_named name) || is_procedure_named name then code.Types else code.UnknownName)
+
+-- what is imported under a name
+unfoldable pub imported : Object → Rule Folded
+imported (object.Constant c) = Given (folded_of c)
+imported (object.Variable t) = Breaks code.NotConstant
+imported (object.TypeName t) = Breaks code.Types
+imported (object.Procedure s) = Breaks code.Types
+
+-- the selector behind the name of a loaded module
+abbrev pub member_layer : Modules → ℕ → SelectorLayer → Rule Folded
+member_layer ms place (Selector-F.Field f) = Then (there (exported_at ms place f.name) code.NotExported) (λ o. imported o)
+member_layer ms place (Selector-F.Index indexes) = Breaks code.Types
+
+unfoldable pub member : Modules → ℕ → Selector → Rule Folded
+member ms place x = member_layer ms place (out-Selector x)
+
+-- a declared name with selectors behind it
+unfoldable pub named : Modules → Entry → List Selector → Rule Folded
+named ms (entry.Constant c) [] = Given (folded_of c)
+named ms (entry.Variable t cells) selectors = Breaks code.NotConstant
+named ms (entry.Module place) (x ∷ []) = member ms place x
+named ms e selectors = Breaks code.Types
+
+unfoldable pub value_named : Modules → Scope → Designator → Rule Folded
+value_named ms s d =
+    Then (there (find s (out-Designator d).name.name) (absent (out-Designator d).name.name)) (λ e. named ms e (out-Designator d).selectors)
+
+-- ---- functions
+
+-- what is broken by a call of what is no function of constants
+abbrev pub not_called : List ℕ → Code
+not_called name = if is_procedure_named name then code.Parameters else absent name
+
+-- the function that a name stands for, where nothing declares it
+unfoldable pub function_found : Option Entry → List Selector → List ℕ → Rule Function
+function_found (Some e) selectors name = Breaks code.NotConstant
+function_found None [] name = there (function_named name) (not_called name)
+function_found None (x ∷ xs) name = Breaks (absent name)
+
+abbrev pub function_of : Scope → Designator → Rule Function
+function_of s d = function_found (find s (out-Designator d).name.name) (out-Designator d).selectors (out-Designator d).name.name
+
+module _ (inner : Expr → Rule Folded) where
+  unfoldable pub called : Function → List Expr → Rule Folded
+  called function.Len actuals = Breaks code.NotConstant
+  called f (a ∷ []) = Then (inner a) (λ v. there (one_of f v) code.Parameters)
+  called f (a ∷ b ∷ []) = Then (Both (inner a) (inner b)) (λ p. there (two_of f p.0 p.1) code.Parameters)
+  called f actuals = Breaks code.Parameters
+
+-- ---- expressions
+
+-- a sign before a term
+unfoldable pub signed : Option (Sign × Span) → Folded → Rule Folded
+signed None v = Given v
+signed (Some p) v = there (sign_of p.0 v) code.Types
+
+module _ (inner : Expr → Rule Folded) (deeper : Factor → Rule Folded) (ms : Modules) (s : Scope) where
+  abbrev pub factor_layer : FactorLayer → Rule Folded
+  factor_layer (Factor-F.Integer n span) = Given (folded.Integer (Some n))
+  factor_layer (Factor-F.Text chars span) = Given (folded.Text chars)
+  factor_layer (Factor-F.Truth b span) = Given (folded.Boolean (Some b))
+  factor_layer (Factor-F.Value d) = value_named ms s d
+  factor_layer (Factor-F.Call d actuals) = Then (function_of s d) (λ f. called inner f actuals)
+  factor_layer (Factor-F.Parens span e) = inner e
+  factor_layer (Factor-F.Not span f) = Then (deeper f) (λ v. there (not_of v) code.Types)
+
+  unfoldable pub factor_rule : Factor → Rule Folded
+  factor_rule f = factor_layer (out-Factor f)
+
+  -- one factor more
+  unfoldable pub next_factor : Folded → NextFactor → Rule Folded
+  next_factor v x =
+      Then (factor_rule (out-NextFactor x).factor) (λ w. there (product_of (out-NextFactor x).operator v w) code.Types)
+
+  unfoldable pub term_rule : Term → Rule Folded
+  term_rule t = Then (factor_rule (out-Term t).first) (λ v. through next_factor v (out-Term t).others)
+
+  -- one term more
+  unfoldable pub added_term : Folded → AddedTerm → Rule Folded
+  added_term v x =
+      Then (term_rule (out-AddedTerm x).term) (λ w. there (sum_of (out-AddedTerm x).operator v w) code.Types)
+
+  unfoldable pub simple_rule : Simple → Rule Folded
+  simple_rule x =
+      Then (term_rule (out-Simple x).first) (λ v.
+      Then (signed (out-Simple x).sign v) (λ w. through added_term w (out-Simple x).others))
+
+  -- a relation to another sum
+  unfoldable pub related : Folded → Option Related → Rule Folded
+  related v None = Given v
+  related v (Some r) =
+      Then (simple_rule (out-Related r).simple) (λ w. there (related_of (relation_of (out-Related r).relation) v w) code.Types)
+
+  unfoldable pub expr_rule : Expr → Rule Folded
+  expr_rule e = Then (simple_rule (out-Expr e).left) (λ v. related v (out-Expr e).right)
+
+-- what nests in an expression
+unfoldable mutual
+  pub inner_at : Modules → Scope → ℕ → Expr → Rule Folded
+  inner_at ms s zero e = Breaks code.Nesting
+  inner_at ms s (suc n) e = expr_rule (inner_at ms s n) (deeper_at ms s n) ms s e
+
+  pub deeper_at : Modules → Scope → ℕ → Factor → Rule Folded
+  deeper_at ms s zero f = Breaks code.Nesting
+  deeper_at ms s (suc n) f = factor_rule (inner_at ms s n) (deeper_at ms s n) ms s f
+
+unfoldable pub expr_at : Modules → Scope → ℕ → Expr → Rule Folded
+expr_at ms s n e = expr_rule (inner_at ms s n) (deeper_at ms s n) ms s e
+
+-- a constant, whose evaluation doesn't trap
+unfoldable pub constant_at : Modules → Scope → ℕ → Expr → Rule Constant
+constant_at ms s n e = Then (expr_at ms s n e) (λ v. there (constant_of v) code.NotConstant)

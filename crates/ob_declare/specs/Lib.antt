@@ -1,0 +1,9 @@
+pub mod Rule
+pub mod Computing
+pub mod Block
+pub mod Predeclared
+pub mod Folding
+pub mod Imports
+pub mod Constants
+pub mod WrittenTypes
+pub mod Declarations

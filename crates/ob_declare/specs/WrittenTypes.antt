@@ -1,0 +1,168 @@
+-- Types as they are written (Wirth, The Programming Language Oberon, Oberon-07). A record type is named by its module, the
+-- procedures round its declaration, the declared name, and how many words RECORD stand before it in that declaration.
+use Rattle.std.specs.Prelude.{ℕ, zero, suc, ◌+◌, ◌*◌, ℤ, pos, negsuc, List, [], ◌∷◌, ◌++◌, length, map, reverse, Bool, true, false, not, Option, Some, None, ◌||◌, ◌&&◌, is_some, is_none, nat_le, nat_lt, if◌then◌else◌}
+use Rattle.ob_base.specs.declared.fault.Code.{Code}
+use Rattle.ob_base.specs.declared.fault.Code.TheVariants as code
+use Rattle.ob_parse.specs.declared.tree.Expr.{Expr}
+use Rattle.ob_parse.specs.declared.tree.Ident.{Ident}
+use Rattle.ob_parse.specs.declared.tree.IdentDef.{IdentDef}
+use Rattle.ob_parse.specs.declared.tree.Qualident.{Qualident}
+use Rattle.ob_parse.specs.declared.tree.TypeExpr.{TypeExpr, out-TypeExpr}
+use Rattle.ob_parse.specs.declared.tree.TypedNames.{TypedNames, out-TypedNames}
+use Rattle.ob_parse.specs.declared.tree.TypeExpr.TheOpen.{TypeExpr-F}
+use Rattle.ob_types.specs.declared.exports.Constant.{Constant}
+use Rattle.ob_types.specs.declared.exports.Constant.TheVariants as constant
+use Rattle.ob_types.specs.declared.exports.Object.{Object}
+use Rattle.ob_types.specs.declared.exports.Object.TheVariants as object
+use Rattle.ob_types.specs.declared.structure.Basic.{Basic}
+use Rattle.ob_types.specs.declared.structure.Field.{Field}
+use Rattle.ob_types.specs.declared.structure.ObType.{ObType}
+use Rattle.ob_types.specs.declared.structure.ObType.TheVariants.{Basic as OfBasic, Array, Record}
+use Rattle.ob_types.specs.declared.structure.RecordName.{RecordName}
+use Rattle.ob_types.specs.declared.structure.RecordType.{RecordType, roll-RecordType}
+use Rattle.ob_types.specs.Types.{cells, levels, max_cells, max_levels, is_admitted}
+use Rattle.ob_declare.specs.declared.block.Entry.{Entry}
+use Rattle.ob_declare.specs.declared.block.Entry.TheVariants as entry
+use Rattle.ob_declare.specs.declared.written_type.Written.{Written}
+use Rattle.ob_declare.specs.declared.written_type.Fields.{Fields}
+use Rattle.ob_declare.specs.Block.{find}
+use Rattle.ob_declare.specs.Imports.{exported_at, is_among}
+use Rattle.ob_declare.specs.Predeclared.{basic_named, function_named, is_procedure_named, is_left_out}
+use Rattle.ob_declare.specs.Rule.{Rule, Given, Breaks, Then, Needs, Both, there, through}
+use Rattle.ob_declare.specs.Constants.{Scope, Modules, constant_at}
+
+-- ---- names of types
+
+-- what is broken where nothing declares the name of a type
+abbrev pub absent_type : List ℕ → Code
+absent_type name =
+    if is_left_out name then code.LeftOut
+    else (if is_some (function_named name) || is_procedure_named name then code.Types else code.UnknownName)
+
+abbrev pub predeclared_type : Option Basic → List ℕ → Rule ObType
+predeclared_type (Some b) name = Given (OfBasic b)
+predeclared_type None name = Breaks (absent_type name)
+
+-- a name alone
+unfoldable pub own_type : Option Entry → List ℕ → Rule ObType
+own_type (Some (entry.TypeName t)) name = Given t
+own_type (Some e) name = Breaks code.Types
+own_type None name = predeclared_type (basic_named name) name
+
+abbrev pub object_type : Object → Rule ObType
+object_type (object.TypeName t) = Given t
+object_type o = Breaks code.Types
+
+-- a name of another module: In and Out export no type
+unfoldable pub other_type : Modules → Option Entry → List ℕ → List ℕ → Rule ObType
+other_type ms (Some (entry.Module place)) first name = Then (there (exported_at ms place name) code.NotExported) (λ o. object_type o)
+other_type ms (Some entry.In) first name = Breaks code.NotExported
+other_type ms (Some entry.Out) first name = Breaks code.NotExported
+other_type ms (Some e) first name = Breaks code.Types
+other_type ms None first name = Breaks (absent_type first)
+
+abbrev pub qualified : Modules → Scope → Ident → Option Ident → Rule ObType
+qualified ms s first None = own_type (find s first.name) first.name
+qualified ms s first (Some second) = other_type ms (find s first.name) first.name second.name
+
+unfoldable pub type_named : Modules → Scope → Qualident → Rule ObType
+type_named ms s q = qualified ms s q.first q.second
+
+-- ---- arrays
+
+-- a length is a number from 1 to the most cells of a type
+abbrev pub natural_length : ℤ → Rule ℕ
+natural_length (pos n) = Needs (nat_le 1 n && nat_le n max_cells) code.Size (Given n)
+natural_length (negsuc n) = Breaks code.Size
+
+unfoldable pub length_of : Constant → Rule ℕ
+length_of (constant.Integer z) = natural_length z
+length_of c = Breaks code.Types
+
+-- one length more
+unfoldable pub next_length : (Expr → Rule Constant) → List ℕ → Expr → Rule (List ℕ)
+next_length constant ns e = Then (constant e) (λ c. Then (length_of c) (λ n. Given (ns ++ n ∷ [])))
+
+-- an array of so many of these
+unfoldable pub array_of : ObType → ℕ → Rule ObType
+array_of t n = Needs (is_admitted (Array n t)) code.Size (Given (Array n t))
+
+-- ---- records
+
+abbrev pub numbered : RecordName → ℕ → RecordName
+numbered naming k = record { module_name = naming.module_name; enclosing = naming.enclosing; declared = naming.declared; before = k }
+
+-- one name of a field more
+unfoldable pub field_name : List (List ℕ) → IdentDef → Rule (List (List ℕ))
+field_name names f = Needs (not (is_among names f.name.name)) code.DeclaredTwice (Given (names ++ f.name.name ∷ []))
+
+abbrev pub is_marked : IdentDef → Bool
+is_marked f = is_some f.mark
+
+abbrev pub field_of : ObType → IdentDef → Field
+field_of t f = record { name = f.name.name; exported = is_some f.mark; of = t }
+
+abbrev pub written : ObType → ℕ → Written
+written t k = record { of = t; records = k }
+
+-- the cells of a record with so many more fields of a type, if they fit
+abbrev pub cells_with : ℕ → ℕ → ObType → Option ℕ
+cells_with taken n t =
+    if nat_lt (levels t) max_levels && nat_le (taken + n * cells t) max_cells then Some (taken + n * cells t) else None
+
+-- fields of one type
+unfoldable pub next_fields : (ℕ → TypeExpr → Rule Written) → Fields → TypedNames → Rule Fields
+next_fields inner fs x =
+    Then (through field_name fs.names (out-TypedNames x).names) (λ names.
+    Then (inner fs.records (out-TypedNames x).of) (λ w.
+    Then (there (cells_with fs.cells (length (out-TypedNames x).names) w.of) code.Size) (λ taken.
+    Given (record {
+      names = names;
+      fields = fs.fields ++ map (field_of w.of) (out-TypedNames x).names;
+      cells = taken;
+      records = w.records;
+    }))))
+
+abbrev pub no_fields : ℕ → Fields
+no_fields k = record { names = []; fields = []; cells = 0; records = k }
+
+abbrev pub record_of : RecordName → List Field → ObType
+record_of name fields = Record (roll-RecordType (record { name = name; fields = fields }))
+
+-- ---- types
+
+-- a declaration has fewer words RECORD, since each stands for a cell at least, and at most 200 stand in one another
+abbrev pub max_records : ℕ
+max_records = 4294967295
+
+-- a record, behind so many words RECORD
+unfoldable pub record_rule : (ℕ → TypeExpr → Rule Written) → RecordName → ℕ → List TypedNames → Rule Written
+record_rule inner naming k fields =
+    Then (through (next_fields inner) (no_fields (k + 1)) fields) (λ fs.
+    Given (written (record_of (numbered naming k) fs.fields) fs.records))
+
+module _ (constant : Expr → Rule Constant) (inner : ℕ → TypeExpr → Rule Written) (ms : Modules) (s : Scope) (naming : RecordName) where
+  abbrev pub type_layer : ℕ → TypeExpr-F TypeExpr TypedNames → Rule Written
+  type_layer k (TypeExpr-F.Named q) = Then (type_named ms s q) (λ t. Given (written t k))
+  type_layer k (TypeExpr-F.Array span lengths element) =
+      Then (through (next_length constant) [] lengths) (λ ns.
+      Then (inner k element) (λ w.
+      Then (through array_of w.of (reverse ns)) (λ t. Given (written t w.records))))
+  type_layer k (TypeExpr-F.Record span fields) =
+      Needs (nat_lt k max_records) code.Size (
+      record_rule inner naming k fields)
+
+  unfoldable pub type_rule : ℕ → TypeExpr → Rule Written
+  type_rule k t = type_layer k (out-TypeExpr t)
+
+-- what nests in a type
+unfoldable pub inner_constant : Modules → Scope → ℕ → Expr → Rule Constant
+inner_constant ms s zero e = Breaks code.Nesting
+inner_constant ms s (suc n) e = constant_at ms s n e
+
+unfoldable pub inner_type : Modules → Scope → RecordName → ℕ → ℕ → TypeExpr → Rule Written
+inner_type ms s naming zero k t = Breaks code.Nesting
+inner_type ms s naming (suc n) k t = type_rule (inner_constant ms s n) (inner_type ms s naming n) ms s naming k t
+
+unfoldable pub type_at : Modules → Scope → RecordName → ℕ → ℕ → TypeExpr → Rule Written
+type_at ms s naming n k t = type_rule (inner_constant ms s n) (inner_type ms s naming n) ms s naming k t

@@ -1,0 +1,456 @@
+//! Types as they are written.
+
+ghost use Rattle.std.specs.Prelude.{◌≡◌, ◌<◌, ◌++◌, [], length, map, reverse, option_copied, IfOk};
+ghost use Rattle.ob_declare.specs.Rule.{Judges, through};
+ghost use Rattle.ob_declare.specs.WrittenTypes as spec;
+
+use crate::block::{Block, Entry};
+use crate::constant::constant;
+use crate::fault::{fault, open};
+use crate::imports::{LoadedModule, exported_at, is_among};
+use crate::predeclared::{basic_named, function_named, is_left_out, is_procedure_named};
+use ob_base::{Boxed, Code, Items, Refused, Text};
+use ob_parse::tree::{Expr, Ident, IdentDef, Qualident, TypeExpr, TypedNames};
+use ob_scan::Span;
+use ob_types::{
+    Constant, Field, MAX_CELLS, MAX_LEVELS, ObType, Object, RecordName, RecordType, is_admitted,
+    levels, zero_size,
+};
+use std::alloc::{AllocError, Global};
+
+/// A type that was written, and how many words RECORD stand up to its end in its declaration.
+#[derive(Drop)]
+pub struct Written {
+    pub of: ObType,
+    pub records: u32,
+}
+
+/// The fields of a record so far: their names, how many cells they take, and how many words RECORD stand up to here.
+#[derive(Drop)]
+pub struct Fields {
+    pub names: Items<Text>,
+    pub fields: Items<Field>,
+    pub cells: u32,
+    pub records: u32,
+}
+
+/// What is broken where nothing declares the name of a type.
+fn absent_type(name: &Text) -> Code
+    ensures { result ≡ spec.absent_type name.now }
+{
+    if is_left_out(name) {
+        Code::LeftOut
+    } else if function_named(name).is_some() || is_procedure_named(name) {
+        Code::Types
+    } else {
+        Code::UnknownName
+    }
+}
+
+/// The type that a name alone stands for.
+#[tactic(auto, unfolding(crate::specs::WrittenTypes::own_type))]
+fn own_type(alloc: Global, entry: Option<&Entry>, name: &Ident) -> Result<ObType, Refused>
+    ensures { Judges (spec.own_type (option_copied entry.entry) name.now.name) result }
+{
+    match entry {
+        Some(Entry::TypeName(of)) => Ok(of.copy(alloc)?),
+        Some(_) => Err(Refused::Fault(fault(Code::Types, name.span))),
+        None => match basic_named(&name.name) {
+            Some(basic) => Ok(ObType::Basic(basic)),
+            None => Err(Refused::Fault(fault(absent_type(&name.name), name.span))),
+        },
+    }
+}
+
+fn object_type(alloc: Global, object: &Object, span: Span) -> Result<ObType, Refused>
+    ensures { Judges (spec.object_type object.now) result }
+{
+    match object {
+        Object::TypeName(of) => Ok(of.copy(alloc)?),
+        _ => Err(Refused::Fault(fault(Code::Types, span))),
+    }
+}
+
+/// The type that a name of another module stands for.
+#[tactic(auto, unfolding(crate::specs::WrittenTypes::other_type))]
+fn other_type(
+    alloc: Global,
+    modules: &[LoadedModule],
+    entry: Option<&Entry>,
+    first: &Ident,
+    name: &Ident,
+) -> Result<ObType, Refused>
+    ensures { Judges (spec.other_type modules.now (option_copied entry.entry) first.now.name name.now.name) result }
+{
+    match entry {
+        Some(Entry::Module(place)) => match exported_at(modules, *place, &name.name) {
+            Some(object) => object_type(alloc, object, name.span),
+            None => Err(Refused::Fault(fault(Code::NotExported, name.span))),
+        },
+        Some(Entry::In | Entry::Out) => Err(Refused::Fault(fault(Code::NotExported, name.span))),
+        Some(_) => Err(Refused::Fault(fault(Code::Types, first.span))),
+        None => Err(Refused::Fault(fault(absent_type(&first.name), first.span))),
+    }
+}
+
+/// The type that a name stands for.
+#[tactic(auto, unfolding(crate::specs::WrittenTypes::type_named))]
+fn type_named(
+    alloc: Global,
+    modules: &[LoadedModule],
+    scope: &Block,
+    name: &Qualident,
+) -> Result<ObType, Refused>
+    ensures { Judges (spec.type_named modules.now scope.now name.now) result }
+{
+    match &name.second {
+        None => own_type(alloc, scope.find(&name.first.name), &name.first),
+        Some(second) => {
+            let entry = scope.find(&name.first.name);
+            other_type(alloc, modules, entry, &name.first, second)
+        }
+    }
+}
+
+/// The length that a constant is.
+#[tactic(auto, unfolding(crate::specs::WrittenTypes::length_of))]
+fn length_of(constant: &Constant, span: Span) -> Result<u32, Refused>
+    ensures { Judges (spec.length_of constant.now) result }
+{
+    match constant {
+        Constant::Integer(number) => {
+            let number = *number;
+            if number < 1 {
+                return Err(Refused::Fault(fault(Code::Size, span)));
+            }
+            if number > MAX_CELLS as i32 {
+                return Err(Refused::Fault(fault(Code::Size, span)));
+            }
+            Ok(number as u32)
+        }
+        _ => Err(Refused::Fault(fault(Code::Types, span))),
+    }
+}
+
+#[tactic(auto, unfolding(crate::specs::WrittenTypes::inner_constant))]
+fn inner_constant(
+    alloc: Global,
+    modules: &[LoadedModule],
+    scope: &Block,
+    nesting: u32,
+    e: &Expr,
+    span: Span,
+) -> Result<Constant, Refused>
+    ensures { Judges (spec.inner_constant modules.now scope.now nesting e.now) result }
+{
+    let inside = open(nesting, span)?;
+    constant(alloc, modules, scope, inside, e, span)
+}
+
+/// One length more.
+#[tactic(auto, unfolding(crate::specs::WrittenTypes::next_length))]
+fn next_length(
+    alloc: Global,
+    modules: &[LoadedModule],
+    scope: &Block,
+    nesting: u32,
+    so_far: Items<u32>,
+    e: &Expr,
+    span: Span,
+) -> Result<Items<u32>, Refused>
+    ensures { Judges (spec.next_length (spec.inner_constant modules.now scope.now nesting) so_far e.now) result }
+{
+    let mut so_far = so_far;
+    let value = inner_constant(alloc, modules, scope, nesting, e, span)?;
+    let length = length_of(&value, span)?;
+    so_far.push(length)?;
+    Ok(so_far)
+}
+
+fn lengths_of(
+    alloc: Global,
+    modules: &[LoadedModule],
+    scope: &Block,
+    nesting: u32,
+    list: &[Expr],
+    span: Span,
+) -> Result<Items<u32>, Refused>
+    ensures { Judges (through (spec.next_length (spec.inner_constant modules.now scope.now nesting)) [] list.now) result }
+{
+    let mut so_far = Items::new(alloc);
+    for e in list {
+        so_far = next_length(alloc, modules, scope, nesting, so_far, e, span)?;
+    }
+    Ok(so_far)
+}
+
+/// An array of so many of these.
+#[tactic(auto, unfolding(crate::specs::WrittenTypes::array_of))]
+fn array_of(alloc: Global, element: ObType, length: u32, span: Span) -> Result<ObType, Refused>
+    ensures { Judges (spec.array_of element length) result }
+{
+    let of = ObType::Array(length, Boxed::new(alloc, element)?);
+    if !is_admitted(&of) {
+        return Err(Refused::Fault(fault(Code::Size, span)));
+    }
+    Ok(of)
+}
+
+/// Arrays of arrays, the last length innermost.
+fn arrays_of(alloc: Global, element: ObType, lengths: &[u32], span: Span) -> Result<ObType, Refused>
+    ensures { Judges (through spec.array_of element (reverse lengths.now)) result }
+{
+    let mut so_far = element;
+    let mut i = lengths.len();
+    while i > 0 {
+        i -= 1;
+        so_far = array_of(alloc, so_far, lengths[i], span)?;
+    }
+    Ok(so_far)
+}
+
+fn numbered(alloc: Global, naming: &RecordName, before: u32) -> Result<RecordName, AllocError>
+    ensures { IfOk result (λ n. n ≡ spec.numbered naming.now before) }
+{
+    let mut name = naming.copy(alloc)?;
+    name.before = before;
+    Ok(name)
+}
+
+/// One name of a field more.
+#[tactic(auto, unfolding(crate::specs::WrittenTypes::field_name))]
+fn field_name(alloc: Global, so_far: Items<Text>, name: &IdentDef) -> Result<Items<Text>, Refused>
+    ensures { Judges (spec.field_name so_far name.now) result }
+{
+    let mut so_far = so_far;
+    if is_among(so_far.as_slice(), &name.name.name) {
+        return Err(Refused::Fault(fault(Code::DeclaredTwice, name.name.span)));
+    }
+    so_far.push(name.name.name.copy(alloc)?)?;
+    Ok(so_far)
+}
+
+fn field_names(
+    alloc: Global,
+    first: Items<Text>,
+    names: &[IdentDef],
+) -> Result<Items<Text>, Refused>
+    ensures { Judges (through spec.field_name first names.now) result }
+{
+    let mut so_far = first;
+    for name in names {
+        so_far = field_name(alloc, so_far, name)?;
+    }
+    Ok(so_far)
+}
+
+fn push_fields(
+    alloc: Global,
+    first: Items<Field>,
+    names: &[IdentDef],
+    of: &ObType,
+) -> Result<Items<Field>, AllocError>
+    ensures { IfOk result (λ fs. fs ≡ first ++ map (spec.field_of of.now) names.now) }
+{
+    let mut so_far = first;
+    for name in names {
+        let field = Field {
+            name: name.name.name.copy(alloc)?,
+            exported: name.mark.is_some(),
+            of: of.copy(alloc)?,
+        };
+        so_far.push(field)?;
+    }
+    Ok(so_far)
+}
+
+/// The cells of a record with so many more fields of a type, if they fit.
+fn cells_with(taken: u32, count: usize, of: &ObType) -> Option<u32>
+    ensures { result ≡ spec.cells_with taken count of.now }
+{
+    if levels(of) >= MAX_LEVELS {
+        return None;
+    }
+    let more = count.checked_mul(zero_size(of) as usize)?;
+    let total = more.checked_add(taken as usize)?;
+    if total > MAX_CELLS as usize {
+        return None;
+    }
+    Some(total as u32)
+}
+
+/// A type as it is written, behind so many words RECORD of its declaration.
+#[cycle(written)]
+#[tactic(auto, unfolding(crate::specs::WrittenTypes::type_at, crate::specs::WrittenTypes::type_rule))]
+pub fn written_type(
+    alloc: Global,
+    modules: &[LoadedModule],
+    scope: &Block,
+    naming: &RecordName,
+    nesting: u32,
+    records: u32,
+    t: &TypeExpr,
+) -> Result<Written, Refused>
+    ensures { Judges (spec.type_at modules.now scope.now naming.now nesting records t.now) result }
+{
+    match t {
+        TypeExpr::Named(name) => {
+            let of = type_named(alloc, modules, scope, name)?;
+            Ok(Written { of, records })
+        }
+        TypeExpr::Array(span, lengths, element) => {
+            let lengths = lengths_of(alloc, modules, scope, nesting, lengths.as_slice(), *span)?;
+            let element = inner_type(
+                alloc,
+                modules,
+                scope,
+                naming,
+                nesting,
+                records,
+                *span,
+                element.get(),
+            )?;
+            let of = arrays_of(alloc, element.of, lengths.as_slice(), *span)?;
+            Ok(Written {
+                of,
+                records: element.records,
+            })
+        }
+        TypeExpr::Record(span, fields) => {
+            if records == u32::MAX {
+                return Err(Refused::Fault(fault(Code::Size, *span)));
+            }
+            record_type(
+                alloc,
+                modules,
+                scope,
+                naming,
+                nesting,
+                records,
+                *span,
+                fields.as_slice(),
+            )
+        }
+    }
+}
+
+/// A record, behind so many words RECORD.
+#[cycle(written)]
+#[tactic(auto, unfolding(crate::specs::WrittenTypes::record_rule))]
+fn record_type(
+    alloc: Global,
+    modules: &[LoadedModule],
+    scope: &Block,
+    naming: &RecordName,
+    nesting: u32,
+    records: u32,
+    span: Span,
+    list: &[TypedNames],
+) -> Result<Written, Refused>
+    requires { records < 4294967295 }
+    ensures { Judges (spec.record_rule (spec.inner_type modules.now scope.now naming.now nesting) naming.now records list.now) result }
+{
+    let all = all_fields(
+        alloc,
+        modules,
+        scope,
+        naming,
+        nesting,
+        records + 1,
+        span,
+        list,
+    )?;
+    let name = numbered(alloc, naming, records)?;
+    Ok(Written {
+        of: ObType::Record(RecordType {
+            name,
+            fields: all.fields,
+        }),
+        records: all.records,
+    })
+}
+
+#[cycle(written)]
+fn all_fields(
+    alloc: Global,
+    modules: &[LoadedModule],
+    scope: &Block,
+    naming: &RecordName,
+    nesting: u32,
+    records: u32,
+    span: Span,
+    list: &[TypedNames],
+) -> Result<Fields, Refused>
+    ensures { Judges (through (spec.next_fields (spec.inner_type modules.now scope.now naming.now nesting)) (spec.no_fields records) list.now) result }
+{
+    let mut so_far = Fields {
+        names: Items::new(alloc),
+        fields: Items::new(alloc),
+        cells: 0,
+        records,
+    };
+    for x in list {
+        so_far = next_fields(alloc, modules, scope, naming, nesting, so_far, x, span)?;
+    }
+    Ok(so_far)
+}
+
+/// Fields of one type.
+#[cycle(written)]
+#[tactic(auto, unfolding(crate::specs::WrittenTypes::next_fields))]
+fn next_fields(
+    alloc: Global,
+    modules: &[LoadedModule],
+    scope: &Block,
+    naming: &RecordName,
+    nesting: u32,
+    so_far: Fields,
+    x: &TypedNames,
+    span: Span,
+) -> Result<Fields, Refused>
+    ensures { Judges (spec.next_fields (spec.inner_type modules.now scope.now naming.now nesting) so_far x.now) result }
+{
+    let list = x.names.as_slice();
+    let names = field_names(alloc, so_far.names, list)?;
+    let written = inner_type(
+        alloc,
+        modules,
+        scope,
+        naming,
+        nesting,
+        so_far.records,
+        span,
+        x.of.get(),
+    )?;
+    match cells_with(so_far.cells, list.len(), &written.of) {
+        Some(cells) => {
+            let fields = push_fields(alloc, so_far.fields, list, &written.of)?;
+            Ok(Fields {
+                names,
+                fields,
+                cells,
+                records: written.records,
+            })
+        }
+        None => Err(Refused::Fault(fault(Code::Size, span))),
+    }
+}
+
+/// A type inside one construct more.
+#[cycle(written)]
+#[tactic(auto, unfolding(crate::specs::WrittenTypes::inner_type, crate::specs::WrittenTypes::type_at))]
+fn inner_type(
+    alloc: Global,
+    modules: &[LoadedModule],
+    scope: &Block,
+    naming: &RecordName,
+    nesting: u32,
+    records: u32,
+    span: Span,
+    t: &TypeExpr,
+) -> Result<Written, Refused>
+    ensures { Judges (spec.inner_type modules.now scope.now naming.now nesting records t.now) result }
+{
+    let inside = open(nesting, span)?;
+    written_type(alloc, modules, scope, naming, inside, records, t)
+}
