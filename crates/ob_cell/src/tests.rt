@@ -116,6 +116,6 @@ fn refusals(rt: HostRuntime) -> Result<(), Fail> {
     assert_eq!(rt; code, 2);
     let (place, code) = outcome(alloc, "Q.P", &[10])?;
     assert_eq!(rt; place.as_str(), "1:1");
-    assert_eq!(rt; code, 5);
+    assert_eq!(rt; code, 21);
     Ok(())
 }
