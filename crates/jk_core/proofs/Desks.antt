@@ -1,13 +1,13 @@
 -- What stands beside the script is what the log answers.
 use Rattle.std.proofs.Common.{◌≡◌, ℕ, ◌+◌, Bool, List, [], ◌∷◌, length, drop, refl, sym, ◌∙◌, ap, subst, Option, None, Some, Result, Ok, Err, OnOk, IfErr, inl, inr}
-use Rattle.ob_base.specs.declared.fault.Fault.{Fault}
+use Rattle.ob_cell.specs.declared.outcome.Refusal.{Refusal}
 use Rattle.ob_cell.specs.Parts.{SessionState, Meaning}
-use Rattle.ob_cell.specs.Cell.{IsBroken}
+use Rattle.ob_cell.specs.Cell.{IsRefusedFor}
 use Rattle.ob_cell.specs.MachineState.{MachineState}
 use Rattle.ob_cell.specs.Runs.{meaning_of, unshown, HasTurned, IsGiven, OutcomeIs, tells_end}
 use Rattle.ob_cell.specs.declared.outcome.Turned.{Turned}
 use Rattle.ob_cell.specs.declared.outcome.Turned.TheVariants as turned
-use Rattle.ob_cell.proofs.Laws.{cell-lawful, broken-unread, meaning-same}
+use Rattle.ob_cell.proofs.Laws.{cell-lawful, refused-stands, meaning-same}
 use Rattle.jp_msg.specs.declared.message.Execute.{Execute}
 use Rattle.jk_core.specs.declared.arrival.Arrival.{Arrival}
 use Rattle.jk_core.specs.declared.run.Active.{Active}
@@ -219,21 +219,21 @@ begin_runs k mid at n stops m (e, there, f) s b =
 pub begun_as : (k mid : KernelState) (at n : ℕ) → n ≡ next_count at k.log → mid ≡ noted at (Begin n) k → mid ≡ begun at k
 begun_as k mid at n c e = e ∙ ap (λ (n : ℕ). noted at (Begin n) k) c
 
--- a cell whose text is refused
-pub broken_as : (k one two three new : KernelState) (at n : ℕ) (b : Bool) (text : List ℕ) (fault : Fault) → n ≡ next_count at k.log → b ≡ stops_at at k.log → text ≡ [] → one ≡ noted at (Begin n) k → two ≡ noted at (Flush 0 text) one → three ≡ noted at (End (ending.Unreadable fault) n) two → new ≡ failing b three → new ≡ broken at fault k
-broken_as k one two three new at n b text fault c s t e1 e2 e3 e =
-    e ∙ ap (failing b) (e3 ∙ ap (noted at (End (ending.Unreadable fault) n)) (e2 ∙ ap (noted at (Flush 0 text)) e1))
-    ∙ ap (λ (x : Bool). failing x (noted at (End (ending.Unreadable fault) n) (noted at (Flush 0 text) (noted at (Begin n) k)))) s
-    ∙ ap (λ (x : List ℕ). failing (stops_at at k.log) (noted at (End (ending.Unreadable fault) n) (noted at (Flush 0 x) (noted at (Begin n) k)))) t
-    ∙ ap (λ (x : ℕ). failing (stops_at at k.log) (noted at (End (ending.Unreadable fault) x) (noted at (Flush 0 []) (noted at (Begin x) k)))) c
+-- a cell that does not run
+pub broken_as : (k one two three new : KernelState) (at n : ℕ) (b : Bool) (text : List ℕ) (refusal : Refusal) → n ≡ next_count at k.log → b ≡ stops_at at k.log → text ≡ [] → one ≡ noted at (Begin n) k → two ≡ noted at (Flush 0 text) one → three ≡ noted at (End (ending.Refused refusal) n) two → new ≡ failing b three → new ≡ broken at refusal k
+broken_as k one two three new at n b text refusal c s t e1 e2 e3 e =
+    e ∙ ap (failing b) (e3 ∙ ap (noted at (End (ending.Refused refusal) n)) (e2 ∙ ap (noted at (Flush 0 text)) e1))
+    ∙ ap (λ (x : Bool). failing x (noted at (End (ending.Refused refusal) n) (noted at (Flush 0 text) (noted at (Begin n) k)))) s
+    ∙ ap (λ (x : List ℕ). failing (stops_at at k.log) (noted at (End (ending.Refused refusal) n) (noted at (Flush 0 x) (noted at (Begin n) k)))) t
+    ∙ ap (λ (x : ℕ). failing (stops_at at k.log) (noted at (End (ending.Refused refusal) x) (noted at (Flush 0 []) (noted at (Begin x) k)))) c
 
-refused_session : (s : SessionState) (at : ℕ) (o : Option Execute) (fault : Fault) (e : Execute) → o ≡ Some e → IsBroken s e.code fault.code → s ≡ option_or (λ r. (meaning_in s r r.turns).session) s (option_with (flushed_at 0) (option_with (λ e. record { at = at; request = e; turns = 0 }) o))
-refused_session s at o fault e there wrong = rw there (sym (ap (λ (m : Meaning). m.session) (broken-unread s e.code fault.code wrong [] 0)))
+refused_session : (s : SessionState) (at : ℕ) (o : Option Execute) (refusal : Refusal) (e : Execute) → o ≡ Some e → IsRefusedFor s e.code refusal → s ≡ option_or (λ r. (meaning_in s r r.turns).session) s (option_with (flushed_at 0) (option_with (λ e. record { at = at; request = e; turns = 0 }) o))
+refused_session s at o refusal e there wrong = rw there (sym (ap (λ (m : Meaning). m.session) (refused-stands s e.code refusal wrong [] 0)))
 
-pub broken_stands : (k new : KernelState) (d : Desk) (at n : ℕ) (s : SessionState) (fault : Fault) → IsBrokenAt at fault k.log → n ≡ next_count at k.log → s ≡ session k.log → new ≡ broken at fault k → Stands new.log (record d { count = n; place = Resting s })
-broken_stands k new d at n s fault wrong c e b =
-    stands_fails (stops_at at k.log) (noted at (End (ending.Unreadable fault) (next_count at k.log)) (noted at (Flush 0 []) (begun at k))) new (record d { count = n; place = Resting s }) b
-    (record { count = c; place = (refl, e ∙ refused_session (session k.log) at (execute_at at k.log) fault wrong.request wrong.there wrong.breaks) })
+pub broken_stands : (k new : KernelState) (d : Desk) (at n : ℕ) (s : SessionState) (refusal : Refusal) → IsBrokenAt at refusal k.log → n ≡ next_count at k.log → s ≡ session k.log → new ≡ broken at refusal k → Stands new.log (record d { count = n; place = Resting s })
+broken_stands k new d at n s refusal wrong c e b =
+    stands_fails (stops_at at k.log) (noted at (End (ending.Refused refusal) (next_count at k.log)) (noted at (Flush 0 []) (begun at k))) new (record d { count = n; place = Resting s }) b
+    (record { count = c; place = (refl, e ∙ refused_session (session k.log) at (execute_at at k.log) refusal wrong.request wrong.there wrong.breaks) })
 
 -- What comes of the first that waits, which has its result.
 
@@ -248,20 +248,20 @@ is_opened old got w outcome s o kept e g f r opens =
     let right : IsResult wait.request.code outcome = subst (IsResultOf wait.request.code) r wait.result in
     record { wait = wait; opens = subst (λ (s : SessionState). Opens s wait.request.code outcome o) e (opens wait.request.code right) }
 
-breaks_for : (s : SessionState) (text : List ℕ) (outcome : Parsed) (back : SessionState) (fault : Fault) → Opens s text outcome (opening.Broken back fault) → (back ≡ s) × IsBroken s text fault.code
-breaks_for s text parsed.Memory back fault h = absurd h
-breaks_for s text (parsed.Fault found) back fault h = (h.0, h.2)
-breaks_for s text (parsed.Tree tree) back fault h = h
+breaks_for : (s : SessionState) (text : List ℕ) (outcome : Parsed) (back : SessionState) (refusal : Refusal) → Opens s text outcome (opening.Broken back refusal) → (back ≡ s) × IsRefusedFor s text refusal
+breaks_for s text parsed.Memory back refusal h = absurd h
+breaks_for s text (parsed.Fault found) back refusal h = (h.0, h.2)
+breaks_for s text (parsed.Tree tree) back refusal h = h
 
-pub is_broken : (k : KernelState) (w : Waiting) (outcome : Parsed) (back : SessionState) (fault : Fault) → IsOpened k w outcome (opening.Broken back fault) → IsBrokenAt w.at fault k.log
-is_broken k w outcome back fault h = record {
+pub is_broken : (k : KernelState) (w : Waiting) (outcome : Parsed) (back : SessionState) (refusal : Refusal) → IsOpened k w outcome (opening.Broken back refusal) → IsBrokenAt w.at refusal k.log
+is_broken k w outcome back refusal h = record {
   request = h.wait.request;
   there = h.wait.there;
-  breaks = (breaks_for (session k.log) h.wait.request.code outcome back fault h.opens).1;
+  breaks = (breaks_for (session k.log) h.wait.request.code outcome back refusal h.opens).1;
 }
 
-pub broken_back : (k : KernelState) (w : Waiting) (outcome : Parsed) (back : SessionState) (fault : Fault) → IsOpened k w outcome (opening.Broken back fault) → back ≡ session k.log
-broken_back k w outcome back fault h = (breaks_for (session k.log) h.wait.request.code outcome back fault h.opens).0
+pub broken_back : (k : KernelState) (w : Waiting) (outcome : Parsed) (back : SessionState) (refusal : Refusal) → IsOpened k w outcome (opening.Broken back refusal) → back ≡ session k.log
+broken_back k w outcome back refusal h = (breaks_for (session k.log) h.wait.request.code outcome back refusal h.opens).0
 
 fresh_for : (s : SessionState) (text : List ℕ) (outcome : Parsed) (m : MachineState) → Opens s text outcome (opening.Runs m) → IsFresh s text m
 fresh_for s text parsed.Memory m h = absurd h
@@ -297,16 +297,16 @@ starts_popped turns old got popped new w outcome g f p r s =
     first_from turns old.waits w (Some outcome) old new (subst (λ (k : KernelState). Some w ≡ first_of k.waits) g f) r
     (subst (λ (k : KernelState). Starts turns w.at (Some outcome) k new) (popped_as old got popped g p) s)
 
-broken_starts : (turns at : ℕ) (s : SessionState) (text : List ℕ) (outcome : Parsed) (back : SessionState) (fault : Fault) (k new : KernelState) → Opens s text outcome (opening.Broken back fault) → IsBrokenAt at fault k.log → new ≡ broken at fault k → Starts turns at (Some outcome) k new
-broken_starts turns at s text parsed.Memory back fault k new h wrong e = absurd h
-broken_starts turns at s text (parsed.Fault found) back fault k new h wrong e = e ∙ ap (λ (f : Fault). broken at f k) h.1
-broken_starts turns at s text (parsed.Tree tree) back fault k new h wrong e = inr (fault, wrong, e)
+broken_starts : (turns at : ℕ) (s : SessionState) (text : List ℕ) (outcome : Parsed) (back : SessionState) (refusal : Refusal) (k new : KernelState) → Opens s text outcome (opening.Broken back refusal) → IsBrokenAt at refusal k.log → new ≡ broken at refusal k → Starts turns at (Some outcome) k new
+broken_starts turns at s text parsed.Memory back refusal k new h wrong e = absurd h
+broken_starts turns at s text (parsed.Fault found) back refusal k new h wrong e = e ∙ ap (λ (f : Refusal). broken at f k) h.1
+broken_starts turns at s text (parsed.Tree tree) back refusal k new h wrong e = inr (refusal, wrong, e)
 
-pub first_broken : (turns : ℕ) (old got popped new : KernelState) (w : Waiting) (outcome : Parsed) (back : SessionState) (fault : Fault) → got ≡ old → Some w ≡ first_of got.waits → popped ≡ with_waits (drop 1 got.waits) got → w.result ≡ Some outcome → IsOpened old w outcome (opening.Broken back fault) → new ≡ broken w.at fault popped → StartsFirst turns old.waits old new
-first_broken turns old got popped new w outcome back fault g f p r h e =
+pub first_broken : (turns : ℕ) (old got popped new : KernelState) (w : Waiting) (outcome : Parsed) (back : SessionState) (refusal : Refusal) → got ≡ old → Some w ≡ first_of got.waits → popped ≡ with_waits (drop 1 got.waits) got → w.result ≡ Some outcome → IsOpened old w outcome (opening.Broken back refusal) → new ≡ broken w.at refusal popped → StartsFirst turns old.waits old new
+first_broken turns old got popped new w outcome back refusal g f p r h e =
     starts_popped turns old got popped new w outcome g f p r
-    (broken_starts turns w.at (session old.log) h.wait.request.code outcome back fault popped new h.opens
-    (subst (IsBrokenAt w.at fault) (same_log old got popped g p) (is_broken old w outcome back fault h)) e)
+    (broken_starts turns w.at (session old.log) h.wait.request.code outcome back refusal popped new h.opens
+    (subst (IsBrokenAt w.at refusal) (same_log old got popped g p) (is_broken old w outcome back refusal h)) e)
 
 begins_starts : (turns at : ℕ) (s : SessionState) (text : List ℕ) (outcome : Parsed) (m : MachineState) (k new : KernelState) → Opens s text outcome (opening.Runs m) → BeginsAt turns at k new → Starts turns at (Some outcome) k new
 begins_starts turns at s text parsed.Memory m k new h e = absurd h

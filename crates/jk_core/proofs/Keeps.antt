@@ -6,7 +6,9 @@ use Rattle.ob_base.specs.declared.fault.Fault.{Fault}
 use Rattle.ob_cell.specs.Parts.{SessionState, Meaning}
 use Rattle.ob_cell.specs.Cell.{cell}
 use Rattle.ob_cell.specs.Runs.{OutcomeIs}
-use Rattle.ob_cell.proofs.Laws.{cell-lawful, broken-unread}
+use Rattle.ob_cell.specs.declared.outcome.Refusal.{Refusal}
+use Rattle.ob_cell.specs.declared.outcome.Refusal.TheVariants.{Compile}
+use Rattle.ob_cell.proofs.Laws.{cell-lawful, refused-stands}
 use Rattle.ob_cell.specs.declared.outcome.Turned.{Turned}
 use Rattle.ob_cell.specs.declared.outcome.Turned.TheVariants as turned
 use Rattle.jp_msg.specs.declared.message.Execute.{Execute}
@@ -364,28 +366,28 @@ begun_runs k w ws e there = ap (option_with (λ (e : Execute). record { at = w.a
 pub stops_same : (o : Option Execute) (e : Execute) → o ≡ Some e → option_or (λ (e : Execute). e.stop_on_error) false o ≡ e.stop_on_error
 stops_same o e there = rw there refl
 
--- a text that was refused is begun and ended at once
-broken_kept : (k : KernelState) (w : Waiting) (ws : List Waiting) (fault : Fault) → k.waits ≡ w ∷ ws → IsBrokenAt w.at fault k.log → running k.log ≡ None → IsGoing [] k → IsKept (broken w.at fault (with_waits ws k))
-broken_kept k w ws fault waits wrong idle g =
+-- a cell that does not run is begun and ended at once
+broken_kept : (k : KernelState) (w : Waiting) (ws : List Waiting) (refusal : Refusal) → k.waits ≡ w ∷ ws → IsBrokenAt w.at refusal k.log → running k.log ≡ None → IsGoing [] k → IsKept (broken w.at refusal (with_waits ws k))
+broken_kept k w ws refusal waits wrong idle g =
     let e = wrong.request in
     let r : Running = record { at = w.at; request = e; turns = 0 } in
     let start = begun w.at (with_waits ws k) in
-    let stands = broken-unread (session k.log) e.code fault.code wrong.breaks [] 0 in
+    let stands = refused-stands (session k.log) e.code refusal wrong.breaks [] 0 in
     let runs = begun_runs k w ws e wrong.there in
     let flush = flush_kept start r 0 runs (omega arith) (begin_kept k w ws waits idle g) in
     let flush_now : IsGoing [] (noted w.at (Flush 0 []) start) =
     subst (λ (m : Meaning). IsGoing [] (noted w.at (Flush m.turns (drop (length m.output) m.output)) start)) stands flush in
     let now = flushed_runs (running start.log) r 0 runs in
-    subst (λ (b : Bool). IsKept (failing b (noted w.at (End (ending.Unreadable fault) (next_count w.at k.log)) (noted w.at (Flush 0 []) start)))) (sym (stops_same _ e wrong.there))
+    subst (λ (b : Bool). IsKept (failing b (noted w.at (End (ending.Refused refusal) (next_count w.at k.log)) (noted w.at (Flush 0 []) start)))) (sym (stops_same _ e wrong.there))
     (fails_kept e.stop_on_error _ refl
-    (end_going _ (noted w.at (Flush 0 []) start) r (ending.Unreadable fault) now tt (ap (λ (m : Meaning). m.outcome) stands, wrong.breaks)
+    (end_going _ (noted w.at (Flush 0 []) start) r (ending.Refused refusal) now tt (ap (λ (m : Meaning). m.outcome) stands, wrong.breaks)
     (aborts_same _ r _ now) flush_now))
 
 begins_kept : (turns : ℕ) (k new : KernelState) (w : Waiting) (ws : List Waiting) → k.waits ≡ w ∷ ws → running k.log ≡ None → IsGoing [] k → BeginsAt turns w.at (with_waits ws k) new → IsKept new
 begins_kept turns k new w ws waits idle kept (r, runs, goes) =
     goes_kept turns r (begun w.at (with_waits ws k)) new runs (begin_kept k w ws waits idle kept) goes
 
-found_broken : (k : KernelState) (w : Waiting) (ws : List Waiting) (fault : Fault) → k.waits ≡ w ∷ ws → w.result ≡ Some (parsed.Fault fault) → AllWait k.log k.waits → IsBrokenAt w.at fault k.log
+found_broken : (k : KernelState) (w : Waiting) (ws : List Waiting) (fault : Fault) → k.waits ≡ w ∷ ws → w.result ≡ Some (parsed.Fault fault) → AllWait k.log k.waits → IsBrokenAt w.at (Compile fault) k.log
 found_broken k w ws fault waits result all =
     let wait = (subst (AllWait k.log) waits all).0 in
     let wrong : IsResultOf wait.request.code (Some (parsed.Fault fault)) = subst (IsResultOf wait.request.code) result wait.result in
@@ -395,10 +397,10 @@ starts_kept : (turns : ℕ) (k new : KernelState) (w : Waiting) (ws : List Waiti
 starts_kept turns k new w ws None waits result idle kept s = absurd s
 starts_kept turns k new w ws (Some parsed.Memory) waits result idle kept s = subst IsKept (sym s) (refuse_kept k w ws waits idle kept)
 starts_kept turns k new w ws (Some (parsed.Fault fault)) waits result idle kept s =
-    subst IsKept (sym s) (broken_kept k w ws fault waits (found_broken k w ws fault waits result kept.wait) idle kept)
+    subst IsKept (sym s) (broken_kept k w ws (Compile fault) waits (found_broken k w ws fault waits result kept.wait) idle kept)
 starts_kept turns k new w ws (Some (parsed.Tree cell)) waits result idle kept (inl begins) = begins_kept turns k new w ws waits idle kept begins
-starts_kept turns k new w ws (Some (parsed.Tree cell)) waits result idle kept (inr (fault, wrong, e)) =
-    subst IsKept (sym e) (broken_kept k w ws fault waits wrong idle kept)
+starts_kept turns k new w ws (Some (parsed.Tree cell)) waits result idle kept (inr (refusal, wrong, e)) =
+    subst IsKept (sym e) (broken_kept k w ws refusal waits wrong idle kept)
 
 first_kept : (turns : ℕ) (k new : KernelState) (all : List Waiting) → k.waits ≡ all → running k.log ≡ None → IsGoing [] k → StartsFirst turns all k new → IsKept new
 first_kept turns k new [] waits idle kept s = absurd s

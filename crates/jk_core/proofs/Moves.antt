@@ -14,7 +14,8 @@ use Rattle.jk_core.specs.declared.mark.Cause.{Cause}
 use Rattle.std.proofs.Common.{Bool}
 use Rattle.jk_core.proofs.Keeps.{failing_moves}
 use Rattle.jk_core.specs.State.{KernelState}
-use Rattle.ob_base.specs.declared.fault.Fault.{Fault}
+use Rattle.ob_cell.specs.declared.outcome.Refusal.{Refusal}
+use Rattle.ob_cell.specs.declared.outcome.Refusal.TheVariants.{Compile}
 use Rattle.jk_core.specs.Steps.{broken, failing, stopped, noted, with_waits, begun, closed, GoesOn, Starts, StartsFirst, Works}
 
 -- a fact that each mark keeps, and each change of what waits
@@ -39,16 +40,16 @@ goes_moves : (P : KernelState → Type 0) → IsMoved P → (turns : ℕ) (r : R
 goes_moves P m turns r old new (answer, given, slice) h =
     subst P (sym slice.2) (closed_moves P m answer _ _ _ _ _ (m.note _ _ _ h))
 
-broken_moves : (P : KernelState → Type 0) → IsMoved P → (at : ℕ) (fault : Fault) (k : KernelState) → P k → P (broken at fault k)
-broken_moves P m at fault k h = fails_moves P m _ _ (m.note _ _ _ (m.note _ _ _ (m.note _ _ _ h)))
+broken_moves : (P : KernelState → Type 0) → IsMoved P → (at : ℕ) (refusal : Refusal) (k : KernelState) → P k → P (broken at refusal k)
+broken_moves P m at refusal k h = fails_moves P m _ _ (m.note _ _ _ (m.note _ _ _ (m.note _ _ _ h)))
 
 starts_moves : (P : KernelState → Type 0) → IsMoved P → (turns at : ℕ) (o : Option Parsed) (old new : KernelState) → Starts turns at o old new → P old → P new
 starts_moves P m turns at None old new s h = absurd s
 starts_moves P m turns at (Some parsed.Memory) old new s h = subst P (sym s) (m.note _ _ _ h)
-starts_moves P m turns at (Some (parsed.Fault fault)) old new s h = subst P (sym s) (broken_moves P m at fault old h)
+starts_moves P m turns at (Some (parsed.Fault fault)) old new s h = subst P (sym s) (broken_moves P m at (Compile fault) old h)
 starts_moves P m turns at (Some (parsed.Tree cell)) old new (inl (r, runs, goes)) h =
     goes_moves P m turns r (begun at old) new goes (m.note at (Begin (next_count at old.log)) old h)
-starts_moves P m turns at (Some (parsed.Tree cell)) old new (inr (fault, wrong, e)) h = subst P (sym e) (broken_moves P m at fault old h)
+starts_moves P m turns at (Some (parsed.Tree cell)) old new (inr (refusal, wrong, e)) h = subst P (sym e) (broken_moves P m at refusal old h)
 
 first_moves : (P : KernelState → Type 0) → IsMoved P → (turns : ℕ) (all : List Waiting) (old new : KernelState) → StartsFirst turns all old new → P old → P new
 first_moves P m turns [] old new s h = absurd s

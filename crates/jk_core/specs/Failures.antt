@@ -1,9 +1,13 @@
 -- The name and the value of an error.
-use Rattle.std.specs.Prelude.{ℕ, [], ◌++◌, codes, decimal, flat_map}
+use Rattle.std.specs.Prelude.{ℕ, List, [], ◌++◌, codes, decimal, flat_map}
 use Rattle.std.specs.Char.{encode_utf8}
 use Rattle.ob_base.specs.declared.fault.Fault.{Fault}
 use Rattle.ob_base.specs.declared.fault.Code.{Code}
 use Rattle.ob_base.specs.declared.fault.Code.TheVariants as code
+use Rattle.ob_cell.specs.declared.outcome.LinkFault.{LinkFault}
+use Rattle.ob_cell.specs.declared.outcome.LinkFault.TheVariants.{NotLoaded, NoCommand}
+use Rattle.ob_cell.specs.declared.outcome.Refusal.{Refusal}
+use Rattle.ob_cell.specs.declared.outcome.Refusal.TheVariants.{Compile, Link}
 use Rattle.ob_cell.specs.declared.outcome.Trap.{Trap}
 use Rattle.ob_cell.specs.Parts.{trap_number}
 use Rattle.jp_msg.specs.declared.message.Failure.{Failure}
@@ -37,6 +41,18 @@ compile_failure fault = record {
   ename = codes "CompileError";
   evalue = codes "compile error " ++ decimal (code_number fault.code) ++ codes " at " ++ decimal fault.line ++ codes ":" ++ decimal fault.column;
 }
+
+-- commands that can't be called: 30 and the module that is not loaded, or 31 and the command that its module does not have
+unfoldable pub link_value : LinkFault → List ℕ
+link_value (NotLoaded home) = codes "link error 30: " ++ flat_map encode_utf8 home
+link_value (NoCommand home name) = codes "link error 31: " ++ flat_map encode_utf8 home ++ codes "." ++ flat_map encode_utf8 name
+
+abbrev pub link_failure : LinkFault → Failure
+link_failure fault = record { ename = codes "LinkError"; evalue = link_value fault }
+
+abbrev pub refusal_failure : Refusal → Failure
+refusal_failure (Compile fault) = compile_failure fault
+refusal_failure (Link fault) = link_failure fault
 
 -- a trap: its number, its module, whose name has characters up to U+00FF, and its line
 unfoldable pub trap_failure : Trap → Failure

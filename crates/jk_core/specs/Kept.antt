@@ -1,7 +1,8 @@
 -- What a kernel keeps true.
 use Rattle.std.specs.Prelude.{◌≡◌, false, ℕ, ◌≤◌, IsTrue, is_some, List, [], ◌∷◌, length, map, Option, None, Some}
 use Rattle.ob_cell.specs.Parts.{SessionState}
-use Rattle.ob_cell.specs.Cell.{cell, IsBroken}
+use Rattle.ob_cell.specs.declared.outcome.Refusal.TheVariants.{Compile}
+use Rattle.ob_cell.specs.Cell.{cell, IsRefusedFor}
 use Rattle.ob_cell.specs.MachineState.{MachineState}
 use Rattle.ob_cell.specs.Runs.{meaning_of}
 use Rattle.jp_msg.specs.declared.message.Execute.{Execute}
@@ -83,11 +84,12 @@ pub record IsFresh (session : SessionState) (text : List ℕ) (m : MachineState)
 -- what comes of a request for this text, by its result
 abbrev pub Opens : SessionState → List ℕ → Parsed → Opening → Type 0
 Opens session text parsed.Memory (opening.Refused back) = back ≡ session
-Opens session text parsed.Memory (opening.Broken back fault) = ⊥
+Opens session text parsed.Memory (opening.Broken back refusal) = ⊥
 Opens session text parsed.Memory (opening.Runs m) = ⊥
 Opens session text (parsed.Fault found) (opening.Refused back) = ⊥
-Opens session text (parsed.Fault found) (opening.Broken back fault) = (back ≡ session) × (fault ≡ found) × IsBroken session text fault.code
+Opens session text (parsed.Fault found) (opening.Broken back refusal) =
+    (back ≡ session) × (refusal ≡ Compile found) × IsRefusedFor session text refusal
 Opens session text (parsed.Fault found) (opening.Runs m) = ⊥
 Opens session text (parsed.Tree tree) (opening.Refused back) = ⊥
-Opens session text (parsed.Tree tree) (opening.Broken back fault) = (back ≡ session) × IsBroken session text fault.code
+Opens session text (parsed.Tree tree) (opening.Broken back refusal) = (back ≡ session) × IsRefusedFor session text refusal
 Opens session text (parsed.Tree tree) (opening.Runs m) = IsFresh session text m

@@ -3,7 +3,7 @@ use Rattle.std.specs.Prelude.{◌≡◌, ℕ, ◌≤◌, List, [], ◌∷◌, �
 use Rattle.ob_cell.specs.declared.outcome.Outcome.{Outcome}
 use Rattle.ob_cell.specs.declared.outcome.Outcome.TheVariants as outcome
 use Rattle.ob_cell.specs.Parts.{SessionState}
-use Rattle.ob_cell.specs.Cell.{IsBroken}
+use Rattle.ob_cell.specs.Cell.{IsRefusedFor, refused_outcome}
 use Rattle.ob_cell.specs.declared.outcome.Turned.TheVariants as turned
 use Rattle.ob_cell.specs.Runs.{OutcomeIs}
 use Rattle.jk_core.specs.declared.arrival.Sort.{Sort}
@@ -15,7 +15,7 @@ use Rattle.jk_core.specs.declared.mark.Mark.{Mark}
 use Rattle.jk_core.specs.declared.mark.Kind.{Kind}
 use Rattle.jk_core.specs.declared.mark.Kind.TheVariants.{Join, Begin, Flush, End, Stop, Refuse, Abort, Interrupt}
 use Rattle.jk_core.specs.declared.mark.Ending.{Ending}
-use Rattle.jk_core.specs.declared.mark.Ending.TheVariants.{Completed, Trapped, Unreadable}
+use Rattle.jk_core.specs.declared.mark.Ending.TheVariants.{Completed, Trapped, Refused}
 use Rattle.jk_core.specs.declared.mark.Cause.{Cause}
 use Rattle.jk_core.specs.declared.mark.Cause.TheVariants.{Memory, Interrupted}
 use Rattle.jk_core.specs.Log.{Log, Running, running, waiting, session, meaning, count, next_count}
@@ -47,7 +47,7 @@ aborts_due (Some r) places = if r.request.stop_on_error then map AbortDue places
 abbrev pub dues_after_end : Ending → Option Running → List ℕ → List Due
 dues_after_end Completed r places = []
 dues_after_end (Trapped trap) r places = aborts_due r places
-dues_after_end (Unreadable fault) r places = aborts_due r places
+dues_after_end (Refused refusal) r places = aborts_due r places
 
 abbrev pub dues_after : Kind → Option Running → List ℕ → List Due
 dues_after (End ending n) r places = dues_after_end ending r places
@@ -97,7 +97,7 @@ pub record Flushes (past : Log) (r : Running) (at turns : ℕ) (text : List ℕ)
 abbrev pub EndsSo : SessionState → List ℕ → Outcome → Ending → Type 0
 EndsSo session code o Completed = o ≡ outcome.Ended
 EndsSo session code o (Trapped trap) = o ≡ outcome.Trapped trap
-EndsSo session code o (Unreadable fault) = (o ≡ outcome.Unreadable) × IsBroken session code fault.code
+EndsSo session code o (Refused refusal) = (o ≡ refused_outcome refusal) × IsRefusedFor session code refusal
 
 pub record Ends (past : Log) (r : Running) (at : ℕ) (ending : Ending) (n : ℕ) : Type 0 where
   pub request : at ≡ r.at

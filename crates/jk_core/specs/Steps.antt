@@ -1,10 +1,11 @@
 -- How a kernel moves.
 use Rattle.std.specs.Prelude.{◌≡◌, ℕ, Bool, false, if◌then◌else◌, ◌+◌, ◌-◌, ◌^◌, min, List, [], ◌∷◌, ◌++◌, length, drop, Option, None, Some, ◌⊎◌, nat_lt, find, slice_get, slice_set}
-use Rattle.ob_base.specs.declared.fault.Fault.{Fault}
+use Rattle.ob_cell.specs.declared.outcome.Refusal.{Refusal}
+use Rattle.ob_cell.specs.declared.outcome.Refusal.TheVariants.{Compile}
 use Rattle.ob_cell.specs.Parts.{Meaning}
 use Rattle.ob_cell.specs.declared.outcome.Turned.{Turned}
 use Rattle.ob_cell.specs.declared.outcome.Turned.TheVariants as turned
-use Rattle.ob_cell.specs.Cell.{IsBroken}
+use Rattle.ob_cell.specs.Cell.{IsRefusedFor}
 use Rattle.ob_cell.specs.Runs.{IsGiven, OutcomeIs}
 use Rattle.jp_msg.specs.declared.message.Execute.{Execute}
 use Rattle.jk_core.specs.declared.arrival.Arrival.{Arrival}
@@ -123,16 +124,16 @@ GoesOn turns r old new =
 abbrev pub stops_at : ℕ → Log → Bool
 stops_at at log = option_or (λ (e : Execute). e.stop_on_error) false (execute_at at log)
 
--- the request at a place begins, and ends at once, since its text is refused by compiling
-abbrev pub broken : ℕ → Fault → KernelState → KernelState
-broken at fault k =
-    failing (stops_at at k.log) (noted at (End (ending.Unreadable fault) (next_count at k.log)) (noted at (Flush 0 []) (begun at k)))
+-- the request at a place begins, and ends at once, since its text is refused by compiling or its commands do not link
+abbrev pub broken : ℕ → Refusal → KernelState → KernelState
+broken at refusal k =
+    failing (stops_at at k.log) (noted at (End (ending.Refused refusal) (next_count at k.log)) (noted at (Flush 0 []) (begun at k)))
 
--- the text of the request at a place breaks a rule of the fault's code
-pub record IsBrokenAt (at : ℕ) (fault : Fault) (log : Log) : Type 0 where
+-- the request at a place does not run for this
+pub record IsBrokenAt (at : ℕ) (refusal : Refusal) (log : Log) : Type 0 where
   pub request : Execute
   pub there : execute_at at log ≡ Some request
-  pub breaks : IsBroken (session log) request.code fault.code
+  pub breaks : IsRefusedFor (session log) request.code refusal
 
 -- the request at a place begins, and goes on
 abbrev pub BeginsAt : ℕ → ℕ → KernelState → KernelState → Type 0
@@ -142,9 +143,9 @@ BeginsAt turns at old new = (r : Running) × (running (begun at old).log ≡ Som
 abbrev pub Starts : ℕ → ℕ → Option Parsed → KernelState → KernelState → Type 0
 Starts turns at None old new = ⊥
 Starts turns at (Some parsed.Memory) old new = new ≡ noted at (Refuse (count old.log)) old
-Starts turns at (Some (parsed.Fault fault)) old new = new ≡ broken at fault old
+Starts turns at (Some (parsed.Fault fault)) old new = new ≡ broken at (Compile fault) old
 Starts turns at (Some (parsed.Tree cell)) old new =
-    BeginsAt turns at old new ⊎ ((fault : Fault) × IsBrokenAt at fault old.log × (new ≡ broken at fault old))
+    BeginsAt turns at old new ⊎ ((refusal : Refusal) × IsBrokenAt at refusal old.log × (new ≡ broken at refusal old))
 
 abbrev pub StartsFirst : ℕ → List Waiting → KernelState → KernelState → Type 0
 StartsFirst turns [] old new = ⊥

@@ -2,17 +2,57 @@
 
 ghost use Rattle.std.specs.Prelude.{◌≡◌, IfOk, flat_map, string_bytes};
 ghost use Rattle.std.specs.Char.{encode_utf8};
-ghost use Rattle.jk_core.specs.Failures.{compile_failure, trap_failure, cause_failure, code_number};
+ghost use Rattle.jk_core.specs.Failures.{compile_failure, link_value, link_failure, refusal_failure, trap_failure, cause_failure, code_number};
 
 use crate::mark::Cause;
 use jp_msg::Failure;
 use json_form::Text;
-use ob_cell::{Code, Fault, Trap};
+use ob_cell::{Code, Fault, LinkFault, Refusal, Trap};
 use std::alloc::{AllocError, Global};
+
+/// The error of a cell that does not run.
+pub(crate) fn of_refusal(alloc: Global, refusal: &Refusal) -> Result<Failure, AllocError>
+    ensures { IfOk result (λ failure. failure ≡ refusal_failure refusal.now) }
+{
+    match refusal {
+        Refusal::Compile(fault) => of_fault(alloc, fault),
+        Refusal::Link(fault) => of_link(alloc, fault),
+    }
+}
+
+/// The error of commands that can't be called.
+fn of_link(alloc: Global, fault: &LinkFault) -> Result<Failure, AllocError>
+    ensures { IfOk result (λ failure. failure ≡ link_failure fault.now) }
+{
+    let evalue = link_text(alloc, fault)?;
+    Ok(Failure {
+        ename: Text::from_str(alloc, "LinkError")?,
+        evalue,
+    })
+}
+
+#[tactic(auto, unfolding(crate::specs::Failures::link_value))]
+fn link_text(alloc: Global, fault: &LinkFault) -> Result<Text, AllocError>
+    ensures { IfOk result (λ text. text ≡ link_value fault.now) }
+{
+    match fault {
+        LinkFault::NotLoaded(home) => {
+            let home = latin_text(alloc, home.as_slice())?;
+            let text = format!(in alloc; "link error 30: {home}")?;
+            Ok(Text::from_string(text))
+        }
+        LinkFault::NoCommand(home, name) => {
+            let home = latin_text(alloc, home.as_slice())?;
+            let name = latin_text(alloc, name.as_slice())?;
+            let text = format!(in alloc; "link error 31: {home}.{name}")?;
+            Ok(Text::from_string(text))
+        }
+    }
+}
 
 /// The error of a text that was refused.
 #[tactic(auto, unfolding(crate::specs::Failures::compile_failure))]
-pub(crate) fn of_fault(alloc: Global, fault: &Fault) -> Result<Failure, AllocError>
+fn of_fault(alloc: Global, fault: &Fault) -> Result<Failure, AllocError>
     ensures { IfOk result (λ failure. failure ≡ compile_failure fault.now) }
 {
     let code = number_of(fault.code);

@@ -2,7 +2,7 @@
 
 use crate::arrival::Arrival;
 use json_form::Text;
-use ob_cell::{Fault, Trap};
+use ob_cell::{Refusal, Trap};
 
 /// Why a cell was stopped.
 #[derive(Clone, Copy, Debug, PartialEq, Eq)]
@@ -16,8 +16,8 @@ pub enum Cause {
 pub enum Ending {
     Completed,
     Trapped(Trap),
-    /// The text was refused by compiling.
-    Unreadable(Fault),
+    /// It did not run: the text was refused by compiling, or its commands do not link.
+    Refused(Refusal),
 }
 
 /// What the kernel did, with what is shown of it.

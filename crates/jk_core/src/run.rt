@@ -14,7 +14,7 @@ use crate::kernel::Work;
 use crate::mark::{Cause, Ending, Kind};
 use crate::script::Script;
 use json_form::Text;
-use ob_cell::{Begun, Fault, Machine, Session, Turned};
+use ob_cell::{Begun, Machine, Refusal, Session, Turned};
 use std::alloc::{AllocFailed, Global};
 use std::mem;
 
@@ -219,8 +219,8 @@ fn stops_at(script: &Script, at: usize) -> bool
 pub(crate) enum Opening {
     /// Its parse found no memory.
     Refused(Session),
-    /// Its text is refused by compiling.
-    Broken(Session, Fault),
+    /// Its text is refused by compiling, or its commands do not link.
+    Broken(Session, Refusal),
     Runs(Machine),
 }
 
@@ -231,10 +231,10 @@ fn open(alloc: Global, session: Session, outcome: &Parsed) -> Result<Opening, Se
 {
     match outcome {
         Parsed::Memory => Ok(Opening::Refused(session)),
-        Parsed::Fault(fault) => Ok(Opening::Broken(session, *fault)),
+        Parsed::Fault(fault) => Ok(Opening::Broken(session, Refusal::Compile(*fault))),
         Parsed::Tree(cell) => match Machine::begin(alloc, session, cell) {
             Ok(Begun::Runs(machine)) => Ok(Opening::Runs(machine)),
-            Ok(Begun::Refused(session, fault)) => Ok(Opening::Broken(session, fault)),
+            Ok(Begun::Refused(session, refusal)) => Ok(Opening::Broken(session, refusal)),
             Err((session, _)) => Err(session),
         },
     }
@@ -277,7 +277,7 @@ fn start(script: &mut Script, desk: &mut Desk, session: Session, turns: u64) -> 
             script.note(at, Kind::Refuse { count });
             desk.place = Place::Resting(session);
         }
-        Opening::Broken(session, fault) => end_broken(script, desk, at, session, fault),
+        Opening::Broken(session, refusal) => end_broken(script, desk, at, session, refusal),
         Opening::Runs(machine) => begin(script, desk, at, machine, turns),
     }
     Work::Ran
@@ -299,14 +299,14 @@ fn begin(script: &mut Script, desk: &mut Desk, at: usize, machine: Machine, turn
     go_on(script, desk, Active { at, stops, machine }, turns);
 }
 
-/// Begins and ends a cell whose text is refused.
-fn end_broken(script: &mut Script, desk: &mut Desk, at: usize, session: Session, fault: Fault)
+/// Begins and ends a cell that does not run.
+fn end_broken(script: &mut Script, desk: &mut Desk, at: usize, session: Session, refusal: Refusal)
     requires room { 3 + length script.old.state.waits ≤ script.old.room }
     requires counted { desk.old.count ≡ count_of script.old.state.log }
     requires few { count_of script.old.state.log ≤ length script.old.state.log }
     requires session { session ≡ session_of script.old.state.log }
-    requires breaks { IsBrokenAt at fault script.old.state.log }
-    ensures ended { script.new.state ≡ broken at fault script.old.state }
+    requires breaks { IsBrokenAt at refusal script.old.state.log }
+    ensures ended { script.new.state ≡ broken at refusal script.old.state }
     ensures stands { Stands script.new.state.log desk.new }
 {
     let stops = stops_at(script, at);
@@ -315,7 +315,7 @@ fn end_broken(script: &mut Script, desk: &mut Desk, at: usize, session: Session,
     script.note(at, Kind::Begin { count });
     let text = Text::from_string(String::new(desk.alloc));
     script.note(at, Kind::Flush { turns: 0, text });
-    let ending = Ending::Unreadable(fault);
+    let ending = Ending::Refused(refusal);
     script.note(at, Kind::End { ending, count });
     fail(script, stops);
     desk.place = Place::Resting(session);

@@ -14,14 +14,19 @@ use Rattle.ob_scan.specs.Tokens.{Tokens}
 use Rattle.ob_scan.proofs.TokenReading.{tokens_of-complete}
 use Rattle.ob_parse.proofs.Texts.{cell_sound, cell_complete}
 use Rattle.ob_check.specs.Rule.{Rule, Given, Breaks, Then, Needs, Both, gives, breaks, answer}
-use Rattle.ob_check.proofs.Exact.{found, one}
+use Rattle.ob_check.proofs.Exact.{found, only, one}
+use Rattle.ob_cell.specs.declared.outcome.LinkFault.{LinkFault}
 use Rattle.ob_cell.specs.declared.outcome.Outcome.TheVariants.{Unreadable}
+use Rattle.ob_cell.specs.declared.outcome.Refusal as why
+use Rattle.ob_cell.specs.declared.outcome.Refusal.TheVariants.{Compile, Link}
+use Rattle.ob_cell.specs.declared.program.Plan.{Plan}
+use Rattle.ob_cell.specs.declared.program.Plan.TheVariants as plan
 use Rattle.ob_cell.specs.declared.program.Program.{Program}
 use Rattle.ob_cell.specs.Parts.{SessionState, Line}
-use Rattle.ob_cell.specs.Programs.{program_meaning, unread, IsLawful}
-use Rattle.ob_cell.specs.Cell.{cell, cell_rule, program_by, program_in, unless_refused, IsTreeOf, IsBroken, IsRefusal, IsStaticRefusal}
+use Rattle.ob_cell.specs.Programs.{program_meaning, unread, unlinked, IsLawful}
+use Rattle.ob_cell.specs.Cell.{cell, cell_rule, plan_by, plan_in, planned, refused_outcome, IsTreeOf, IsBroken, IsUnlinked, IsRefusedFor, IsRefusal, IsStaticRefusal}
 use Rattle.ob_cell.specs.declared.machine.Begun.{Begun}
-use Rattle.ob_cell.specs.declared.machine.Begun.TheVariants.{Runs}
+use Rattle.ob_cell.specs.declared.machine.Begun.TheVariants.{Runs, Refused as RefusedBegun}
 use Rattle.ob_cell.specs.Beginning.{HasBegun, IsRefusedBy}
 use Rattle.ob_cell.specs.MachineState.{MachineState}
 use Rattle.ob_cell.specs.Runs.{meaning_of}
@@ -47,13 +52,13 @@ excludes (Both r s) c a b g =
       | inr p ↦ excludes s c a.1 p g.1
     ]
 
--- a tree that breaks a rule is no program
-no_program_by : (r : Rule Program) (c : Code) → breaks r c → (x : Result Program Code) → answer r ≡ x → program_by x ≡ None
-no_program_by r c b (Ok p) e = absurd (excludes r c p b (found r p e))
-no_program_by r c b (Err code) e = refl
+-- for a tree that breaks a rule nothing is planned
+no_plan_by : (r : Rule Plan) (c : Code) → breaks r c → (x : Result Plan Code) → answer r ≡ x → plan_by x ≡ None
+no_plan_by r c b (Ok p) e = absurd (excludes r c p b (found r p e))
+no_plan_by r c b (Err code) e = refl
 
--- a text without a tree is no program
-no_cell : (text : List ℕ) → ((c : Cell) → IsCellOf text c → ⊥) → (o : Option Cell) → cell_of text ≡ o → program_in o ≡ None
+-- nor for a text without a tree
+no_cell : (text : List ℕ) → ((c : Cell) → IsCellOf text c → ⊥) → (o : Option Cell) → cell_of text ≡ o → plan_in o ≡ None
 no_cell text h None e = refl
 no_cell text h (Some c) e = absurd (h c (cell_sound text c e))
 
@@ -71,18 +76,30 @@ breaks_none t code b c is =
       | inr p ↦ p.1.2 c (subst (λ l. Derives l c) (one_list t is.0 p.1.0 is.1 p.1.1) is.2)
     ]
 
-refused : (session : SessionState) (t : List ℕ) (c : Code) → IsBroken session t c → program_in (cell_of t) ≡ None
+refused : (session : SessionState) (t : List ℕ) (c : Code) → IsBroken session t c → plan_in (cell_of t) ≡ None
 unfolding IsBroken
 refused session t c h =
-    elim h as (λ _. program_in (cell_of t) ≡ None) [
+    elim h as (λ _. plan_in (cell_of t) ≡ None) [
       | inl b ↦ no_cell t (breaks_none t c b) (cell_of t) refl
-      | inr p ↦ ap program_in (cell_complete t p.0 p.1) ∙ no_program_by (cell_rule p.0) c p.2 (answer (cell_rule p.0)) refl
+      | inr p ↦ ap plan_in (cell_complete t p.0 p.1) ∙ no_plan_by (cell_rule p.0) c p.2 (answer (cell_rule p.0)) refl
     ]
 
 -- a text that is refused stands where it was
 pub broken-unread : (session : SessionState) (text : List ℕ) (c : Code) → IsBroken session text c → (lines : List Line) (n : ℕ) → cell session text lines n ≡ record { session = session; output = []; lines_used = 0; turns = 0; outcome = Unreadable }
 unfolding cell
-broken-unread session text c h lines n = ap (λ o. unless_refused o session lines n) (refused session text c h)
+broken-unread session text c h lines n = ap (λ o. planned o session lines n) (refused session text c h)
+
+-- commands that can't be called stand where they were
+unlinked-stands : (session : SessionState) (text : List ℕ) (fault : LinkFault) → IsUnlinked text fault → (lines : List Line) (n : ℕ) → cell session text lines n ≡ unlinked session fault
+unfolding cell IsUnlinked
+unlinked-stands session text fault h lines n =
+    ap (λ o. planned (plan_in o) session lines n) (cell_complete text h.0 h.1)
+    ∙ ap (λ r. planned (plan_by r) session lines n) (only (cell_rule h.0) (plan.Unlinks fault) h.2)
+
+-- a cell that does not run stands where it was
+pub refused-stands : (session : SessionState) (text : List ℕ) (r : why.Refusal) → IsRefusedFor session text r → (lines : List Line) (n : ℕ) → cell session text lines n ≡ record { session = session; output = []; lines_used = 0; turns = 0; outcome = refused_outcome r }
+refused-stands session text (Compile fault) h lines n = broken-unread session text fault.code h lines n
+refused-stands session text (Link fault) h lines n = unlinked-stands session text fault h lines n
 
 -- the meaning of a machine's cell is not changed by turns, nor by taking the output
 pub meaning-same : (m : MachineState) (turns shown n : ℕ) (over : Bool) → meaning_of (record m { turns = turns; shown = shown; over = over }) n ≡ meaning_of m n
@@ -90,10 +107,10 @@ unfolding meaning_of
 meaning-same m turns shown n over = refl
 
 -- a text whose tree is a program runs
-pub cell-runs : (session : SessionState) (text : List ℕ) (c : Cell) (p : Program) → IsTreeOf text c → answer (cell_rule c) ≡ Ok p → (lines : List Line) (n : ℕ) → cell session text lines n ≡ program_meaning session p lines n
+pub cell-runs : (session : SessionState) (text : List ℕ) (c : Cell) (p : Program) → IsTreeOf text c → answer (cell_rule c) ≡ Ok (plan.Runs p) → (lines : List Line) (n : ℕ) → cell session text lines n ≡ program_meaning session p lines n
 unfolding cell IsTreeOf
 cell-runs session text c p is e lines n =
-    ap (λ o. unless_refused (program_in o) session lines n) (cell_complete text c is) ∙ ap (λ r. unless_refused (program_by r) session lines n) e
+    ap (λ o. planned (plan_in o) session lines n) (cell_complete text c is) ∙ ap (λ r. planned (plan_by r) session lines n) e
 
 standing-lawful : (session : SessionState) → IsLawful (λ n. unread session)
 standing-lawful session = record {
@@ -106,14 +123,26 @@ standing-lawful session = record {
   unread = λ n e m. refl;
 }
 
-lawful-at : (o : Option Program) (session : SessionState) (lines : List Line) → IsLawful (λ n. unless_refused o session lines n)
+unlinked-lawful : (session : SessionState) (fault : LinkFault) → IsLawful (λ n. unlinked session fault)
+unlinked-lawful session fault = record {
+  few = λ n. omega arith;
+  settled = λ n. refl;
+  onward = λ n m h. omega arith;
+  output = λ n m h. ([], refl);
+  silent = refl;
+  stopped = λ n kind e. cc;
+  unread = λ n e m. refl;
+}
+
+lawful-at : (o : Option Plan) (session : SessionState) (lines : List Line) → IsLawful (λ n. planned o session lines n)
 lawful-at None session lines = standing-lawful session
-lawful-at (Some p) session lines = program-lawful session p lines
+lawful-at (Some (plan.Runs p)) session lines = program-lawful session p lines
+lawful-at (Some (plan.Unlinks fault)) session lines = unlinked-lawful session fault
 
 -- each cell keeps the laws
 pub cell-lawful : (session : SessionState) (text : List ℕ) (lines : List Line) → IsLawful (cell session text lines)
 unfolding cell
-cell-lawful session text lines = lawful-at (program_in (cell_of text)) session lines
+cell-lawful session text lines = lawful-at (plan_in (cell_of text)) session lines
 
 pub tree-faults : (session : SessionState) (text : List ℕ) (c : Cell) (code : Code) → IsTreeOf text c → breaks (cell_rule c) code → IsBroken session text code
 unfolding IsBroken IsTreeOf
@@ -126,7 +155,7 @@ refusals t (Err refusal.Memory) h = λ session. tt
 refusals t (Err (refusal.Fault f)) h = λ session. inl h
 
 -- what is begun is a machine of the cell's program, or a refusal of its text
-pub begins : (session : SessionState) (c : Cell) (p : Program) (b : Begun) → answer (cell_rule c) ≡ Ok p → b ≡ Runs (record { session = session; program = p; turns = 0; shown = 0; over = false }) → (t : List ℕ) → IsTreeOf t c → HasBegun session t b
+pub begins : (session : SessionState) (c : Cell) (p : Program) (b : Begun) → answer (cell_rule c) ≡ Ok (plan.Runs p) → b ≡ Runs (record { session = session; program = p; turns = 0; shown = 0; over = false }) → (t : List ℕ) → IsTreeOf t c → HasBegun session t b
 unfolding meaning_of
 begins session c p b e same t is =
     subst (HasBegun session t) (sym same) (refl, refl, refl, λ n. sym (cell-runs session t c p is e [] n))
@@ -135,7 +164,11 @@ pub refused-begun : (session : SessionState) (c : Cell) (r : Refused) (b : Begun
 refused-begun session c refusal.Memory b h same t is = absurd same
 refused-begun session c (refusal.Fault f) b h same t is = subst (HasBegun session t) (sym same) (refl, tree-faults session t c f.code is h)
 
-pub all-begin : {E : Type 0} (session : SessionState) (c : Cell) (p : Program) (r : Result Begun E) → answer (cell_rule c) ≡ Ok p → IfOk r (λ b. b ≡ Runs (record { session = session; program = p; turns = 0; shown = 0; over = false })) → IfOk r (λ b. (t : List ℕ) → IsTreeOf t c → HasBegun session t b)
+pub unlinked-begun : (session : SessionState) (c : Cell) (fault : LinkFault) → answer (cell_rule c) ≡ Ok (plan.Unlinks fault) → (t : List ℕ) → IsTreeOf t c → HasBegun session t (RefusedBegun session (Link fault))
+unfolding IsUnlinked IsTreeOf
+unlinked-begun session c fault e t is = (refl, (c, is, found (cell_rule c) (plan.Unlinks fault) e))
+
+pub all-begin : {E : Type 0} (session : SessionState) (c : Cell) (p : Program) (r : Result Begun E) → answer (cell_rule c) ≡ Ok (plan.Runs p) → IfOk r (λ b. b ≡ Runs (record { session = session; program = p; turns = 0; shown = 0; over = false })) → IfOk r (λ b. (t : List ℕ) → IsTreeOf t c → HasBegun session t b)
 all-begin session c p (Ok b) e h = begins session c p b e h
 all-begin session c p (Err x) e h = tt
 

@@ -1,30 +1,48 @@
 -- The meaning of a cell: its text is read by the tokens and the grammar of Oberon-07, judged by the static rules, and run
 -- by what its typed tree means (Wirth, The Programming Language Oberon, Oberon-07).
-use Rattle.std.specs.Prelude.{◌⊎◌, ℕ, List, [], ◌∷◌, Option, None, Some, Result, Ok, Err}
+use Rattle.std.specs.Prelude.{◌⊎◌, ◌||◌, if◌then◌else◌, codes, Bool, ℕ, List, [], ◌∷◌, Option, None, Some, Result, Ok, Err}
+use Rattle.std.specs.Str.{bytes_eq}
 use Rattle.ob_base.specs.declared.fault.Code.{Code}
-use Rattle.ob_base.specs.declared.fault.Code.TheVariants as code
 use Rattle.ob_base.specs.declared.fault.Refused.{Refused}
 use Rattle.ob_base.specs.declared.fault.Refused.TheVariants.{Fault, Memory}
 use Rattle.ob_parse.specs.declared.tree.Cell.{Cell}
 use Rattle.ob_parse.specs.declared.tree.Cell.TheVariants as cells
+use Rattle.ob_parse.specs.declared.tree.Command.{Command}
 use Rattle.ob_parse.specs.CellText.{IsCellOf}
 use Rattle.ob_parse.specs.CellText as reading
 use Rattle.ob_parse.specs.TreeOf.{cell_of}
-use Rattle.ob_check.specs.Rule.{Rule, Given, Breaks, Then, breaks, answer}
+use Rattle.ob_check.specs.Rule.{Rule, Given, Then, gives, breaks, answer}
 use Rattle.ob_check.specs.Modules.{module_rule}
+use Rattle.ob_cell.specs.declared.outcome.LinkFault.{LinkFault}
+use Rattle.ob_cell.specs.declared.outcome.LinkFault.TheVariants.{NotLoaded, NoCommand}
+use Rattle.ob_cell.specs.declared.outcome.Outcome.{Outcome}
+use Rattle.ob_cell.specs.declared.outcome.Outcome.TheVariants.{Unreadable, Unlinked}
+use Rattle.ob_cell.specs.declared.outcome.Refusal as why
+use Rattle.ob_cell.specs.declared.outcome.Refusal.TheVariants.{Compile, Link}
+use Rattle.ob_cell.specs.declared.program.Plan.{Plan}
+use Rattle.ob_cell.specs.declared.program.Plan.TheVariants.{Runs, Unlinks}
 use Rattle.ob_cell.specs.declared.program.Program.{Program}
 use Rattle.ob_cell.specs.Parts.{SessionState, Line, Meaning}
-use Rattle.ob_cell.specs.Programs.{program_meaning, unread}
+use Rattle.ob_cell.specs.Programs.{program_meaning, standing, unread, unlinked}
 
 -- no commands do nothing
 abbrev pub no_program : Program
 no_program = record { name = []; tree = record { variables = 0; procedures = (record { body = [] }) ∷ [] } }
 
--- what a cell runs, by the static rules. Commands are not admitted yet.
-abbrev pub cell_rule : Cell → Rule Program
-cell_rule (cells.Module m) = Then (module_rule m) (λ tree. Given (record { name = m.name.name; tree = tree }))
-cell_rule (cells.Commands []) = Given no_program
-cell_rule (cells.Commands (c ∷ cs)) = Breaks code.LeftOut
+-- the modules In and Out are always there, and have no commands
+abbrev pub is_standard : List ℕ → Bool
+is_standard name = bytes_eq name (codes "In") || bytes_eq name (codes "Out")
+
+-- why a command can't be called in a session that holds no module
+abbrev pub unlinked_by : List ℕ → List ℕ → LinkFault
+unlinked_by home name = if is_standard home then NoCommand home name else NotLoaded home
+
+-- What a cell comes to by the static rules: a module runs. Commands are looked up before the first runs, and no module is
+-- loaded in this part of the language.
+abbrev pub cell_rule : Cell → Rule Plan
+cell_rule (cells.Module m) = Then (module_rule m) (λ tree. Given (Runs (record { name = m.name.name; tree = tree })))
+cell_rule (cells.Commands []) = Given (Runs no_program)
+cell_rule (cells.Commands (c ∷ cs)) = Given (Unlinks (unlinked_by c.module_name.name c.procedure.name))
 
 -- this tree is the text's
 unfoldable pub IsTreeOf : List ℕ → Cell → Type 0
@@ -44,19 +62,33 @@ abbrev pub IsStaticRefusal : Cell → Refused → Type 0
 IsStaticRefusal c (Fault fault) = breaks (cell_rule c) fault.code
 IsStaticRefusal c Memory = Unit {0}
 
-abbrev pub program_by : Result Program Code → Option Program
-program_by (Ok p) = Some p
-program_by (Err code) = None
+-- The text is commands that can't be called, the first of them for this fault.
+unfoldable pub IsUnlinked : List ℕ → LinkFault → Type 0
+IsUnlinked text fault = (c : Cell) × IsCellOf text c × gives (cell_rule c) (Unlinks fault)
 
--- the program of a text that is a cell and keeps the static rules
-abbrev pub program_in : Option Cell → Option Program
-program_in None = None
-program_in (Some c) = program_by (answer (cell_rule c))
+-- a cell that does not run for this
+abbrev pub IsRefusedFor : SessionState → List ℕ → why.Refusal → Type 0
+IsRefusedFor session text (Compile fault) = IsBroken session text fault.code
+IsRefusedFor session text (Link fault) = IsUnlinked text fault
 
-abbrev pub unless_refused : Option Program → SessionState → List Line → ℕ → Meaning
-unless_refused None session lines n = unread session
-unless_refused (Some p) session lines n = program_meaning session p lines n
+abbrev pub refused_outcome : why.Refusal → Outcome
+refused_outcome (Compile fault) = Unreadable
+refused_outcome (Link fault) = Unlinked fault
+
+abbrev pub plan_by : Result Plan Code → Option Plan
+plan_by (Ok p) = Some p
+plan_by (Err code) = None
+
+-- what is planned for a text that is a cell and keeps the static rules
+abbrev pub plan_in : Option Cell → Option Plan
+plan_in None = None
+plan_in (Some c) = plan_by (answer (cell_rule c))
+
+abbrev pub planned : Option Plan → SessionState → List Line → ℕ → Meaning
+planned None session lines n = unread session
+planned (Some (Runs p)) session lines n = program_meaning session p lines n
+planned (Some (Unlinks fault)) session lines n = unlinked session fault
 
 -- From session, text, lines and n turns to what the cell has come to.
 unfoldable pub cell : SessionState → List ℕ → List Line → ℕ → Meaning
-cell session text lines n = unless_refused (program_in (cell_of text)) session lines n
+cell session text lines n = planned (plan_in (cell_of text)) session lines n

@@ -5,7 +5,8 @@ use Rattle.ob_mean.specs.Run as run
 use Rattle.ob_mean.specs.Run.{Supply, supply, Why, Run, Goes, Stands, Done}
 use Rattle.ob_mean.specs.Meaning as mean
 use Rattle.ob_cell.specs.declared.outcome.Outcome.{Outcome}
-use Rattle.ob_cell.specs.declared.outcome.Outcome.TheVariants.{Ended, Trapped, Stopped, Unreadable}
+use Rattle.ob_cell.specs.declared.outcome.LinkFault.{LinkFault}
+use Rattle.ob_cell.specs.declared.outcome.Outcome.TheVariants.{Ended, Trapped, Stopped, Unreadable, Unlinked}
 use Rattle.ob_cell.specs.declared.program.Program.{Program}
 use Rattle.ob_cell.specs.Parts.{SessionState, Line, Meaning}
 
@@ -15,9 +16,15 @@ outcome_of name run.Ended = Ended
 outcome_of name (run.Trapped kind line) = Trapped (record { kind = kind; «module» = name; line = line })
 outcome_of name (run.NoTurn kind) = Stopped kind
 
--- what a text that is refused has come to
+-- what a cell that does not run has come to
+abbrev pub standing : SessionState → Outcome → Meaning
+standing session outcome = record { session = session; output = []; lines_used = 0; turns = 0; outcome = outcome }
+
 abbrev pub unread : SessionState → Meaning
-unread session = record { session = session; output = []; lines_used = 0; turns = 0; outcome = Unreadable }
+unread session = standing session Unreadable
+
+abbrev pub unlinked : SessionState → LinkFault → Meaning
+unlinked session fault = standing session (Unlinked fault)
 
 -- what a run with this supply has come to
 abbrev pub came_to : SessionState → List ℕ → Supply → Run Done → Meaning

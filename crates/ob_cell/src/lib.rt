@@ -14,6 +14,6 @@ pub use machine::{Begun, Machine};
 pub use ob_base::{Code, Fault, Refused};
 pub use ob_mean::tree::{TrapKind, TurnKind};
 pub use ob_parse::tree::Cell;
-pub use outcome::{Outcome, Trap, Turned};
-pub use program::Program;
+pub use outcome::{LinkFault, Outcome, Refusal, Trap, Turned};
+pub use program::{Plan, Program};
 pub use session::Session;

@@ -6,10 +6,10 @@ ghost use Rattle.ob_cell.specs.Beginning.{HasBegun, IsRefusedBy};
 ghost use Rattle.ob_cell.specs.declared.machine.Begun.TheVariants.{Runs};
 ghost use Rattle.ob_cell.specs.Runs.{meaning_of, unshown, HasTurned};
 
-use crate::outcome::{Trap, Turned};
-use crate::program::{Program, program_of};
+use crate::outcome::{Refusal, Trap, Turned};
+use crate::program::{Plan, Program, plan_of};
 use crate::session::Session;
-use ob_base::{Fault, Refused, Text};
+use ob_base::{Refused, Text};
 use ob_gen::generate;
 use ob_parse::tree::Cell;
 use ob_vm::Image;
@@ -52,8 +52,8 @@ impl Model for Machine {
 #[derive(Drop)]
 pub enum Begun {
     Runs(Machine),
-    /// The text breaks a static rule. The session is handed back.
-    Refused(Session, Fault),
+    /// The text breaks a static rule, or a command of it can't be called. The session is handed back.
+    Refused(Session, Refusal),
 }
 
 impl Machine {
@@ -67,8 +67,9 @@ impl Machine {
         ensures begun { IfOk result (λ begun. (text : List ℕ) → IsTreeOf text cell.now → HasBegun session text begun) }
         ensures back { IfErr result (λ back. back.0 ≡ session) }
     {
-        match program_of(alloc, cell) {
-            Ok(program) => runs(alloc, session, program),
+        match plan_of(alloc, cell) {
+            Ok(Plan::Runs(program)) => runs(alloc, session, program),
+            Ok(Plan::Unlinks(fault)) => Ok(Begun::Refused(session, Refusal::Link(fault))),
             Err(refused) => refuses(session, refused),
         }
     }
@@ -173,7 +174,7 @@ fn refuses(session: Session, refused: Refused) -> Result<Begun, (Session, AllocE
     ensures back { IfErr result (λ back. back.0 ≡ session) }
 {
     match refused {
-        Refused::Fault(fault) => Ok(Begun::Refused(session, fault)),
+        Refused::Fault(fault) => Ok(Begun::Refused(session, Refusal::Compile(fault))),
         Refused::Memory => Err((session, AllocError)),
     }
 }

@@ -3,7 +3,7 @@
 ghost use Rattle.std.specs.Prelude.{◌≡◌};
 ghost use Rattle.ob_cell.specs.Parts.{trap_number};
 
-use ob_base::Text;
+use ob_base::{Fault, Text};
 use ob_mean::tree::{TrapKind, TurnKind};
 
 /// Where a cell was cut off by the language: why, in which module, and in which line of its text.
@@ -26,6 +26,23 @@ impl Trap {
     }
 }
 
+/// Why a cell doesn't link.
+#[derive(Debug, Drop)]
+pub enum LinkFault {
+    /// 30: no module of this name is loaded.
+    NotLoaded(Text),
+    /// 31: the module has no such command.
+    NoCommand(Text, Text),
+}
+
+/// Why a cell doesn't run.
+#[derive(Debug, Drop)]
+pub enum Refusal {
+    /// Its text breaks a rule of the language.
+    Compile(Fault),
+    Link(LinkFault),
+}
+
 /// What a cell has come to.
 #[derive(Debug, Drop)]
 pub enum Outcome {
@@ -35,6 +52,8 @@ pub enum Outcome {
     Stopped(TurnKind),
     /// The text is no cell.
     Unreadable,
+    /// A command of the cell can't be called.
+    Unlinked(LinkFault),
 }
 
 /// How a slice ended.

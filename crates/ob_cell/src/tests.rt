@@ -1,17 +1,18 @@
 ghost use Rattle.std.specs.Prelude.{◌≡◌, false, IfOk, IfSome};
 
-use crate::{Begun, Machine, Refused, Session, Turned, parse_text};
+use crate::{Begun, LinkFault, Machine, Refusal, Refused, Session, Turned, parse_text};
 use std::alloc::{AllocError, Global};
 use std::test::Fail;
 
-// The machine of this text; None where it breaks a static rule.
+// The machine of this text; None where its first command can't be called.
 fn machine(alloc: Global, text: &str) -> Result<Option<Machine>, Refused>
     ensures { IfOk result (λ found. IfSome found (λ m. m.over ≡ false)) }
 {
     let cell = parse_text(alloc, text)?;
     match Machine::begin(alloc, Session::new(alloc), &cell) {
         Ok(Begun::Runs(machine)) => Ok(Some(machine)),
-        Ok(Begun::Refused(_, fault)) => Err(Refused::Fault(fault)),
+        Ok(Begun::Refused(_, Refusal::Compile(fault))) => Err(Refused::Fault(fault)),
+        Ok(Begun::Refused(_, Refusal::Link(_))) => Ok(None),
         Err((_, _)) => Err(Refused::Memory),
     }
 }
@@ -114,8 +115,29 @@ fn refusals(rt: HostRuntime) -> Result<(), Fail> {
     assert_eq!(rt; code, 12);
     let (_, code) = outcome(alloc, "(* (* *)", &[10])?;
     assert_eq!(rt; code, 2);
-    let (place, code) = outcome(alloc, "Q.P", &[10])?;
-    assert_eq!(rt; place.as_str(), "1:1");
-    assert_eq!(rt; code, 21);
+    Ok(())
+}
+
+// The number of the link error of a text's first command, and the module that it names; 0 where there is none.
+fn link_error(alloc: Global, text: &str) -> Result<(u64, usize), Refused> {
+    let cell = parse_text(alloc, text)?;
+    match Machine::begin(alloc, Session::new(alloc), &cell) {
+        Ok(Begun::Refused(_, Refusal::Link(LinkFault::NotLoaded(home)))) => {
+            Ok((30, home.as_slice().len()))
+        }
+        Ok(Begun::Refused(_, Refusal::Link(LinkFault::NoCommand(home, name)))) => {
+            Ok((31, home.as_slice().len() + name.as_slice().len()))
+        }
+        _ => Ok((0, 0)),
+    }
+}
+
+#[test]
+fn commands_that_do_not_link(rt: HostRuntime) -> Result<(), Fail> {
+    let alloc = rt.alloc();
+    let unknown = link_error(alloc, "Quux.P").ok().ok_or("read")?;
+    assert_eq!(rt; unknown, (30, 4));
+    let standard = link_error(alloc, "Out.Ln").ok().ok_or("read")?;
+    assert_eq!(rt; standard, (31, 5));
     Ok(())
 }

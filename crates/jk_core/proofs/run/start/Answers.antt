@@ -11,15 +11,15 @@ use Rattle.jk_core.proofs.run.start.Goals as goal
 
 pub end_broken-requires-clause-session : goal.end_broken-requires-clause-session
 end_broken-requires-clause-session c =
-    let o = is_opened c.args.script.now.state _ c.in-Some.first.now c.in-Some-result.outcome c.args.session (opening.Broken c.in-Broken.session c.in-Broken.fault) c.requires.kept c.requires.session c.reserve.ensures.state c.in-Some.ensures c.in-Some-result.is
+    let o = is_opened c.args.script.now.state _ c.in-Some.first.now c.in-Some-result.outcome c.args.session (opening.Broken c.in-Broken.session c.in-Broken.refusal) c.requires.kept c.requires.session c.reserve.ensures.state c.in-Some.ensures c.in-Some-result.is
     (subst (λ (o : Opening). (text : List ℕ) → IsResult text c.in-Some-result.outcome → Opens c.args.session text c.in-Some-result.outcome o) c.in-Broken.is c.in-Ok.ensures.opened) in
-    broken_back c.args.script.now.state c.in-Some.first.now c.in-Some-result.outcome c.in-Broken.session c.in-Broken.fault o ∙ ap session (same_log c.args.script.now.state _ _ c.reserve.ensures.state c.pop_waiting.ensures.rest)
+    broken_back c.args.script.now.state c.in-Some.first.now c.in-Some-result.outcome c.in-Broken.session c.in-Broken.refusal o ∙ ap session (same_log c.args.script.now.state _ _ c.reserve.ensures.state c.pop_waiting.ensures.rest)
 
 pub end_broken-requires-clause-breaks : goal.end_broken-requires-clause-breaks
 end_broken-requires-clause-breaks c =
-    let o = is_opened c.args.script.now.state _ c.in-Some.first.now c.in-Some-result.outcome c.args.session (opening.Broken c.in-Broken.session c.in-Broken.fault) c.requires.kept c.requires.session c.reserve.ensures.state c.in-Some.ensures c.in-Some-result.is
+    let o = is_opened c.args.script.now.state _ c.in-Some.first.now c.in-Some-result.outcome c.args.session (opening.Broken c.in-Broken.session c.in-Broken.refusal) c.requires.kept c.requires.session c.reserve.ensures.state c.in-Some.ensures c.in-Some-result.is
     (subst (λ (o : Opening). (text : List ℕ) → IsResult text c.in-Some-result.outcome → Opens c.args.session text c.in-Some-result.outcome o) c.in-Broken.is c.in-Ok.ensures.opened) in
-    subst (IsBrokenAt c.in-Some.first.now.at c.in-Broken.fault) (same_log c.args.script.now.state _ _ c.reserve.ensures.state c.pop_waiting.ensures.rest) (is_broken c.args.script.now.state c.in-Some.first.now c.in-Some-result.outcome c.in-Broken.session c.in-Broken.fault o)
+    subst (IsBrokenAt c.in-Some.first.now.at c.in-Broken.refusal) (same_log c.args.script.now.state _ _ c.reserve.ensures.state c.pop_waiting.ensures.rest) (is_broken c.args.script.now.state c.in-Some.first.now c.in-Some-result.outcome c.in-Broken.session c.in-Broken.refusal o)
 
 pub begin-requires-clause-begins : goal.begin-requires-clause-begins
 begin-requires-clause-begins c =
@@ -41,9 +41,9 @@ returns-in-Refused-clause-stands c =
 
 pub returns-in-Broken-clause-starts : goal.returns-in-Broken-clause-starts
 returns-in-Broken-clause-starts c =
-    λ _. let o = is_opened c.args.script.now.state _ c.in-Some.first.now c.in-Some-result.outcome c.args.session (opening.Broken c.in-Broken.session c.in-Broken.fault) c.requires.kept c.requires.session c.reserve.ensures.state c.in-Some.ensures c.in-Some-result.is
+    λ _. let o = is_opened c.args.script.now.state _ c.in-Some.first.now c.in-Some-result.outcome c.args.session (opening.Broken c.in-Broken.session c.in-Broken.refusal) c.requires.kept c.requires.session c.reserve.ensures.state c.in-Some.ensures c.in-Some-result.is
     (subst (λ (o : Opening). (text : List ℕ) → IsResult text c.in-Some-result.outcome → Opens c.args.session text c.in-Some-result.outcome o) c.in-Broken.is c.in-Ok.ensures.opened) in
-    first_broken c.args.turns c.args.script.now.state _ _ _ c.in-Some.first.now c.in-Some-result.outcome c.in-Broken.session c.in-Broken.fault c.reserve.ensures.state c.in-Some.ensures c.pop_waiting.ensures.rest c.in-Some-result.is o c.end_broken.ensures.ended
+    first_broken c.args.turns c.args.script.now.state _ _ _ c.in-Some.first.now c.in-Some-result.outcome c.in-Broken.session c.in-Broken.refusal c.reserve.ensures.state c.in-Some.ensures c.pop_waiting.ensures.rest c.in-Some-result.is o c.end_broken.ensures.ended
 
 pub returns-in-Runs-clause-starts : goal.returns-in-Runs-clause-starts
 returns-in-Runs-clause-starts c =
