@@ -1,5 +1,5 @@
 -- A block's map has the place of each name.
-use Rattle.std.proofs.Common.{◌≡◌, ◌⊎◌, ℕ, suc, ◌+◌, ◌<◌, Bool, true, false, cond, List, [], ◌∷◌, ◌++◌, length, Option, Some, None, option_map, get_or, Vec, refl, sym, ◌∙◌, ap, subst, inl, inr, arith}
+use Rattle.std.proofs.Common.{◌≡◌, ◌⊎◌, ℕ, suc, ◌<◌, Bool, true, false, cond, List, [], ◌∷◌, ◌++◌, length, Option, Some, None, option_map, get_or, Vec, refl, sym, ◌∙◌, ap, subst, inl, inr, arith}
 use Rattle.std.specs.declared.hash.FoldHasher.{FoldHasher}
 use Rattle.std.specs.declared.hash.BuildHasherDefault.{BuildHasherDefault}
 use Rattle.std.specs.declared.alloc.Global.{Global}
@@ -9,7 +9,7 @@ use Rattle.std.specs.Map.{lookup, IsKeyTest, AreApart, KeepsOthers}
 use Rattle.std.specs.Str.{bytes_eq}
 use Rattle.std.proofs.lemmas.Bool.{cases_Bool, cond-true, cond-false}
 use Rattle.ob_declare.specs.declared.block.Declared.{Declared}
-use Rattle.ob_declare.specs.Block.{find, place_of, IsIndex}
+use Rattle.ob_declare.specs.Block.{find, place_of}
 
 apart : (bs cs ks : List ℕ) → bytes_eq bs cs ≡ false → bytes_eq bs ks ≡ true → bytes_eq cs ks ≡ false
 apart bs cs ks n y = nat_list_eq_equiv.symm cs ks ∙ sym (nat_list_eq_equiv.congr bs ks cs y) ∙ n
@@ -33,22 +33,22 @@ pub updated : (m n : Places) (bs : List ℕ) (w : Option ℕ) → UpdatesBy (λ 
 updated m n bs w h = by_bytes (λ l. get_by (λ k. bytes_eq l k.items) m) (λ l. get_by (λ k. bytes_eq l k.items) n) bs w h.1
     (λ cs e. other_entries (λ x y. bytes_eq x.items y.items) (λ k. bytes_eq bs k.items) m.entries n.entries h.3 (λ k. bytes_eq cs k.items) (λ x y. nat_list_eq_equiv.congr cs x.items y.items) (λ k. apart bs cs k.items e))
 
-no_suc : (o : Option ℕ) → option_map suc o ≡ None → o ≡ None
+pub no_suc : (o : Option ℕ) → option_map suc o ≡ None → o ≡ None
 no_suc None e = refl
 no_suc (Some n) e = absurd (let k : Some (suc n) ≡ None = e in cc)
 
-not_first : (b : Bool) (o : Option ℕ) → cond b (Some 0) o ≡ None → (b ≡ false) × (o ≡ None)
+pub not_first : (b : Bool) (o : Option ℕ) → cond b (Some 0) o ≡ None → (b ≡ false) × (o ≡ None)
 not_first true o e = absurd (let k : Some 0 ≡ None = e in cc)
 not_first false o e = (refl, e)
 
-choices : (b c : Bool) (n : ℕ) (o : Option ℕ) → (b ≡ true → c ≡ false) → cond b (Some 0) (option_map suc (cond c (Some n) o)) ≡ cond c (Some (suc n)) (cond b (Some 0) (option_map suc o))
+pub choices : (b c : Bool) (n : ℕ) (o : Option ℕ) → (b ≡ true → c ≡ false) → cond b (Some 0) (option_map suc (cond c (Some n) o)) ≡ cond c (Some (suc n)) (cond b (Some 0) (option_map suc o))
 choices true true n o h = absurd (let e : true ≡ false = h refl in cc)
 choices true false n o h = refl
 choices false true n o h = refl
 choices false false n o h = refl
 
 -- e is q and not d, so d is not q
-differ : (e d q : List ℕ) → bytes_eq e d ≡ false → bytes_eq e q ≡ true → bytes_eq d q ≡ false
+pub differ : (e d q : List ℕ) → bytes_eq e d ≡ false → bytes_eq e q ≡ true → bytes_eq d q ≡ false
 differ e d q n y = apart e d q n y
 
 pub place_more : (ds : List Declared) (d : Declared) (q : List ℕ) → place_of ds d.name ≡ None → place_of (ds ++ d ∷ []) q ≡ cond (bytes_eq d.name q) (Some (length ds)) (place_of ds q)
@@ -64,19 +64,19 @@ none_found (d ∷ ds) q e =
     let parts = not_first (bytes_eq d.name q) (option_map suc (place_of ds q)) e in
     ap (λ b. cond b (Some d.entry) (find ds q)) parts.0 ∙ none_found ds q (no_suc (place_of ds q) parts.1)
 
-abbrev none_ℕ : Option ℕ
+abbrev pub none_ℕ : Option ℕ
 none_ℕ = None
 
-some_found : (b : Bool) (d : Declared) (o : Option ℕ) (i : ℕ) → cond b (Some 0) (option_map suc o) ≡ Some i → ((b ≡ true) × (i ≡ 0)) ⊎ ((b ≡ false) × ((k : ℕ) × (o ≡ Some k) × (i ≡ suc k)))
-some_found true d o i e = inl (refl, let k : Some 0 ≡ Some i = e in cc)
-some_found false d None i e = absurd (let k : none_ℕ ≡ Some i = e in cc)
-some_found false d (Some n) i e = inr (refl, (n, refl, let k : Some (suc n) ≡ Some i = e in cc))
+pub some_found : (b : Bool) (o : Option ℕ) (i : ℕ) → cond b (Some 0) (option_map suc o) ≡ Some i → ((b ≡ true) × (i ≡ 0)) ⊎ ((b ≡ false) × ((k : ℕ) × (o ≡ Some k) × (i ≡ suc k)))
+some_found true o i e = inl (refl, let k : Some 0 ≡ Some i = e in cc)
+some_found false None i e = absurd (let k : none_ℕ ≡ Some i = e in cc)
+some_found false (Some n) i e = inr (refl, (n, refl, let k : Some (suc n) ≡ Some i = e in cc))
 
 -- what stands at the place of a name
 pub found_at : (ds : List Declared) (q : List ℕ) (i : ℕ) (z : Declared) → place_of ds q ≡ Some i → (i < length ds) × (find ds q ≡ Some (get_or ds i z).entry)
 found_at [] q i z e = absurd (let k : none_ℕ ≡ Some i = e in cc)
 found_at (d ∷ ds) q i z e =
-    elim (some_found (bytes_eq d.name q) d (place_of ds q) i e) as (λ _. (i < length (d ∷ ds)) × (find (d ∷ ds) q ≡ Some (get_or (d ∷ ds) i z).entry)) [
+    elim (some_found (bytes_eq d.name q) (place_of ds q) i e) as (λ _. (i < length (d ∷ ds)) × (find (d ∷ ds) q ≡ Some (get_or (d ∷ ds) i z).entry)) [
       | inl p ↦ (rw (p.1) (omega arith), rw (p.1) (ap (λ b. cond b (Some d.entry) (find ds q)) p.0))
       | inr p ↦ let k = found_at ds q p.1.0 z p.1.1 in
           (rw (p.1.2) (let l : p.1.0 < length ds = k.0 in omega arith), rw (p.1.2) (ap (λ b. cond b (Some d.entry) (find ds q)) p.0 ∙ k.1))

@@ -1,3 +1,3 @@
 pub mod Exact
 pub mod Index
-pub mod TextOrder
+pub mod Places

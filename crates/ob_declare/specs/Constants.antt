@@ -1,10 +1,9 @@
 -- Constants (Wirth, The Programming Language Oberon, Oberon-07): a literal, a declared constant, or operators and the
 -- functions ABS, ODD, LSL, ASR, ROR, ORD, CHR of constants. The number says how many more constructs may nest.
-use Rattle.std.specs.Prelude.{ℕ, zero, suc, ℤ, List, [], ◌∷◌, Bool, true, false, Option, Some, None, ◌||◌, is_some, if◌then◌else◌}
+use Rattle.std.specs.Prelude.{ℕ, zero, suc, List, [], ◌∷◌, Option, Some, None}
 use Rattle.ob_base.specs.declared.fault.Code.{Code}
 use Rattle.ob_base.specs.declared.fault.Code.TheVariants as code
 use Rattle.ob_scan.specs.declared.token.Span.{Span}
-use Rattle.ob_parse.specs.declared.tree.Ident.{Ident}
 use Rattle.ob_parse.specs.declared.tree.Sign.{Sign}
 use Rattle.ob_parse.specs.declared.tree.Expr.{Expr, out-Expr}
 use Rattle.ob_parse.specs.declared.tree.Related.{Related, out-Related}
@@ -19,25 +18,25 @@ use Rattle.ob_parse.specs.declared.tree.Factor.TheOpen.{Factor-F, Selector-F}
 use Rattle.ob_types.specs.declared.exports.Constant.{Constant}
 use Rattle.ob_types.specs.declared.exports.Object.{Object}
 use Rattle.ob_types.specs.declared.exports.Object.TheVariants as object
-use Rattle.ob_declare.specs.declared.block.Declared.{Declared}
 use Rattle.ob_declare.specs.declared.block.Entry.{Entry}
 use Rattle.ob_declare.specs.declared.block.Entry.TheVariants as entry
 use Rattle.ob_declare.specs.declared.folding.Folded.{Folded}
 use Rattle.ob_declare.specs.declared.folding.Folded.TheVariants as folded
-use Rattle.ob_declare.specs.declared.imports.LoadedModule.{LoadedModule}
 use Rattle.ob_declare.specs.declared.predeclared.Function.{Function}
 use Rattle.ob_declare.specs.declared.predeclared.Function.TheVariants as function
-use Rattle.ob_declare.specs.Block.{find}
+use Rattle.ob_declare.specs.declared.predeclared.InputName.{InputName}
+use Rattle.ob_declare.specs.declared.predeclared.InputName.TheVariants as input
+use Rattle.ob_declare.specs.declared.predeclared.OutputName.{OutputName}
+use Rattle.ob_declare.specs.declared.predeclared.OutputName.TheVariants as output
+use Rattle.ob_declare.specs.declared.predeclared.Predeclared.{Predeclared}
+use Rattle.ob_declare.specs.declared.predeclared.Predeclared.TheVariants as predeclared
+use Rattle.ob_declare.specs.declared.scope.Scope.{Scope}
+use Rattle.ob_declare.specs.Exports.{Modules}
 use Rattle.ob_declare.specs.Imports.{exported_at}
-use Rattle.ob_declare.specs.Predeclared.{basic_named, function_named, is_procedure_named, is_left_out}
-use Rattle.ob_declare.specs.Rule.{Rule, Given, Breaks, Then, Needs, Both, there, through}
+use Rattle.ob_declare.specs.Predeclared.{absent, input_named, output_named}
+use Rattle.ob_declare.specs.Scope.{seen, outer}
+use Rattle.ob_declare.specs.Rule.{Rule, Given, Breaks, Then, Both, there, through}
 use Rattle.ob_declare.specs.Folding.{sum_of, product_of, sign_of, not_of, relation_of, related_of, one_of, two_of, folded_of, constant_of}
-
-abbrev pub Scope : Type 0
-Scope = List Declared
-
-abbrev pub Modules : Type 0
-Modules = List LoadedModule
 
 abbrev pub FactorLayer : Type 0
 FactorLayer = Factor-F Factor Selector AddedTerm Designator Expr NextFactor Related Simple Term
@@ -46,12 +45,6 @@ abbrev pub SelectorLayer : Type 0
 SelectorLayer = Selector-F Factor Selector AddedTerm Designator Expr NextFactor Related Simple Term
 
 -- ---- names
-
--- what is broken where nothing declares a name: one of a type or a predeclared procedure is no value
-abbrev pub absent : List ℕ → Code
-absent name =
-    if is_left_out name then code.LeftOut
-    else (if is_some (basic_named name) || is_some (function_named name) || is_procedure_named name then code.Types else code.UnknownName)
 
 -- what is imported under a name
 unfoldable pub imported : Object → Rule Folded
@@ -68,31 +61,61 @@ member_layer ms place (Selector-F.Index indexes) = Breaks code.Types
 unfoldable pub member : Modules → ℕ → Selector → Rule Folded
 member ms place x = member_layer ms place (out-Selector x)
 
+-- In and Out export no constants
+abbrev pub no_input : InputName → Code
+no_input input.Unknown = code.NotExported
+no_input input.Done = code.NotConstant
+no_input _ = code.Types
+
+abbrev pub no_output : OutputName → Code
+no_output output.Unknown = code.NotExported
+no_output _ = code.Types
+
+abbrev pub input_layer : SelectorLayer → Rule Folded
+input_layer (Selector-F.Field f) = Breaks (no_input (input_named f.name))
+input_layer (Selector-F.Index indexes) = Breaks code.Types
+
+unfoldable pub input_member : Selector → Rule Folded
+input_member x = input_layer (out-Selector x)
+
+abbrev pub output_layer : SelectorLayer → Rule Folded
+output_layer (Selector-F.Field f) = Breaks (no_output (output_named f.name))
+output_layer (Selector-F.Index indexes) = Breaks code.Types
+
+unfoldable pub output_member : Selector → Rule Folded
+output_member x = output_layer (out-Selector x)
+
 -- a declared name with selectors behind it
 unfoldable pub named : Modules → Entry → List Selector → Rule Folded
 named ms (entry.Constant c) [] = Given (folded_of c)
-named ms (entry.Variable t cells) selectors = Breaks code.NotConstant
-named ms (entry.Module place) (x ∷ []) = member ms place x
+named ms (entry.Variable t standing) selectors = Breaks code.NotConstant
+named ms (entry.Module number place) (x ∷ []) = member ms place x
+named ms entry.In (x ∷ []) = input_member x
+named ms entry.Out (x ∷ []) = output_member x
 named ms e selectors = Breaks code.Types
 
 unfoldable pub value_named : Modules → Scope → Designator → Rule Folded
 value_named ms s d =
-    Then (there (find s (out-Designator d).name.name) (absent (out-Designator d).name.name)) (λ e. named ms e (out-Designator d).selectors)
+    Then (there (seen s (out-Designator d).name.name) (absent (outer s (out-Designator d).name.name))) (λ e.
+    named ms e (out-Designator d).selectors)
 
 -- ---- functions
 
--- what is broken by a call of what is no function of constants
-abbrev pub not_called : List ℕ → Code
-not_called name = if is_procedure_named name then code.Parameters else absent name
+-- what a name that nothing declares is as a function
+unfoldable pub function_called : Predeclared → Rule Function
+function_called (predeclared.Function f) = Given f
+function_called (predeclared.Procedure p) = Breaks code.Parameters
+function_called p = Breaks (absent p)
 
 -- the function that a name stands for, where nothing declares it
-unfoldable pub function_found : Option Entry → List Selector → List ℕ → Rule Function
-function_found (Some e) selectors name = Breaks code.NotConstant
-function_found None [] name = there (function_named name) (not_called name)
-function_found None (x ∷ xs) name = Breaks (absent name)
+unfoldable pub function_found : Option Entry → List Selector → Predeclared → Rule Function
+function_found (Some e) selectors p = Breaks code.NotConstant
+function_found None [] p = function_called p
+function_found None (x ∷ xs) p = Breaks (absent p)
 
 abbrev pub function_of : Scope → Designator → Rule Function
-function_of s d = function_found (find s (out-Designator d).name.name) (out-Designator d).selectors (out-Designator d).name.name
+function_of s d =
+    function_found (seen s (out-Designator d).name.name) (out-Designator d).selectors (outer s (out-Designator d).name.name)
 
 module _ (inner : Expr → Rule Folded) where
   unfoldable pub called : Function → List Expr → Rule Folded

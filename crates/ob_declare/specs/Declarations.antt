@@ -1,5 +1,6 @@
--- The declarations of a module: imports, constants, types, variables; and the interface that they make.
-use Rattle.std.specs.Prelude.{ℕ, ◌+◌, List, [], ◌∷◌, ◌++◌, Bool, true, false, not, Option, Some, None, codes, ◌&&◌, is_none, is_some, nat_le, slice_get, if◌then◌else◌}
+-- Declarations: the imports of a module, and the constants, types and variables of a module or a procedure (Wirth, The
+-- Programming Language Oberon, Oberon-07).
+use Rattle.std.specs.Prelude.{ℕ, ◌+◌, List, [], ◌∷◌, Bool, true, false, not, Option, Some, None, is_some, nat_le, nat_lt, slice_get, if◌then◌else◌}
 use Rattle.std.specs.Str.{bytes_eq}
 use Rattle.ob_base.specs.declared.fault.Code.TheVariants as code
 use Rattle.ob_parse.specs.declared.tree.ConstDeclaration.{ConstDeclaration}
@@ -10,43 +11,48 @@ use Rattle.ob_parse.specs.declared.tree.Import.{Import}
 use Rattle.ob_parse.specs.declared.tree.Module.{Module}
 use Rattle.ob_parse.specs.declared.tree.TypeDeclaration.{TypeDeclaration}
 use Rattle.ob_parse.specs.declared.tree.TypedNames.{TypedNames, out-TypedNames}
-use Rattle.ob_types.specs.InterfaceTree.{InterfaceTree}
-use Rattle.ob_types.specs.declared.exports.Exported.{Exported}
-use Rattle.ob_types.specs.declared.exports.Object.{Object}
-use Rattle.ob_types.specs.declared.exports.Object.TheVariants as object
 use Rattle.ob_types.specs.declared.structure.ObType.{ObType}
-use Rattle.ob_types.specs.declared.structure.RecordName.{RecordName}
 use Rattle.ob_types.specs.Types.{cells}
-use Rattle.ob_declare.specs.declared.block.Declared.{Declared}
 use Rattle.ob_declare.specs.declared.block.Entry.{Entry}
 use Rattle.ob_declare.specs.declared.block.Entry.TheVariants as entry
-use Rattle.ob_declare.specs.declared.declaration.Declaring.{Declaring}
+use Rattle.ob_declare.specs.declared.block.Standing.TheVariants as standing
 use Rattle.ob_declare.specs.declared.imports.StandardName.{StandardName}
 use Rattle.ob_declare.specs.declared.imports.StandardName.TheVariants as standard
+use Rattle.ob_declare.specs.declared.scope.Scope.{Scope}
 use Rattle.ob_declare.specs.Block.{find}
+use Rattle.ob_declare.specs.Exports.{Modules}
 use Rattle.ob_declare.specs.Imports.{module_place, reaches, standard_named}
-use Rattle.ob_declare.specs.Rule.{Rule, Given, Breaks, Then, Needs, Both, there, through}
-use Rattle.ob_declare.specs.Constants.{Scope, Modules, constant_at}
+use Rattle.ob_declare.specs.Rule.{Rule, Given, Breaks, Then, Needs, there, through}
+use Rattle.ob_declare.specs.Constants.{constant_at}
+use Rattle.ob_declare.specs.Scope.{opening, with_entry, naming}
+use Rattle.ob_declare.specs.Stack.{is_empty}
 use Rattle.ob_declare.specs.WrittenTypes.{type_at}
 
 -- how many constructs nest
 abbrev pub max_nesting : ℕ
 max_nesting = 200
 
--- how many cells the variables of a module take
+-- how many cells the variables of a module take, and those of a procedure
 abbrev pub max_module_cells : ℕ
 max_module_cells = 262144
+
+abbrev pub max_procedure_cells : ℕ
+max_procedure_cells = 16384
 
 abbrev pub is_new : Option Entry → Bool
 is_new None = true
 is_new (Some e) = false
 
--- one declaration more
-abbrev pub with_entry : Scope → List ℕ → Bool → Entry → Scope
-with_entry s name exported e = s ++ record { name = name; exported = exported; entry = e } ∷ []
-
 abbrev pub has_mark : IdentDef → Bool
 has_mark name = is_some name.mark
+
+-- no text has so many names
+abbrev pub max_count : ℕ
+max_count = 18446744073709551615
+
+-- one more, of what there are not too many
+abbrev pub one_more : ℕ → ℕ → Option ℕ
+one_more most n = if nat_lt n most then Some (n + 1) else None
 
 -- ---- imports
 
@@ -56,39 +62,55 @@ own_name name None = name.name
 own_name name (Some own) = own.name
 
 -- a module that is loaded, and does not reach the one that imports it
-unfoldable pub loaded_entry : Modules → List ℕ → Option ℕ → Rule Entry
-loaded_entry ms self None = Breaks code.NotLoaded
-loaded_entry ms self (Some place) = Needs (not (reaches (slice_get ms place) self)) code.ImportsItself (Given (entry.Module place))
+unfoldable pub loaded_place : Modules → List ℕ → Option ℕ → Rule ℕ
+loaded_place ms self None = Breaks code.NotLoaded
+loaded_place ms self (Some place) = Needs (not (reaches (slice_get ms place) self)) code.ImportsItself (Given place)
 
-unfoldable pub imported_entry : Modules → List ℕ → List ℕ → StandardName → Rule Entry
-imported_entry ms self own standard.In = Given entry.In
-imported_entry ms self own standard.Out = Given entry.Out
-imported_entry ms self own standard.System = Breaks code.LeftOut
-imported_entry ms self own standard.Other = loaded_entry ms self (module_place ms own)
+-- one import more, of a name that is new
+unfoldable pub with_import : Scope → List ℕ → Entry → Rule Scope
+with_import s name e = Needs (is_new (find s.block name)) code.DeclaredTwice (Given (with_entry s name false e))
+
+-- the imported modules but for In and Out are numbered
+unfoldable pub with_module : Scope → List ℕ → ℕ → Rule Scope
+with_module s name place =
+    Then (there (one_more max_count s.import_count) code.Size) (λ n.
+    with_import (record s { import_count = n }) name (entry.Module s.import_count place))
+
+unfoldable pub other_module : Modules → Scope → List ℕ → List ℕ → Rule Scope
+other_module ms s name own = Then (loaded_place ms s.module_name (module_place ms own)) (λ place. with_module s name place)
+
+unfoldable pub imported_as : Modules → Scope → List ℕ → List ℕ → StandardName → Rule Scope
+imported_as ms s name own standard.In = with_import s name entry.In
+imported_as ms s name own standard.Out = with_import s name entry.Out
+imported_as ms s name own standard.System = Breaks code.LeftOut
+imported_as ms s name own standard.Other = other_module ms s name own
 
 -- a module does not import itself, and no name is declared twice
-unfoldable pub import_rule : Modules → List ℕ → Scope → Import → Rule Scope
-import_rule ms self s i =
-    Needs (not (bytes_eq (own_name i.name i.module_name) self)) code.ImportsItself (
-    Then (imported_entry ms self (own_name i.name i.module_name) (standard_named (own_name i.name i.module_name))) (λ e.
-    Needs (is_new (find s i.name.name)) code.DeclaredTwice (Given (with_entry s i.name.name false e))))
+unfoldable pub import_named : Modules → Scope → List ℕ → List ℕ → Rule Scope
+import_named ms s name own =
+    Needs (not (bytes_eq own s.module_name)) code.ImportsItself (imported_as ms s name own (standard_named own))
 
--- ---- constants and types
+unfoldable pub import_rule : Modules → Scope → Import → Rule Scope
+import_rule ms s i = import_named ms s i.name.name (own_name i.name i.module_name)
 
-unfoldable pub constant_rule : Modules → Scope → ConstDeclaration → Rule Scope
-constant_rule ms s d =
-    Needs (is_new (find s d.name.name.name)) code.DeclaredTwice (
-    Then (constant_at ms s max_nesting d.value) (λ c. Given (with_entry s d.name.name.name (has_mark d.name) (entry.Constant c))))
+-- ---- constants and types. The number says how many more constructs may nest
 
--- the name of a record type of a module, the first in a declaration
-abbrev pub naming : List ℕ → List ℕ → RecordName
-naming module_name declared = record { module_name = module_name; enclosing = []; declared = declared; before = 0 }
+-- a constant of a name that is new
+unfoldable pub new_constant : Modules → ℕ → Scope → ConstDeclaration → Rule Scope
+new_constant ms n s d =
+    Then (constant_at ms s n d.value) (λ c. Given (with_entry s d.name.name.name (has_mark d.name) (entry.Constant c)))
 
-unfoldable pub type_rule : Modules → List ℕ → Scope → TypeDeclaration → Rule Scope
-type_rule ms self s d =
-    Needs (is_new (find s d.name.name.name)) code.DeclaredTwice (
-    Then (type_at ms s (naming self d.name.name.name) max_nesting 0 d.of) (λ w.
-    Given (with_entry s d.name.name.name (has_mark d.name) (entry.TypeName w.of))))
+unfoldable pub constant_rule : Modules → ℕ → Scope → ConstDeclaration → Rule Scope
+constant_rule ms n s d = Needs (is_new (find s.block d.name.name.name)) code.DeclaredTwice (new_constant ms n s d)
+
+-- a type of a name that is new
+unfoldable pub new_type : Modules → ℕ → Scope → TypeDeclaration → Rule Scope
+new_type ms n s d =
+    Then (type_at ms s (naming s d.name.name.name) n 0 d.of) (λ w.
+    Given (with_entry s d.name.name.name (has_mark d.name) (entry.TypeName w.of)))
+
+unfoldable pub type_rule : Modules → ℕ → Scope → TypeDeclaration → Rule Scope
+type_rule ms n s d = Needs (is_new (find s.block d.name.name.name)) code.DeclaredTwice (new_type ms n s d)
 
 -- ---- variables
 
@@ -97,58 +119,67 @@ abbrev pub first_name : List IdentDef → List ℕ
 first_name [] = []
 first_name (n ∷ ns) = n.name.name
 
--- how many cells are taken with a variable more, if they are not too many
-abbrev pub cells_behind : ℕ → ObType → Option ℕ
-cells_behind taken t = if nat_le (taken + cells t) max_module_cells then Some (taken + cells t) else None
+-- how many cells the variables of a block take, that of a module or not
+abbrev pub most_cells : Bool → ℕ
+most_cells true = max_module_cells
+most_cells false = max_procedure_cells
 
--- one variable more, behind the cells of the others
-unfoldable pub variable_rule : ObType → Declaring → IdentDef → Rule Declaring
-variable_rule t d name =
-    Needs (is_new (find d.scope name.name.name)) code.DeclaredTwice (
-    Then (there (cells_behind d.cells t) code.Size) (λ taken.
-    Given (record { scope = with_entry d.scope name.name.name (has_mark name) (entry.Variable t d.cells); cells = taken })))
+-- how many cells are taken with a variable more, if they are not too many
+abbrev pub cells_behind : ℕ → ℕ → ObType → Option ℕ
+cells_behind most taken t = if nat_le (taken + cells t) most then Some (taken + cells t) else None
+
+-- a variable takes a cell at least, so no more variables than this are counted
+abbrev pub max_variables : ℕ
+max_variables = 4294967295
+
+unfoldable pub exported_variable : Scope → List ℕ → ObType → Rule Scope
+exported_variable s name t =
+    Then (there (one_more max_variables s.exported_count) code.Size) (λ n.
+    Given (with_entry (record s { exported_count = n }) name true (entry.Variable t (standing.Exported s.exported_count))))
+
+unfoldable pub own_variable : Scope → List ℕ → ObType → Rule Scope
+own_variable s name t =
+    Then (there (one_more max_variables s.own_count) code.Size) (λ n.
+    Given (with_entry (record s { own_count = n }) name false (entry.Variable t (standing.Own s.own_count))))
+
+unfoldable pub local_variable : Scope → List ℕ → ObType → Rule Scope
+local_variable s name t =
+    Then (there (one_more max_count s.local_count) code.Size) (λ n.
+    Given (with_entry (record s { local_count = n }) name false (entry.Variable t (standing.Local s.local_count))))
+
+-- a variable of the module with a mark, or without one, or of a procedure
+unfoldable pub variable_in : Bool → Bool → Scope → List ℕ → ObType → Rule Scope
+variable_in true true s name t = exported_variable s name t
+variable_in true false s name t = own_variable s name t
+variable_in false mark s name t = local_variable s name t
+
+-- one variable more
+unfoldable pub variable_rule : ObType → Scope → IdentDef → Rule Scope
+variable_rule t s name =
+    Needs (is_new (find s.block name.name.name)) code.DeclaredTwice (
+    Then (there (cells_behind (most_cells (is_empty s.around)) s.cells_taken t) code.Size) (λ taken.
+    variable_in (is_empty s.around) (has_mark name) (record s { cells_taken = taken }) name.name.name t))
 
 -- variables of one type
-unfoldable pub variables_rule : Modules → List ℕ → Declaring → TypedNames → Rule Declaring
-variables_rule ms self d x =
-    Then (type_at ms d.scope (naming self (first_name (out-TypedNames x).names)) max_nesting 0 (out-TypedNames x).of) (λ w.
-    through (variable_rule w.of) d (out-TypedNames x).names)
+unfoldable pub variables_rule : Modules → ℕ → Scope → TypedNames → Rule Scope
+variables_rule ms n s x =
+    Then (type_at ms s (naming s (first_name (out-TypedNames x).names)) n 0 (out-TypedNames x).of) (λ w.
+    through (variable_rule w.of) s (out-TypedNames x).names)
 
--- ---- a module's declarations but for its procedures
+-- ---- the declarations of a module or a procedure but for the procedures in it
 
-unfoldable pub declarations_rule : Modules → List ℕ → Scope → Declarations → Rule Declaring
-declarations_rule ms self s d =
-    Then (through (constant_rule ms) s (out-Declarations d).constants) (λ t.
-    Then (through (type_rule ms self) t (out-Declarations d).types) (λ u.
-    through (variables_rule ms self) (record { scope = u; cells = 0 }) (out-Declarations d).variables))
+unfoldable pub declarations_rule : Modules → ℕ → Scope → Declarations → Rule Scope
+declarations_rule ms n s d =
+    Then (through (constant_rule ms n) s (out-Declarations d).constants) (λ t.
+    Then (through (type_rule ms n) t (out-Declarations d).types) (λ u.
+    through (variables_rule ms n) u (out-Declarations d).variables))
 
 abbrev pub is_other : StandardName → Bool
 is_other standard.Other = true
 is_other _ = false
 
 -- a module is not named In, Out or SYSTEM
-unfoldable pub module_rule : Modules → Module → Rule Declaring
+unfoldable pub module_rule : Modules → Module → Rule Scope
 module_rule ms m =
     Needs (is_other (standard_named m.name.name)) code.DeclaredTwice (
-    Then (through (import_rule ms m.name.name) [] m.imports) (λ s. declarations_rule ms m.name.name s m.declarations))
-
--- ---- the interface
-
--- what other modules see of a declaration
-abbrev pub object_of : Entry → Option Object
-object_of (entry.Constant c) = Some (object.Constant c)
-object_of (entry.TypeName t) = Some (object.TypeName t)
-object_of (entry.Variable t cells) = Some (object.Variable t)
-object_of _ = None
-
-abbrev pub exported_of : List ℕ → Bool → Option Object → List Exported
-exported_of name true (Some o) = record { name = name; object = o } ∷ []
-exported_of name _ _ = []
-
--- the declarations with a mark, in their order
-abbrev pub exports_of : Scope → List Exported
-exports_of [] = []
-exports_of (d ∷ ds) = exported_of d.name d.exported (object_of d.entry) ++ exports_of ds
-
-abbrev pub interface_of : List ℕ → Scope → InterfaceTree
-interface_of name s = record { name = name; exports = exports_of s }
+    Then (through (import_rule ms) (opening m.name.name) m.imports) (λ s. declarations_rule ms max_nesting s m.declarations))

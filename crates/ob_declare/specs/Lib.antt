@@ -1,9 +1,15 @@
 pub mod Rule
-pub mod Computing
+pub mod Stack
+pub mod Names
 pub mod Block
+pub mod LoadedTree
+pub mod Exports
 pub mod Predeclared
+pub mod Scope
 pub mod Folding
 pub mod Imports
 pub mod Constants
 pub mod WrittenTypes
 pub mod Declarations
+pub mod Headings
+pub mod Interfaces

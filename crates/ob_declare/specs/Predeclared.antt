@@ -1,11 +1,21 @@
--- The names that are declared before any module (Wirth, The Programming Language Oberon, Oberon-07), and those that this
--- language leaves out.
-use Rattle.std.specs.Prelude.{ℕ, List, Bool, ◌||◌, Option, Some, None, codes, if◌then◌else◌}
+-- The names that are declared before any module (Wirth, The Programming Language Oberon, Oberon-07), those that this
+-- language leaves out, and the names in In and Out (the Oakwood Guidelines).
+use Rattle.std.specs.Prelude.{ℕ, List, Bool, true, false, ◌||◌, Option, Some, None, codes, if◌then◌else◌}
 use Rattle.std.specs.Str.{bytes_eq}
+use Rattle.ob_base.specs.declared.fault.Code.{Code}
+use Rattle.ob_base.specs.declared.fault.Code.TheVariants as code
 use Rattle.ob_types.specs.declared.structure.Basic.{Basic}
 use Rattle.ob_types.specs.declared.structure.Basic.TheVariants as basic
 use Rattle.ob_declare.specs.declared.predeclared.Function.{Function}
 use Rattle.ob_declare.specs.declared.predeclared.Function.TheVariants as function
+use Rattle.ob_declare.specs.declared.predeclared.ProperProcedure.{ProperProcedure}
+use Rattle.ob_declare.specs.declared.predeclared.ProperProcedure.TheVariants as procedure
+use Rattle.ob_declare.specs.declared.predeclared.Predeclared.{Predeclared}
+use Rattle.ob_declare.specs.declared.predeclared.Predeclared.TheVariants as predeclared
+use Rattle.ob_declare.specs.declared.predeclared.InputName.{InputName}
+use Rattle.ob_declare.specs.declared.predeclared.InputName.TheVariants as input
+use Rattle.ob_declare.specs.declared.predeclared.OutputName.{OutputName}
+use Rattle.ob_declare.specs.declared.predeclared.OutputName.TheVariants as output
 
 abbrev pub basic_named : List ℕ → Option Basic
 basic_named name =
@@ -28,8 +38,11 @@ function_named name =
     else (if bytes_eq name (codes "CHR") then Some function.Chr
     else (if bytes_eq name (codes "LEN") then Some function.Len else shift_named name))))
 
-abbrev pub is_procedure_named : List ℕ → Bool
-is_procedure_named name = bytes_eq name (codes "ASSERT") || bytes_eq name (codes "INC") || bytes_eq name (codes "DEC")
+abbrev pub procedure_named : List ℕ → Option ProperProcedure
+procedure_named name =
+    if bytes_eq name (codes "INC") then Some procedure.Inc
+    else (if bytes_eq name (codes "DEC") then Some procedure.Dec
+    else (if bytes_eq name (codes "ASSERT") then Some procedure.Assert else None))
 
 abbrev pub is_left_out_type : List ℕ → Bool
 is_left_out_type name = bytes_eq name (codes "REAL") || bytes_eq name (codes "SET")
@@ -43,3 +56,45 @@ is_left_out_procedure name =
 
 abbrev pub is_left_out : List ℕ → Bool
 is_left_out name = is_left_out_type name || is_left_out_function name || is_left_out_procedure name
+
+-- ---- what a name is before any module
+
+abbrev pub left_out : Bool → Predeclared
+left_out true = predeclared.LeftOut
+left_out false = predeclared.Unknown
+
+abbrev pub predeclared_of : Option Basic → Option Function → Option ProperProcedure → Bool → Predeclared
+predeclared_of (Some b) f p l = predeclared.Basic b
+predeclared_of None (Some f) p l = predeclared.Function f
+predeclared_of None None (Some p) l = predeclared.Procedure p
+predeclared_of None None None l = left_out l
+
+unfoldable pub predeclared_named : List ℕ → Predeclared
+predeclared_named name = predeclared_of (basic_named name) (function_named name) (procedure_named name) (is_left_out name)
+
+-- what is broken where nothing declares a name that has to stand for a value, or for a type
+abbrev pub absent : Predeclared → Code
+absent predeclared.LeftOut = code.LeftOut
+absent predeclared.Unknown = code.UnknownName
+absent (predeclared.Basic b) = code.Types
+absent (predeclared.Function f) = code.Types
+absent (predeclared.Procedure p) = code.Types
+
+-- ---- what In and Out export: no constants, no types, and one variable
+
+unfoldable pub input_named : List ℕ → InputName
+input_named name =
+    if bytes_eq name (codes "Open") then input.Open
+    else (if bytes_eq name (codes "Char") then input.Char
+    else (if bytes_eq name (codes "Int") then input.Int
+    else (if bytes_eq name (codes "String") then input.String
+    else (if bytes_eq name (codes "Name") then input.Name
+    else (if bytes_eq name (codes "Done") then input.Done else input.Unknown)))))
+
+unfoldable pub output_named : List ℕ → OutputName
+output_named name =
+    if bytes_eq name (codes "Open") then output.Open
+    else (if bytes_eq name (codes "Char") then output.Char
+    else (if bytes_eq name (codes "String") then output.String
+    else (if bytes_eq name (codes "Int") then output.Int
+    else (if bytes_eq name (codes "Ln") then output.Ln else output.Unknown))))

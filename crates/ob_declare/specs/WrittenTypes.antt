@@ -1,6 +1,6 @@
 -- Types as they are written (Wirth, The Programming Language Oberon, Oberon-07). A record type is named by its module, the
 -- procedures round its declaration, the declared name, and how many words RECORD stand before it in that declaration.
-use Rattle.std.specs.Prelude.{ℕ, zero, suc, ◌+◌, ◌*◌, ℤ, pos, negsuc, List, [], ◌∷◌, ◌++◌, length, map, reverse, Bool, true, false, not, Option, Some, None, ◌||◌, ◌&&◌, is_some, is_none, nat_le, nat_lt, if◌then◌else◌}
+use Rattle.std.specs.Prelude.{ℕ, zero, suc, ◌+◌, ◌*◌, ℤ, pos, negsuc, List, [], ◌∷◌, ◌++◌, length, map, reverse, Bool, true, false, not, Option, Some, None, ◌&&◌, is_some, nat_le, nat_lt, if◌then◌else◌}
 use Rattle.ob_base.specs.declared.fault.Code.{Code}
 use Rattle.ob_base.specs.declared.fault.Code.TheVariants as code
 use Rattle.ob_parse.specs.declared.tree.Expr.{Expr}
@@ -14,56 +14,71 @@ use Rattle.ob_types.specs.declared.exports.Constant.{Constant}
 use Rattle.ob_types.specs.declared.exports.Constant.TheVariants as constant
 use Rattle.ob_types.specs.declared.exports.Object.{Object}
 use Rattle.ob_types.specs.declared.exports.Object.TheVariants as object
-use Rattle.ob_types.specs.declared.structure.Basic.{Basic}
 use Rattle.ob_types.specs.declared.structure.Field.{Field}
 use Rattle.ob_types.specs.declared.structure.ObType.{ObType}
 use Rattle.ob_types.specs.declared.structure.ObType.TheVariants.{Basic as OfBasic, Array, Record}
 use Rattle.ob_types.specs.declared.structure.RecordName.{RecordName}
-use Rattle.ob_types.specs.declared.structure.RecordType.{RecordType, roll-RecordType}
+use Rattle.ob_types.specs.declared.structure.RecordType.{roll-RecordType}
 use Rattle.ob_types.specs.Types.{cells, levels, max_cells, max_levels, is_admitted}
 use Rattle.ob_declare.specs.declared.block.Entry.{Entry}
 use Rattle.ob_declare.specs.declared.block.Entry.TheVariants as entry
 use Rattle.ob_declare.specs.declared.written_type.Written.{Written}
 use Rattle.ob_declare.specs.declared.written_type.Fields.{Fields}
-use Rattle.ob_declare.specs.Block.{find}
-use Rattle.ob_declare.specs.Imports.{exported_at, is_among}
-use Rattle.ob_declare.specs.Predeclared.{basic_named, function_named, is_procedure_named, is_left_out}
-use Rattle.ob_declare.specs.Rule.{Rule, Given, Breaks, Then, Needs, Both, there, through}
-use Rattle.ob_declare.specs.Constants.{Scope, Modules, constant_at}
+use Rattle.ob_declare.specs.declared.predeclared.InputName.{InputName}
+use Rattle.ob_declare.specs.declared.predeclared.InputName.TheVariants as input
+use Rattle.ob_declare.specs.declared.predeclared.OutputName.{OutputName}
+use Rattle.ob_declare.specs.declared.predeclared.OutputName.TheVariants as output
+use Rattle.ob_declare.specs.declared.predeclared.Predeclared.{Predeclared}
+use Rattle.ob_declare.specs.declared.predeclared.Predeclared.TheVariants as predeclared
+use Rattle.ob_declare.specs.declared.scope.Scope.{Scope}
+use Rattle.ob_declare.specs.Exports.{Modules}
+use Rattle.ob_declare.specs.Imports.{exported_at}
+use Rattle.ob_declare.specs.Names.{is_among}
+use Rattle.ob_declare.specs.Predeclared.{absent, input_named, output_named}
+use Rattle.ob_declare.specs.Scope.{seen, outer}
+use Rattle.ob_declare.specs.Rule.{Rule, Given, Breaks, Then, Needs, there, through}
+use Rattle.ob_declare.specs.Constants.{constant_at}
 
 -- ---- names of types
 
--- what is broken where nothing declares the name of a type
-abbrev pub absent_type : List ℕ → Code
-absent_type name =
-    if is_left_out name then code.LeftOut
-    else (if is_some (function_named name) || is_procedure_named name then code.Types else code.UnknownName)
-
-abbrev pub predeclared_type : Option Basic → List ℕ → Rule ObType
-predeclared_type (Some b) name = Given (OfBasic b)
-predeclared_type None name = Breaks (absent_type name)
+unfoldable pub predeclared_type : Predeclared → Rule ObType
+predeclared_type (predeclared.Basic b) = Given (OfBasic b)
+predeclared_type p = Breaks (absent p)
 
 -- a name alone
-unfoldable pub own_type : Option Entry → List ℕ → Rule ObType
-own_type (Some (entry.TypeName t)) name = Given t
-own_type (Some e) name = Breaks code.Types
-own_type None name = predeclared_type (basic_named name) name
+unfoldable pub own_type : Option Entry → Predeclared → Rule ObType
+own_type (Some (entry.TypeName t)) p = Given t
+own_type (Some e) p = Breaks code.Types
+own_type None p = predeclared_type p
 
 abbrev pub object_type : Object → Rule ObType
 object_type (object.TypeName t) = Given t
 object_type o = Breaks code.Types
 
 -- a name of another module: In and Out export no type
-unfoldable pub other_type : Modules → Option Entry → List ℕ → List ℕ → Rule ObType
-other_type ms (Some (entry.Module place)) first name = Then (there (exported_at ms place name) code.NotExported) (λ o. object_type o)
-other_type ms (Some entry.In) first name = Breaks code.NotExported
-other_type ms (Some entry.Out) first name = Breaks code.NotExported
-other_type ms (Some e) first name = Breaks code.Types
-other_type ms None first name = Breaks (absent_type first)
+abbrev pub no_type : Bool → Code
+no_type true = code.NotExported
+no_type false = code.Types
+
+abbrev pub is_unknown_input : InputName → Bool
+is_unknown_input input.Unknown = true
+is_unknown_input _ = false
+
+abbrev pub is_unknown_output : OutputName → Bool
+is_unknown_output output.Unknown = true
+is_unknown_output _ = false
+
+unfoldable pub other_type : Modules → Option Entry → Predeclared → List ℕ → Rule ObType
+other_type ms (Some (entry.Module number place)) p name =
+    Then (there (exported_at ms place name) code.NotExported) (λ o. object_type o)
+other_type ms (Some entry.In) p name = Breaks (no_type (is_unknown_input (input_named name)))
+other_type ms (Some entry.Out) p name = Breaks (no_type (is_unknown_output (output_named name)))
+other_type ms (Some e) p name = Breaks code.Types
+other_type ms None p name = Breaks (absent p)
 
 abbrev pub qualified : Modules → Scope → Ident → Option Ident → Rule ObType
-qualified ms s first None = own_type (find s first.name) first.name
-qualified ms s first (Some second) = other_type ms (find s first.name) first.name second.name
+qualified ms s first None = own_type (seen s first.name) (outer s first.name)
+qualified ms s first (Some second) = other_type ms (seen s first.name) (outer s first.name) second.name
 
 unfoldable pub type_named : Modules → Scope → Qualident → Rule ObType
 type_named ms s q = qualified ms s q.first q.second

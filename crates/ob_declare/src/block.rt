@@ -4,24 +4,40 @@ ghost use Rattle.std.specs.Prelude.{◌≡◌, [], ◌∷◌, ◌++◌, None, On
 ghost use Rattle.ob_declare.specs.Block.{find};
 
 use ob_base::Text;
-use ob_types::{Constant, ObType};
+use ob_types::{Constant, ObType, Signature};
 use std::alloc::{AllocError, Global};
 use std::collections::HashMap;
 use std::marker::Model;
+
+/// Where a variable or a parameter stands.
+#[derive(Clone, Copy, Debug, PartialEq, Eq)]
+pub enum Standing {
+    /// A variable of the module that others see, by its number among those.
+    Exported(u32),
+    /// A variable of the module that others don't see, by its number among those.
+    Own(u32),
+    /// A parameter that holds a value, or a variable of the procedure, by its number. The parameters come first.
+    Local(usize),
+    /// What a VAR parameter names, by the parameter's number.
+    ByParameter(usize),
+    /// What a structured value parameter names, by the parameter's number. Nothing writes to it.
+    ReadOnly(usize),
+}
 
 /// What a name stands for.
 #[derive(Drop)]
 pub enum Entry {
     Constant(Constant),
     TypeName(ObType),
-    /// A variable, and how many cells stand before it.
-    Variable(ObType, u32),
+    Variable(ObType, Standing),
+    /// A procedure, and its number among those of the module.
+    Procedure(Signature, usize),
     /// The module In.
     In,
     /// The module Out.
     Out,
-    /// A module that is loaded, by its place among the loaded ones.
-    Module(usize),
+    /// Another module: its number among those that are imported, but for In and Out, and its place among the loaded ones.
+    Module(usize, usize),
 }
 
 /// A name with what it stands for, and whether other modules see it.

@@ -3,41 +3,27 @@
 ghost use Rattle.std.specs.Prelude.{◌≡◌, suc, option_copied, OnErr, IfErr, IfOk};
 ghost use Rattle.ob_base.specs.declared.fault.Code.TheVariants as code;
 ghost use Rattle.ob_parse.specs.declared.tree.Designator.{out-Designator};
-ghost use Rattle.ob_declare.specs.Block.{find};
 ghost use Rattle.ob_declare.specs.Rule.{Judges, IsFault, there, through};
 ghost use Rattle.ob_declare.specs.Constants as spec;
 ghost use Rattle.ob_declare.specs.Folding as folding;
 
-use crate::block::{Block, Entry};
+use crate::block::Entry;
 use crate::fault::{fault, open};
 use crate::folding::{
     Folded, constant_of, folded_of, not_of, one_of, product_of, related_of, sign_of, sum_of, two_of,
 };
-use crate::imports::{LoadedModule, exported_at};
-use crate::predeclared::{Function, basic_named, function_named, is_left_out, is_procedure_named};
-use ob_base::{Code, Items, Refused, Text};
+use crate::imports::Imports;
+use crate::predeclared::{
+    Function, InputName, OutputName, Predeclared, absent, input_named, output_named,
+};
+use crate::scope::Scope;
+use ob_base::{Code, Refused};
 use ob_parse::tree::{
     AddedTerm, Designator, Expr, Factor, NextFactor, Related, Selector, Sign, Simple, Term,
 };
 use ob_scan::Span;
 use ob_types::{Constant, Object};
 use std::alloc::Global;
-
-/// What is broken where nothing declares a name.
-pub fn absent(name: &Text) -> Code
-    ensures { result ≡ spec.absent name.now }
-{
-    if is_left_out(name) {
-        Code::LeftOut
-    } else if basic_named(name).is_some()
-        || function_named(name).is_some()
-        || is_procedure_named(name)
-    {
-        Code::Types
-    } else {
-        Code::UnknownName
-    }
-}
 
 /// What is imported under a name.
 #[tactic(auto, unfolding(crate::specs::Constants::imported))]
@@ -57,7 +43,7 @@ fn imported(alloc: Global, object: &Object, span: Span) -> Result<Folded, Refuse
 #[tactic(auto, unfolding(crate::specs::Constants::member))]
 fn member(
     alloc: Global,
-    modules: &[LoadedModule],
+    modules: &Imports,
     place: usize,
     selector: &Selector,
     span: Span,
@@ -65,10 +51,57 @@ fn member(
     ensures { Judges (spec.member modules.now place selector.now) result }
 {
     match selector {
-        Selector::Field(field) => match exported_at(modules, place, &field.name) {
+        Selector::Field(field) => match modules.exported_at(place, &field.name) {
             Some(object) => imported(alloc, object, field.span),
             None => Err(Refused::Fault(fault(Code::NotExported, field.span))),
         },
+        Selector::Index(_) => Err(Refused::Fault(fault(Code::Types, span))),
+    }
+}
+
+fn no_input(name: InputName) -> Code
+    ensures { result ≡ spec.no_input name }
+{
+    match name {
+        InputName::Unknown => Code::NotExported,
+        InputName::Done => Code::NotConstant,
+        _ => Code::Types,
+    }
+}
+
+/// The selector behind the name of the module In.
+#[tactic(auto, unfolding(crate::specs::Constants::input_member))]
+fn input_member(selector: &Selector, span: Span) -> Result<Folded, Refused>
+    ensures { Judges (spec.input_member selector.now) result }
+{
+    match selector {
+        Selector::Field(field) => {
+            let code = no_input(input_named(&field.name));
+            Err(Refused::Fault(fault(code, field.span)))
+        }
+        Selector::Index(_) => Err(Refused::Fault(fault(Code::Types, span))),
+    }
+}
+
+fn no_output(name: OutputName) -> Code
+    ensures { result ≡ spec.no_output name }
+{
+    match name {
+        OutputName::Unknown => Code::NotExported,
+        _ => Code::Types,
+    }
+}
+
+/// The selector behind the name of the module Out.
+#[tactic(auto, unfolding(crate::specs::Constants::output_member))]
+fn output_member(selector: &Selector, span: Span) -> Result<Folded, Refused>
+    ensures { Judges (spec.output_member selector.now) result }
+{
+    match selector {
+        Selector::Field(field) => {
+            let code = no_output(output_named(&field.name));
+            Err(Refused::Fault(fault(code, field.span)))
+        }
         Selector::Index(_) => Err(Refused::Fault(fault(Code::Types, span))),
     }
 }
@@ -77,7 +110,7 @@ fn member(
 #[tactic(auto, unfolding(crate::specs::Constants::named))]
 fn named(
     alloc: Global,
-    modules: &[LoadedModule],
+    modules: &Imports,
     entry: &Entry,
     selectors: &[Selector],
     span: Span,
@@ -87,7 +120,9 @@ fn named(
     match (entry, selectors) {
         (Entry::Constant(constant), []) => Ok(folded_of(alloc, constant)?),
         (Entry::Variable(_, _), _) => Err(Refused::Fault(fault(Code::NotConstant, span))),
-        (Entry::Module(place), [selector]) => member(alloc, modules, *place, selector, span),
+        (Entry::Module(_, place), [selector]) => member(alloc, modules, *place, selector, span),
+        (Entry::In, [selector]) => input_member(selector, span),
+        (Entry::Out, [selector]) => output_member(selector, span),
         _ => Err(Refused::Fault(fault(Code::Types, span))),
     }
 }
@@ -95,25 +130,27 @@ fn named(
 #[tactic(auto, unfolding(crate::specs::Constants::value_named))]
 fn value_named(
     alloc: Global,
-    modules: &[LoadedModule],
-    scope: &Block,
+    modules: &Imports,
+    scope: &Scope,
     d: &Designator,
 ) -> Result<Folded, Refused>
     ensures { Judges (spec.value_named modules.now scope.now d.now) result }
 {
-    match scope.find(&d.name.name) {
+    match scope.seen(&d.name.name) {
         Some(entry) => named(alloc, modules, entry, d.selectors.as_slice(), d.name.span),
-        None => Err(Refused::Fault(fault(absent(&d.name.name), d.name.span))),
+        None => Err(Refused::Fault(fault(absent(scope.outer(&d.name.name)), d.name.span))),
     }
 }
 
-fn not_called(name: &Text) -> Code
-    ensures { result ≡ spec.not_called name.now }
+/// The function that a name is which nothing declares.
+#[tactic(auto, unfolding(crate::specs::Constants::function_called))]
+fn function_called(predeclared: Predeclared, span: Span) -> Result<Function, Refused>
+    ensures { Judges (spec.function_called predeclared) result }
 {
-    if is_procedure_named(name) {
-        Code::Parameters
-    } else {
-        absent(name)
+    match predeclared {
+        Predeclared::Function(function) => Ok(function),
+        Predeclared::Procedure(_) => Err(Refused::Fault(fault(Code::Parameters, span))),
+        _ => Err(Refused::Fault(fault(absent(predeclared), span))),
     }
 }
 
@@ -122,28 +159,25 @@ fn not_called(name: &Text) -> Code
 fn function_found(
     entry: Option<&Entry>,
     selectors: &[Selector],
-    name: &Text,
+    predeclared: Predeclared,
     span: Span,
 ) -> Result<Function, Refused>
-    ensures { Judges (spec.function_found (option_copied entry.entry) selectors.now name.now) result }
+    ensures { Judges (spec.function_found (option_copied entry.entry) selectors.now predeclared) result }
 {
     match (entry, selectors) {
         (Some(_), _) => Err(Refused::Fault(fault(Code::NotConstant, span))),
-        (None, []) => match function_named(name) {
-            Some(function) => Ok(function),
-            None => Err(Refused::Fault(fault(not_called(name), span))),
-        },
-        (None, [_, ..]) => Err(Refused::Fault(fault(absent(name), span))),
+        (None, []) => function_called(predeclared, span),
+        (None, [_, ..]) => Err(Refused::Fault(fault(absent(predeclared), span))),
     }
 }
 
-fn function_of(scope: &Block, d: &Designator) -> Result<Function, Refused>
+fn function_of(scope: &Scope, d: &Designator) -> Result<Function, Refused>
     ensures { Judges (spec.function_of scope.now d.now) result }
 {
     function_found(
-        scope.find(&d.name.name),
+        scope.seen(&d.name.name),
         d.selectors.as_slice(),
-        &d.name.name,
+        scope.outer(&d.name.name),
         d.name.span,
     )
 }
@@ -174,8 +208,8 @@ fn signed(sign: Option<(Sign, Span)>, value: Folded) -> Result<Folded, Refused>
 #[tactic(auto, unfolding(crate::specs::Constants::expr_rule, crate::specs::Constants::expr_at))]
 pub fn expr(
     alloc: Global,
-    modules: &[LoadedModule],
-    scope: &Block,
+    modules: &Imports,
+    scope: &Scope,
     levels: u32,
     e: &Expr,
 ) -> Result<Folded, Refused>
@@ -189,8 +223,8 @@ pub fn expr(
 #[tactic(auto, unfolding(crate::specs::Constants::related))]
 fn related(
     alloc: Global,
-    modules: &[LoadedModule],
-    scope: &Block,
+    modules: &Imports,
+    scope: &Scope,
     levels: u32,
     left: Folded,
     right: &Option<Related>,
@@ -214,8 +248,8 @@ fn related(
 #[tactic(auto, unfolding(crate::specs::Constants::simple_rule))]
 fn simple(
     alloc: Global,
-    modules: &[LoadedModule],
-    scope: &Block,
+    modules: &Imports,
+    scope: &Scope,
     levels: u32,
     x: &Simple,
 ) -> Result<Folded, Refused>
@@ -229,8 +263,8 @@ fn simple(
 #[cycle(constant)]
 fn added_terms(
     alloc: Global,
-    modules: &[LoadedModule],
-    scope: &Block,
+    modules: &Imports,
+    scope: &Scope,
     levels: u32,
     first: Folded,
     others: &[AddedTerm],
@@ -248,8 +282,8 @@ fn added_terms(
 #[tactic(auto, unfolding(crate::specs::Constants::added_term))]
 fn added_term(
     alloc: Global,
-    modules: &[LoadedModule],
-    scope: &Block,
+    modules: &Imports,
+    scope: &Scope,
     levels: u32,
     left: Folded,
     x: &AddedTerm,
@@ -264,8 +298,8 @@ fn added_term(
 #[tactic(auto, unfolding(crate::specs::Constants::term_rule))]
 fn term(
     alloc: Global,
-    modules: &[LoadedModule],
-    scope: &Block,
+    modules: &Imports,
+    scope: &Scope,
     levels: u32,
     t: &Term,
 ) -> Result<Folded, Refused>
@@ -278,8 +312,8 @@ fn term(
 #[cycle(constant)]
 fn next_factors(
     alloc: Global,
-    modules: &[LoadedModule],
-    scope: &Block,
+    modules: &Imports,
+    scope: &Scope,
     levels: u32,
     first: Folded,
     others: &[NextFactor],
@@ -297,8 +331,8 @@ fn next_factors(
 #[tactic(auto, unfolding(crate::specs::Constants::next_factor))]
 fn next_factor(
     alloc: Global,
-    modules: &[LoadedModule],
-    scope: &Block,
+    modules: &Imports,
+    scope: &Scope,
     levels: u32,
     left: Folded,
     x: &NextFactor,
@@ -313,8 +347,8 @@ fn next_factor(
 #[tactic(auto, unfolding(crate::specs::Constants::factor_rule))]
 fn factor(
     alloc: Global,
-    modules: &[LoadedModule],
-    scope: &Block,
+    modules: &Imports,
+    scope: &Scope,
     levels: u32,
     f: &Factor,
 ) -> Result<Folded, Refused>
@@ -349,8 +383,8 @@ fn factor(
 #[tactic(auto, unfolding(crate::specs::Constants::called))]
 fn called(
     alloc: Global,
-    modules: &[LoadedModule],
-    scope: &Block,
+    modules: &Imports,
+    scope: &Scope,
     levels: u32,
     function: Function,
     actuals: &[Expr],
@@ -377,8 +411,8 @@ fn called(
 #[tactic(auto, unfolding(crate::specs::Constants::inner_at, crate::specs::Constants::expr_at))]
 fn nested(
     alloc: Global,
-    modules: &[LoadedModule],
-    scope: &Block,
+    modules: &Imports,
+    scope: &Scope,
     levels: u32,
     span: Span,
     e: &Expr,
@@ -393,8 +427,8 @@ fn nested(
 #[tactic(auto, unfolding(crate::specs::Constants::deeper_at))]
 fn deeper(
     alloc: Global,
-    modules: &[LoadedModule],
-    scope: &Block,
+    modules: &Imports,
+    scope: &Scope,
     levels: u32,
     span: Span,
     f: &Factor,
@@ -409,8 +443,8 @@ fn deeper(
 #[tactic(auto, unfolding(crate::specs::Constants::constant_at))]
 pub fn constant(
     alloc: Global,
-    modules: &[LoadedModule],
-    scope: &Block,
+    modules: &Imports,
+    scope: &Scope,
     levels: u32,
     e: &Expr,
     span: Span,

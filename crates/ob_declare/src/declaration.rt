@@ -1,34 +1,53 @@
 //! Imports and declarations.
 
-ghost use Rattle.std.specs.Prelude.{◌≡◌, ◌++◌, [], option_copied, IfOk};
-ghost use Rattle.ob_declare.specs.Rule.{Judges, gives, AnswersTree, FaultsOnly, through};
+ghost use Rattle.std.specs.Prelude.{◌≡◌, ◌≤◌, None, IfOk};
+ghost use Rattle.ob_base.specs.declared.fault.Code.TheVariants as code;
+ghost use Rattle.ob_declare.specs.Block.{find};
+ghost use Rattle.ob_declare.specs.Rule.{Judges, gives, AnswersTree, FaultsOnly, there, through};
 ghost use Rattle.ob_declare.specs.Declarations as spec;
-ghost use Rattle.ob_declare.specs.declared.declaration.Declaring.{Declaring};
+ghost use Rattle.ob_declare.specs.declared.scope.Scope.{Scope};
 
-use crate::block::{Block, Entry};
+use crate::block::{Entry, Standing};
 use crate::constant::constant;
 use crate::fault::fault;
-use crate::imports::{LoadedModule, StandardName, place_of, reaches_at, standard_named};
+use crate::imports::{Imports, StandardName, standard_named};
+use crate::scope::Scope;
 use crate::written_type::written_type;
-use ob_base::{Code, Items, Refused, Text};
+use ob_base::{Code, Refused, Text};
 use ob_parse::tree::{
     ConstDeclaration, Declarations, Ident, IdentDef, Import, Module, TypeDeclaration, TypedNames,
 };
 use ob_scan::Span;
-use ob_types::{ObType, RecordName, zero_size};
-use std::alloc::{AllocError, Global};
+use ob_types::{ObType, zero_size};
+use std::alloc::Global;
 
 /// How many constructs nest.
-const MAX_NESTING: u32 = 200;
+pub const MAX_NESTING: u32 = 200;
 
 /// How many cells the variables of a module take.
 const MAX_MODULE_CELLS: u32 = 262_144;
 
-/// What was declared so far: the names, and how many cells the variables among them take.
-#[derive(Drop)]
-pub struct Declaring {
-    pub scope: Block,
-    pub cells: u32,
+/// How many cells the variables of a procedure take.
+const MAX_PROCEDURE_CELLS: u32 = 16_384;
+
+/// One more, of what there are not too many.
+fn next_place(n: usize, span: Span) -> Result<usize, Refused>
+    ensures { Judges (there (spec.one_more spec.max_count n) code.Size) result }
+{
+    match n.checked_add(1) {
+        Some(next) => Ok(next),
+        None => Err(Refused::Fault(fault(Code::Size, span))),
+    }
+}
+
+/// One variable more.
+fn next_variable(n: u32, span: Span) -> Result<u32, Refused>
+    ensures { Judges (there (spec.one_more spec.max_variables n) code.Size) result }
+{
+    match n.checked_add(1) {
+        Some(next) => Ok(next),
+        None => Err(Refused::Fault(fault(Code::Size, span))),
+    }
 }
 
 /// The name that an imported module has itself.
@@ -41,88 +60,150 @@ fn own_name(import: &Import) -> &Ident
     }
 }
 
-/// A module that is loaded, and doesn't reach the one that imports it.
-#[tactic(auto, unfolding(crate::specs::Declarations::loaded_entry))]
-fn loaded_entry(
-    modules: &[LoadedModule],
+/// The place of a module that is loaded, and doesn't reach the one that imports it.
+#[tactic(auto, unfolding(crate::specs::Declarations::loaded_place))]
+fn loaded_place(
+    modules: &Imports,
     this: &Text,
     place: Option<usize>,
     span: Span,
-) -> Result<Entry, Refused>
-    ensures { Judges (spec.loaded_entry modules.now this.now place) result }
+) -> Result<usize, Refused>
+    ensures { Judges (spec.loaded_place modules.now this.now place) result }
 {
     match place {
         None => Err(Refused::Fault(fault(Code::NotLoaded, span))),
         Some(place) => {
-            if reaches_at(modules, place, this) {
+            if modules.reaches_at(place, this) {
                 return Err(Refused::Fault(fault(Code::ImportsItself, span)));
             }
-            Ok(Entry::Module(place))
+            Ok(place)
         }
     }
 }
 
-/// What is imported under a module's own name.
-#[tactic(auto, unfolding(crate::specs::Declarations::imported_entry))]
-fn imported_entry(
-    modules: &[LoadedModule],
-    this: &Text,
-    own: &Text,
-    name: StandardName,
-    span: Span,
-) -> Result<Entry, Refused>
-    ensures { Judges (spec.imported_entry modules.now this.now own.now name) result }
+/// One import more, of a name that is new.
+#[tactic(auto, unfolding(crate::specs::Declarations::with_import))]
+fn with_import(alloc: Global, so_far: Scope, name: &Ident, entry: Entry) -> Result<Scope, Refused>
+    ensures { Judges (spec.with_import so_far name.now.name entry) result }
 {
-    match name {
-        StandardName::In => Ok(Entry::In),
-        StandardName::Out => Ok(Entry::Out),
-        StandardName::System => Err(Refused::Fault(fault(Code::LeftOut, span))),
-        StandardName::Other => loaded_entry(modules, this, place_of(modules, own), span),
+    let mut so_far = so_far;
+    if so_far.block.find(&name.name).is_some() {
+        return Err(Refused::Fault(fault(Code::DeclaredTwice, name.span)));
     }
+    so_far.declare(alloc, &name.name, false, entry)?;
+    Ok(so_far)
+}
+
+/// One import more of a module that is loaded at a place.
+#[tactic(auto, unfolding(crate::specs::Declarations::with_module))]
+fn with_module(alloc: Global, so_far: Scope, name: &Ident, place: usize) -> Result<Scope, Refused>
+    ensures { Judges (spec.with_module so_far name.now.name place) result }
+{
+    let mut so_far = so_far;
+    let number = so_far.import_count;
+    so_far.import_count = next_place(number, name.span)?;
+    with_import(alloc, so_far, name, Entry::Module(number, place))
+}
+
+/// One import more of a module but for In, Out and SYSTEM.
+#[tactic(auto, unfolding(crate::specs::Declarations::other_module))]
+fn other_module(
+    alloc: Global,
+    modules: &Imports,
+    so_far: Scope,
+    name: &Ident,
+    own: &Ident,
+) -> Result<Scope, Refused>
+    ensures { Judges (spec.other_module modules.now so_far name.now.name own.now.name) result }
+{
+    let found = modules.place_of(&own.name);
+    let place = loaded_place(modules, &so_far.module_name, found, own.span)?;
+    with_module(alloc, so_far, name, place)
+}
+
+/// What is imported under a module's own name.
+#[tactic(auto, unfolding(crate::specs::Declarations::imported_as))]
+fn imported_as(
+    alloc: Global,
+    modules: &Imports,
+    so_far: Scope,
+    name: &Ident,
+    own: &Ident,
+    standard: StandardName,
+) -> Result<Scope, Refused>
+    ensures { Judges (spec.imported_as modules.now so_far name.now.name own.now.name standard) result }
+{
+    match standard {
+        StandardName::In => with_import(alloc, so_far, name, Entry::In),
+        StandardName::Out => with_import(alloc, so_far, name, Entry::Out),
+        StandardName::System => Err(Refused::Fault(fault(Code::LeftOut, own.span))),
+        StandardName::Other => other_module(alloc, modules, so_far, name, own),
+    }
+}
+
+/// One import more under a name, of a module that has its own.
+#[tactic(auto, unfolding(crate::specs::Declarations::import_named))]
+fn import_named(
+    alloc: Global,
+    modules: &Imports,
+    so_far: Scope,
+    name: &Ident,
+    own: &Ident,
+) -> Result<Scope, Refused>
+    ensures { Judges (spec.import_named modules.now so_far name.now.name own.now.name) result }
+{
+    if own.name.same(&so_far.module_name) {
+        return Err(Refused::Fault(fault(Code::ImportsItself, own.span)));
+    }
+    let standard = standard_named(&own.name);
+    imported_as(alloc, modules, so_far, name, own, standard)
 }
 
 /// One import more.
 #[tactic(auto, unfolding(crate::specs::Declarations::import_rule))]
 fn import(
     alloc: Global,
-    modules: &[LoadedModule],
-    this: &Text,
-    so_far: Block,
+    modules: &Imports,
+    so_far: Scope,
     import: &Import,
-) -> Result<Block, Refused>
-    ensures { Judges (spec.import_rule modules.now this.now so_far import.now) result }
+) -> Result<Scope, Refused>
+    ensures { Judges (spec.import_rule modules.now so_far import.now) result }
 {
-    let mut so_far = so_far;
-    let own = own_name(import);
-    if own.name.same(this) {
-        return Err(Refused::Fault(fault(Code::ImportsItself, own.span)));
-    }
-    let entry = imported_entry(
-        modules,
-        this,
-        &own.name,
-        standard_named(&own.name),
-        own.span,
-    )?;
-    if so_far.find(&import.name.name).is_some() {
-        return Err(Refused::Fault(fault(Code::DeclaredTwice, import.name.span)));
-    }
-    so_far.declare(alloc, &import.name.name, false, entry)?;
-    Ok(so_far)
+    import_named(alloc, modules, so_far, &import.name, own_name(import))
 }
 
 fn imports(
     alloc: Global,
-    modules: &[LoadedModule],
-    this: &Text,
+    modules: &Imports,
+    first: Scope,
     list: &[Import],
-) -> Result<Block, Refused>
-    ensures { Judges (through (spec.import_rule modules.now this.now) [] list.now) result }
+) -> Result<Scope, Refused>
+    ensures { Judges (through (spec.import_rule modules.now) first list.now) result }
 {
-    let mut so_far = Block::new(alloc);
+    let mut so_far = first;
     for one in list {
-        so_far = import(alloc, modules, this, so_far, one)?;
+        so_far = import(alloc, modules, so_far, one)?;
     }
+    Ok(so_far)
+}
+
+/// A constant of a name that is new.
+#[tactic(auto, unfolding(crate::specs::Declarations::new_constant))]
+fn new_constant(
+    alloc: Global,
+    modules: &Imports,
+    nesting: u32,
+    so_far: Scope,
+    d: &ConstDeclaration,
+) -> Result<Scope, Refused>
+    requires { find so_far.block d.now.name.name.name ≡ None }
+    ensures { Judges (spec.new_constant modules.now nesting so_far d.now) result }
+{
+    let mut so_far = so_far;
+    let name = &d.name.name;
+    let value = constant(alloc, modules, &so_far, nesting, d.value.get(), name.span)?;
+    let mark = d.name.mark.is_some();
+    so_far.declare(alloc, &name.name, mark, Entry::Constant(value))?;
     Ok(so_far)
 }
 
@@ -130,150 +211,203 @@ fn imports(
 #[tactic(auto, unfolding(crate::specs::Declarations::constant_rule))]
 fn constant_declared(
     alloc: Global,
-    modules: &[LoadedModule],
-    so_far: Block,
+    modules: &Imports,
+    nesting: u32,
+    so_far: Scope,
     d: &ConstDeclaration,
-) -> Result<Block, Refused>
-    ensures { Judges (spec.constant_rule modules.now so_far d.now) result }
+) -> Result<Scope, Refused>
+    ensures { Judges (spec.constant_rule modules.now nesting so_far d.now) result }
 {
-    let mut so_far = so_far;
     let name = &d.name.name;
-    if so_far.find(&name.name).is_some() {
+    if so_far.block.find(&name.name).is_some() {
         return Err(Refused::Fault(fault(Code::DeclaredTwice, name.span)));
     }
-    let value = constant(
-        alloc,
-        modules,
-        &so_far,
-        MAX_NESTING,
-        d.value.get(),
-        name.span,
-    )?;
-    so_far.declare(
-        alloc,
-        &name.name,
-        d.name.mark.is_some(),
-        Entry::Constant(value),
-    )?;
-    Ok(so_far)
+    new_constant(alloc, modules, nesting, so_far, d)
 }
 
 fn constants(
     alloc: Global,
-    modules: &[LoadedModule],
-    first: Block,
+    modules: &Imports,
+    nesting: u32,
+    first: Scope,
     list: &[ConstDeclaration],
-) -> Result<Block, Refused>
-    ensures { Judges (through (spec.constant_rule modules.now) first list.now) result }
+) -> Result<Scope, Refused>
+    ensures { Judges (through (spec.constant_rule modules.now nesting) first list.now) result }
 {
     let mut so_far = first;
     for d in list {
-        so_far = constant_declared(alloc, modules, so_far, d)?;
+        so_far = constant_declared(alloc, modules, nesting, so_far, d)?;
     }
     Ok(so_far)
 }
 
-/// The name of the first record in a declaration of a module.
-fn naming(alloc: Global, this: &Text, declared: &[u8]) -> Result<RecordName, AllocError>
-    ensures { IfOk result (λ n. n ≡ spec.naming this.now declared.now) }
+/// A type of a name that is new.
+#[tactic(auto, unfolding(crate::specs::Declarations::new_type))]
+fn new_type(
+    alloc: Global,
+    modules: &Imports,
+    nesting: u32,
+    so_far: Scope,
+    d: &TypeDeclaration,
+) -> Result<Scope, Refused>
+    requires { find so_far.block d.now.name.name.name ≡ None }
+    ensures { Judges (spec.new_type modules.now nesting so_far d.now) result }
 {
-    Ok(RecordName {
-        module_name: this.copy(alloc)?,
-        enclosing: Items::new(alloc),
-        declared: Text::from_slice(alloc, declared)?,
-        before: 0,
-    })
+    let mut so_far = so_far;
+    let name = &d.name.name.name;
+    let naming = so_far.naming(alloc, name.as_slice())?;
+    let written = written_type(alloc, modules, &so_far, &naming, nesting, 0, d.of.get())?;
+    let mark = d.name.mark.is_some();
+    so_far.declare(alloc, name, mark, Entry::TypeName(written.of))?;
+    Ok(so_far)
 }
 
 /// One type more.
 #[tactic(auto, unfolding(crate::specs::Declarations::type_rule))]
 fn type_declared(
     alloc: Global,
-    modules: &[LoadedModule],
-    this: &Text,
-    so_far: Block,
+    modules: &Imports,
+    nesting: u32,
+    so_far: Scope,
     d: &TypeDeclaration,
-) -> Result<Block, Refused>
-    ensures { Judges (spec.type_rule modules.now this.now so_far d.now) result }
+) -> Result<Scope, Refused>
+    ensures { Judges (spec.type_rule modules.now nesting so_far d.now) result }
 {
-    let mut so_far = so_far;
     let name = &d.name.name;
-    if so_far.find(&name.name).is_some() {
+    if so_far.block.find(&name.name).is_some() {
         return Err(Refused::Fault(fault(Code::DeclaredTwice, name.span)));
     }
-    let naming = naming(alloc, this, name.name.as_slice())?;
-    let written = written_type(alloc, modules, &so_far, &naming, MAX_NESTING, 0, d.of.get())?;
-    so_far.declare(
-        alloc,
-        &name.name,
-        d.name.mark.is_some(),
-        Entry::TypeName(written.of),
-    )?;
-    Ok(so_far)
+    new_type(alloc, modules, nesting, so_far, d)
 }
 
 fn types(
     alloc: Global,
-    modules: &[LoadedModule],
-    this: &Text,
-    first: Block,
+    modules: &Imports,
+    nesting: u32,
+    first: Scope,
     list: &[TypeDeclaration],
-) -> Result<Block, Refused>
-    ensures { Judges (through (spec.type_rule modules.now this.now) first list.now) result }
+) -> Result<Scope, Refused>
+    ensures { Judges (through (spec.type_rule modules.now nesting) first list.now) result }
 {
     let mut so_far = first;
     for d in list {
-        so_far = type_declared(alloc, modules, this, so_far, d)?;
+        so_far = type_declared(alloc, modules, nesting, so_far, d)?;
     }
     Ok(so_far)
 }
 
-/// How many cells are taken with a variable more, if they are not too many.
-fn cells_behind(taken: u32, of: &ObType) -> Option<u32>
-    ensures { result ≡ spec.cells_behind taken of.now }
+/// How many cells the variables of a block take, by the blocks round it.
+fn most_cells(outermost: bool) -> u32
+    ensures value { result ≡ spec.most_cells outermost }
+    ensures bound { result ≤ 262144 }
 {
-    let total = taken.checked_add(zero_size(of))?;
-    if total <= MAX_MODULE_CELLS {
-        Some(total)
+    if outermost {
+        MAX_MODULE_CELLS
     } else {
-        None
+        MAX_PROCEDURE_CELLS
+    }
+}
+
+/// How many cells are taken with a variable more, if they are not too many.
+fn cells_behind(outermost: bool, taken: u32, of: &ObType) -> Option<u32>
+    ensures { result ≡ spec.cells_behind (spec.most_cells outermost) taken of.now }
+{
+    let most = most_cells(outermost);
+    let total = taken.checked_add(zero_size(of))?;
+    if total <= most { Some(total) } else { None }
+}
+
+/// One variable of the module more, which others see.
+#[tactic(auto, unfolding(crate::specs::Declarations::exported_variable))]
+fn exported_variable(
+    alloc: Global,
+    so_far: Scope,
+    name: &Ident,
+    of: ObType,
+) -> Result<Scope, Refused>
+    requires { find so_far.block name.now.name ≡ None }
+    ensures { Judges (spec.exported_variable so_far name.now.name of) result }
+{
+    let mut so_far = so_far;
+    let number = so_far.exported_count;
+    so_far.exported_count = next_variable(number, name.span)?;
+    let entry = Entry::Variable(of, Standing::Exported(number));
+    so_far.declare(alloc, &name.name, true, entry)?;
+    Ok(so_far)
+}
+
+/// One variable of the module more, which others don't see.
+#[tactic(auto, unfolding(crate::specs::Declarations::own_variable))]
+fn own_variable(alloc: Global, so_far: Scope, name: &Ident, of: ObType) -> Result<Scope, Refused>
+    requires { find so_far.block name.now.name ≡ None }
+    ensures { Judges (spec.own_variable so_far name.now.name of) result }
+{
+    let mut so_far = so_far;
+    let number = so_far.own_count;
+    so_far.own_count = next_variable(number, name.span)?;
+    let entry = Entry::Variable(of, Standing::Own(number));
+    so_far.declare(alloc, &name.name, false, entry)?;
+    Ok(so_far)
+}
+
+/// One variable of a procedure more.
+#[tactic(auto, unfolding(crate::specs::Declarations::local_variable))]
+fn local_variable(alloc: Global, so_far: Scope, name: &Ident, of: ObType) -> Result<Scope, Refused>
+    requires { find so_far.block name.now.name ≡ None }
+    ensures { Judges (spec.local_variable so_far name.now.name of) result }
+{
+    let mut so_far = so_far;
+    let number = so_far.local_count;
+    so_far.local_count = next_place(number, name.span)?;
+    let entry = Entry::Variable(of, Standing::Local(number));
+    so_far.declare(alloc, &name.name, false, entry)?;
+    Ok(so_far)
+}
+
+/// One variable more, by where it stands.
+#[tactic(auto, unfolding(crate::specs::Declarations::variable_in))]
+fn variable_in(
+    alloc: Global,
+    outermost: bool,
+    mark: bool,
+    so_far: Scope,
+    name: &Ident,
+    of: ObType,
+) -> Result<Scope, Refused>
+    requires { find so_far.block name.now.name ≡ None }
+    ensures { Judges (spec.variable_in outermost mark so_far name.now.name of) result }
+{
+    if !outermost {
+        local_variable(alloc, so_far, name, of)
+    } else if mark {
+        exported_variable(alloc, so_far, name, of)
+    } else {
+        own_variable(alloc, so_far, name, of)
     }
 }
 
 /// One variable more.
 #[tactic(auto, unfolding(crate::specs::Declarations::variable_rule))]
-fn variable(
-    alloc: Global,
-    of: &ObType,
-    so_far: Declaring,
-    name: &IdentDef,
-) -> Result<Declaring, Refused>
+fn variable(alloc: Global, of: &ObType, so_far: Scope, name: &IdentDef) -> Result<Scope, Refused>
     ensures { Judges (spec.variable_rule of.now so_far name.now) result }
 {
     let mut so_far = so_far;
     let ident = &name.name;
-    if so_far.scope.find(&ident.name).is_some() {
+    if so_far.block.find(&ident.name).is_some() {
         return Err(Refused::Fault(fault(Code::DeclaredTwice, ident.span)));
     }
-    match cells_behind(so_far.cells, of) {
+    let outermost = so_far.is_outermost();
+    match cells_behind(outermost, so_far.cells_taken, of) {
         Some(cells) => {
-            let entry = Entry::Variable(of.copy(alloc)?, so_far.cells);
-            so_far
-                .scope
-                .declare(alloc, &ident.name, name.mark.is_some(), entry)?;
-            so_far.cells = cells;
-            Ok(so_far)
+            so_far.cells_taken = cells;
+            let of = of.copy(alloc)?;
+            variable_in(alloc, outermost, name.mark.is_some(), so_far, ident, of)
         }
         None => Err(Refused::Fault(fault(Code::Size, ident.span))),
     }
 }
 
-fn variables(
-    alloc: Global,
-    of: &ObType,
-    first: Declaring,
-    names: &[IdentDef],
-) -> Result<Declaring, Refused>
+fn variables(alloc: Global, of: &ObType, first: Scope, names: &[IdentDef]) -> Result<Scope, Refused>
     ensures { Judges (through (spec.variable_rule of.now) first names.now) result }
 {
     let mut so_far = first;
@@ -296,90 +430,81 @@ fn first_name(names: &[IdentDef]) -> &[u8]
 #[tactic(auto, unfolding(crate::specs::Declarations::variables_rule))]
 fn typed_names(
     alloc: Global,
-    modules: &[LoadedModule],
-    this: &Text,
-    so_far: Declaring,
+    modules: &Imports,
+    nesting: u32,
+    so_far: Scope,
     x: &TypedNames,
-) -> Result<Declaring, Refused>
-    ensures { Judges (spec.variables_rule modules.now this.now so_far x.now) result }
+) -> Result<Scope, Refused>
+    ensures { Judges (spec.variables_rule modules.now nesting so_far x.now) result }
 {
     let list = x.names.as_slice();
-    let naming = naming(alloc, this, first_name(list))?;
-    let written = written_type(
-        alloc,
-        modules,
-        &so_far.scope,
-        &naming,
-        MAX_NESTING,
-        0,
-        x.of.get(),
-    )?;
+    let naming = so_far.naming(alloc, first_name(list))?;
+    let written = written_type(alloc, modules, &so_far, &naming, nesting, 0, x.of.get())?;
     variables(alloc, &written.of, so_far, list)
 }
 
 fn all_variables(
     alloc: Global,
-    modules: &[LoadedModule],
-    this: &Text,
-    scope: Block,
+    modules: &Imports,
+    nesting: u32,
+    first: Scope,
     lists: &[TypedNames],
-) -> Result<Declaring, Refused>
-    ensures { Judges (through (spec.variables_rule modules.now this.now) (record { scope = scope; cells = 0 }) lists.now) result }
+) -> Result<Scope, Refused>
+    ensures { Judges (through (spec.variables_rule modules.now nesting) first lists.now) result }
 {
-    let mut so_far = Declaring { scope, cells: 0 };
+    let mut so_far = first;
     for x in lists {
-        so_far = typed_names(alloc, modules, this, so_far, x)?;
+        so_far = typed_names(alloc, modules, nesting, so_far, x)?;
     }
     Ok(so_far)
 }
 
-/// The declarations behind the imports.
+/// The constants, types and variables of a module or of the procedure that was entered (Wirth, The Programming Language
+/// Oberon, Oberon-07). `nesting` says how many more constructs may nest.
+///
+/// `Refused::Fault`: `DeclaredTwice` where the block has a name, or a record a field's; `NotConstant` for a constant or a
+/// length that is none or would trap; `Types` where types don't fit; `UnknownName`, `LeftOut` and `NotExported` for a name
+/// that stands for nothing; `Size` for a length, a type or variables of too many cells, or a type of too many levels;
+/// `Nesting` where more constructs nest than may. `Refused::Memory` where memory was refused. The scope is gone then.
 #[tactic(auto, unfolding(crate::specs::Declarations::declarations_rule))]
-fn declarations(
+pub fn declare_all(
     alloc: Global,
-    modules: &[LoadedModule],
-    this: &Text,
-    scope: Block,
+    modules: &Imports,
+    nesting: u32,
+    scope: Scope,
     d: &Declarations,
-) -> Result<Declaring, Refused>
-    ensures { Judges (spec.declarations_rule modules.now this.now scope d.now) result }
+) -> Result<Scope, Refused>
+    ensures { Judges (spec.declarations_rule modules.now nesting scope d.now) result }
 {
-    let scope = constants(alloc, modules, scope, d.constants.as_slice())?;
-    let scope = types(alloc, modules, this, scope, d.types.as_slice())?;
-    all_variables(alloc, modules, this, scope, d.variables.as_slice())
+    let scope = constants(alloc, modules, nesting, scope, d.constants.as_slice())?;
+    let scope = types(alloc, modules, nesting, scope, d.types.as_slice())?;
+    all_variables(alloc, modules, nesting, scope, d.variables.as_slice())
 }
 
-/// What a module declares.
+/// What a module declares but for its procedures, as `declare_module`, for rules that go on from there.
 #[tactic(auto, unfolding(crate::specs::Declarations::module_rule))]
-fn declared_by(alloc: Global, modules: &[LoadedModule], tree: &Module) -> Result<Declaring, Refused>
+pub fn declared_by(alloc: Global, modules: &Imports, tree: &Module) -> Result<Scope, Refused>
     ensures { Judges (spec.module_rule modules.now tree.now) result }
 {
     if standard_named(&tree.name.name) != StandardName::Other {
         return Err(Refused::Fault(fault(Code::DeclaredTwice, tree.name.span)));
     }
-    let scope = imports(alloc, modules, &tree.name.name, tree.imports.as_slice())?;
-    declarations(
-        alloc,
-        modules,
-        &tree.name.name,
-        scope,
-        tree.declarations.get(),
-    )
+    let first = Scope::opening(alloc, tree.name.name.copy(alloc)?);
+    let scope = imports(alloc, modules, first, tree.imports.as_slice())?;
+    declare_all(alloc, modules, MAX_NESTING, scope, tree.declarations.get())
 }
 
-/// What a module declares but for its procedures, over the modules that are loaded.
+/// What a module declares but for its procedures, over the modules that are loaded (Wirth, The Programming Language Oberon,
+/// Oberon-07).
 ///
-/// `Refused::Fault` has the code of a broken rule and the place of a token there; `Refused::Memory`
-/// where memory was refused.
-pub fn declare_module(
-    alloc: Global,
-    modules: &[LoadedModule],
-    tree: &Module,
-) -> Result<Declaring, Refused>
+/// `Refused::Fault` has the code of a broken rule and the place of a token there: those of `declare_all`, and for imports
+/// `ImportsItself`, `NotLoaded`, `LeftOut` (SYSTEM) and `DeclaredTwice`, the last also for a module named In, Out or SYSTEM.
+/// `Refused::Memory` where memory was refused.
+pub fn declare_module(alloc: Global, modules: &Imports, tree: &Module) -> Result<Scope, Refused>
     // What is answered is what the module declares.
     ensures found { IfOk result (λ d. gives (spec.module_rule modules.now tree.now) d) }
-    // Where the rules give a block it is answered, unless memory runs out.
-    ensures only { (d : Declaring) → gives (spec.module_rule modules.now tree.now) d → AnswersTree d result }
+    // Where the rules give a scope it is answered, unless memory runs out.
+    ensures only { (d : Scope) → gives (spec.module_rule modules.now tree.now) d → AnswersTree d result }
     // The code of a refusal is broken, and then the rules give none.
     ensures faults { FaultsOnly (spec.module_rule modules.now tree.now) result }
 {

@@ -6,11 +6,12 @@ ghost use Rattle.ob_mean.specs.whole.Texts.{natural};
 ghost use Rattle.ob_mean.specs.declared.whole.operator.UnaryOperator.TheVariants as one;
 ghost use Rattle.ob_declare.specs.Folding as spec;
 
-use crate::arithmetic::{apply, apply_one, holds, truth};
 use crate::predeclared::Function;
-use crate::texts::{before_zero, texts_relate};
+use crate::texts::before_zero;
 use ob_base::Text;
-use ob_mean::whole::{Operator, Relation, UnaryOperator};
+use ob_mean::whole::{
+    Operator, Relation, UnaryOperator, apply, apply_one, holds, texts_relate, truth,
+};
 use ob_parse::tree::{AddOperator, MulOperator, Relation as Written, Sign};
 use ob_types::Constant;
 use std::alloc::{AllocError, Global};

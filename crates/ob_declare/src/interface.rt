@@ -1,7 +1,7 @@
 //! The interface that the declarations of a module make.
 
-ghost use Rattle.std.specs.Prelude.{◌≡◌, ◌++◌, IfOk};
-ghost use Rattle.ob_declare.specs.Declarations as spec;
+ghost use Rattle.std.specs.Prelude.{◌≡◌, ◌++◌, IfOk, option_to_list};
+ghost use Rattle.ob_declare.specs.Interfaces as spec;
 
 use crate::block::{Block, Declared, Entry};
 use ob_base::{Items, Text};
@@ -16,7 +16,8 @@ fn object_of(alloc: Global, entry: &Entry) -> Result<Option<Object>, AllocError>
         Entry::Constant(constant) => Ok(Some(Object::Constant(constant.copy(alloc)?))),
         Entry::TypeName(of) => Ok(Some(Object::TypeName(of.copy(alloc)?))),
         Entry::Variable(of, _) => Ok(Some(Object::Variable(of.copy(alloc)?))),
-        Entry::In | Entry::Out | Entry::Module(_) => Ok(None),
+        Entry::Procedure(signature, _) => Ok(Some(Object::Procedure(signature.copy(alloc)?))),
+        Entry::In | Entry::Out | Entry::Module(_, _) => Ok(None),
     }
 }
 
@@ -59,4 +60,26 @@ pub fn interface_of(alloc: Global, name: &Text, block: &Block) -> Result<Interfa
     let exports = exports_of(alloc, block.declared())?;
     let name = name.copy(alloc)?;
     Interface::new(alloc, name, exports)
+}
+
+fn number(d: &Declared) -> Option<usize>
+    ensures { option_to_list result ≡ spec.number_of d.now.exported d.now.entry }
+{
+    match &d.entry {
+        Entry::Procedure(_, number) => { if d.exported { Some(*number) } else { None } }
+        _ => None,
+    }
+}
+
+/// The numbers of the exported procedures among these declarations, in their order. Or want of memory.
+pub fn exported_procedures(alloc: Global, declared: &[Declared]) -> Result<Items<usize>, AllocError>
+    ensures { IfOk result (λ ns. ns ≡ spec.exported_procedures declared.now) }
+{
+    let mut so_far = Items::new(alloc);
+    for d in declared {
+        if let Some(number) = number(d) {
+            so_far.push(number)?;
+        }
+    }
+    Ok(so_far)
 }

@@ -1,12 +1,12 @@
-//! The names that are declared before any module.
+//! The names that are declared before any module, and those in In and Out.
 
 ghost use Rattle.std.specs.Prelude.{◌≡◌};
 ghost use Rattle.ob_declare.specs.Predeclared as spec;
 
-use ob_base::Text;
+use ob_base::{Code, Text};
 use ob_types::Basic;
 
-/// A function or procedure that is declared before any module.
+/// A function that is declared before any module.
 #[derive(Clone, Copy, Debug, PartialEq, Eq)]
 pub enum Function {
     Abs,
@@ -19,8 +19,50 @@ pub enum Function {
     Len,
 }
 
-/// The basic type of this name.
-pub fn basic_named(name: &Text) -> Option<Basic>
+/// A proper procedure that is declared before any module.
+#[derive(Clone, Copy, Debug, PartialEq, Eq)]
+pub enum ProperProcedure {
+    Inc,
+    Dec,
+    Assert,
+}
+
+/// What a name is before any module.
+#[derive(Clone, Copy, Debug, PartialEq, Eq)]
+pub enum Predeclared {
+    Basic(Basic),
+    Function(Function),
+    Procedure(ProperProcedure),
+    /// A name of Oberon-07 that this language leaves out.
+    LeftOut,
+    Unknown,
+}
+
+/// What In exports under a name.
+#[derive(Clone, Copy, Debug, PartialEq, Eq)]
+pub enum InputName {
+    Open,
+    Char,
+    Int,
+    String,
+    Name,
+    /// The variable.
+    Done,
+    Unknown,
+}
+
+/// What Out exports under a name.
+#[derive(Clone, Copy, Debug, PartialEq, Eq)]
+pub enum OutputName {
+    Open,
+    Char,
+    String,
+    Int,
+    Ln,
+    Unknown,
+}
+
+fn basic_named(name: &Text) -> Option<Basic>
     ensures { result ≡ spec.basic_named name.now }
 {
     let name = name.as_slice();
@@ -52,8 +94,7 @@ fn shift_named(name: &Text) -> Option<Function>
     }
 }
 
-/// The function of this name.
-pub fn function_named(name: &Text) -> Option<Function>
+fn function_named(name: &Text) -> Option<Function>
     ensures { result ≡ spec.function_named name.now }
 {
     let chars = name.as_slice();
@@ -72,12 +113,19 @@ pub fn function_named(name: &Text) -> Option<Function>
     }
 }
 
-/// Whether it is one of the procedures ASSERT, INC and DEC.
-pub fn is_procedure_named(name: &Text) -> bool
-    ensures { result ≡ spec.is_procedure_named name.now }
+fn procedure_named(name: &Text) -> Option<ProperProcedure>
+    ensures { result ≡ spec.procedure_named name.now }
 {
     let name = name.as_slice();
-    name == b"ASSERT".as_slice() || name == b"INC".as_slice() || name == b"DEC".as_slice()
+    if name == b"INC".as_slice() {
+        Some(ProperProcedure::Inc)
+    } else if name == b"DEC".as_slice() {
+        Some(ProperProcedure::Dec)
+    } else if name == b"ASSERT".as_slice() {
+        Some(ProperProcedure::Assert)
+    } else {
+        None
+    }
 }
 
 fn is_left_out_type(name: &Text) -> bool
@@ -104,9 +152,86 @@ fn is_left_out_procedure(name: &Text) -> bool
         || name == b"UNPK".as_slice()
 }
 
-/// Whether it is a name of Oberon-07 that this language leaves out.
-pub fn is_left_out(name: &Text) -> bool
+fn is_left_out(name: &Text) -> bool
     ensures { result ≡ spec.is_left_out name.now }
 {
     is_left_out_type(name) || is_left_out_function(name) || is_left_out_procedure(name)
+}
+
+/// What a name is before any module.
+#[tactic(auto, unfolding(crate::specs::Predeclared::predeclared_named))]
+pub fn predeclared_named(name: &Text) -> Predeclared
+    ensures { result ≡ spec.predeclared_named name.now }
+{
+    if let Some(basic) = basic_named(name) {
+        return Predeclared::Basic(basic);
+    }
+    if let Some(function) = function_named(name) {
+        return Predeclared::Function(function);
+    }
+    match procedure_named(name) {
+        Some(procedure) => Predeclared::Procedure(procedure),
+        None => {
+            if is_left_out(name) {
+                Predeclared::LeftOut
+            } else {
+                Predeclared::Unknown
+            }
+        }
+    }
+}
+
+/// What is broken where nothing declares a name that has to stand for a value, or for a type.
+pub fn absent(predeclared: Predeclared) -> Code
+    ensures { result ≡ spec.absent predeclared }
+{
+    match predeclared {
+        Predeclared::LeftOut => Code::LeftOut,
+        Predeclared::Unknown => Code::UnknownName,
+        Predeclared::Basic(_) | Predeclared::Function(_) | Predeclared::Procedure(_) => Code::Types,
+    }
+}
+
+/// What In exports under a name.
+#[tactic(auto, unfolding(crate::specs::Predeclared::input_named))]
+pub fn input_named(name: &Text) -> InputName
+    ensures { result ≡ spec.input_named name.now }
+{
+    let name = name.as_slice();
+    if name == b"Open".as_slice() {
+        InputName::Open
+    } else if name == b"Char".as_slice() {
+        InputName::Char
+    } else if name == b"Int".as_slice() {
+        InputName::Int
+    } else if name == b"String".as_slice() {
+        InputName::String
+    } else if name == b"Name".as_slice() {
+        InputName::Name
+    } else if name == b"Done".as_slice() {
+        InputName::Done
+    } else {
+        InputName::Unknown
+    }
+}
+
+/// What Out exports under a name.
+#[tactic(auto, unfolding(crate::specs::Predeclared::output_named))]
+pub fn output_named(name: &Text) -> OutputName
+    ensures { result ≡ spec.output_named name.now }
+{
+    let name = name.as_slice();
+    if name == b"Open".as_slice() {
+        OutputName::Open
+    } else if name == b"Char".as_slice() {
+        OutputName::Char
+    } else if name == b"String".as_slice() {
+        OutputName::String
+    } else if name == b"Int".as_slice() {
+        OutputName::Int
+    } else if name == b"Ln".as_slice() {
+        OutputName::Ln
+    } else {
+        OutputName::Unknown
+    }
 }

@@ -4,12 +4,14 @@ ghost use Rattle.std.specs.Prelude.{◌≡◌, ◌<◌, ◌++◌, [], length, ma
 ghost use Rattle.ob_declare.specs.Rule.{Judges, through};
 ghost use Rattle.ob_declare.specs.WrittenTypes as spec;
 
-use crate::block::{Block, Entry};
+use crate::block::Entry;
 use crate::constant::constant;
 use crate::fault::{fault, open};
-use crate::imports::{LoadedModule, exported_at, is_among};
-use crate::predeclared::{basic_named, function_named, is_left_out, is_procedure_named};
-use ob_base::{Boxed, Code, Items, Refused, Text};
+use crate::imports::Imports;
+use crate::names::Names;
+use crate::predeclared::{InputName, OutputName, Predeclared, absent, input_named, output_named};
+use crate::scope::Scope;
+use ob_base::{Boxed, Code, Items, Refused};
 use ob_parse::tree::{Expr, Ident, IdentDef, Qualident, TypeExpr, TypedNames};
 use ob_scan::Span;
 use ob_types::{
@@ -28,37 +30,37 @@ pub struct Written {
 /// The fields of a record so far: their names, how many cells they take, and how many words RECORD stand up to here.
 #[derive(Drop)]
 pub struct Fields {
-    pub names: Items<Text>,
+    pub names: Names,
     pub fields: Items<Field>,
     pub cells: u32,
     pub records: u32,
 }
 
-/// What is broken where nothing declares the name of a type.
-fn absent_type(name: &Text) -> Code
-    ensures { result ≡ spec.absent_type name.now }
+/// The type that a name is which nothing declares.
+#[tactic(auto, unfolding(crate::specs::WrittenTypes::predeclared_type))]
+fn predeclared_type(predeclared: Predeclared, span: Span) -> Result<ObType, Refused>
+    ensures { Judges (spec.predeclared_type predeclared) result }
 {
-    if is_left_out(name) {
-        Code::LeftOut
-    } else if function_named(name).is_some() || is_procedure_named(name) {
-        Code::Types
-    } else {
-        Code::UnknownName
+    match predeclared {
+        Predeclared::Basic(basic) => Ok(ObType::Basic(basic)),
+        _ => Err(Refused::Fault(fault(absent(predeclared), span))),
     }
 }
 
 /// The type that a name alone stands for.
 #[tactic(auto, unfolding(crate::specs::WrittenTypes::own_type))]
-fn own_type(alloc: Global, entry: Option<&Entry>, name: &Ident) -> Result<ObType, Refused>
-    ensures { Judges (spec.own_type (option_copied entry.entry) name.now.name) result }
+fn own_type(
+    alloc: Global,
+    entry: Option<&Entry>,
+    predeclared: Predeclared,
+    span: Span,
+) -> Result<ObType, Refused>
+    ensures { Judges (spec.own_type (option_copied entry.entry) predeclared) result }
 {
     match entry {
         Some(Entry::TypeName(of)) => Ok(of.copy(alloc)?),
-        Some(_) => Err(Refused::Fault(fault(Code::Types, name.span))),
-        None => match basic_named(&name.name) {
-            Some(basic) => Ok(ObType::Basic(basic)),
-            None => Err(Refused::Fault(fault(absent_type(&name.name), name.span))),
-        },
+        Some(_) => Err(Refused::Fault(fault(Code::Types, span))),
+        None => predeclared_type(predeclared, span),
     }
 }
 
@@ -71,44 +73,91 @@ fn object_type(alloc: Global, object: &Object, span: Span) -> Result<ObType, Ref
     }
 }
 
+fn no_type(unknown: bool) -> Code
+    ensures { result ≡ spec.no_type unknown }
+{
+    if unknown {
+        Code::NotExported
+    } else {
+        Code::Types
+    }
+}
+
+fn is_unknown_input(name: InputName) -> bool
+    ensures { result ≡ spec.is_unknown_input name }
+{
+    match name {
+        InputName::Unknown => true,
+        _ => false,
+    }
+}
+
+fn is_unknown_output(name: OutputName) -> bool
+    ensures { result ≡ spec.is_unknown_output name }
+{
+    match name {
+        OutputName::Unknown => true,
+        _ => false,
+    }
+}
+
 /// The type that a name of another module stands for.
 #[tactic(auto, unfolding(crate::specs::WrittenTypes::other_type))]
 fn other_type(
     alloc: Global,
-    modules: &[LoadedModule],
+    modules: &Imports,
     entry: Option<&Entry>,
-    first: &Ident,
+    predeclared: Predeclared,
+    first: Span,
     name: &Ident,
 ) -> Result<ObType, Refused>
-    ensures { Judges (spec.other_type modules.now (option_copied entry.entry) first.now.name name.now.name) result }
+    ensures { Judges (spec.other_type modules.now (option_copied entry.entry) predeclared name.now.name) result }
 {
     match entry {
-        Some(Entry::Module(place)) => match exported_at(modules, *place, &name.name) {
+        Some(Entry::Module(_, place)) => match modules.exported_at(*place, &name.name) {
             Some(object) => object_type(alloc, object, name.span),
             None => Err(Refused::Fault(fault(Code::NotExported, name.span))),
         },
-        Some(Entry::In | Entry::Out) => Err(Refused::Fault(fault(Code::NotExported, name.span))),
-        Some(_) => Err(Refused::Fault(fault(Code::Types, first.span))),
-        None => Err(Refused::Fault(fault(absent_type(&first.name), first.span))),
+        Some(Entry::In) => {
+            let code = no_type(is_unknown_input(input_named(&name.name)));
+            Err(Refused::Fault(fault(code, name.span)))
+        }
+        Some(Entry::Out) => {
+            let code = no_type(is_unknown_output(output_named(&name.name)));
+            Err(Refused::Fault(fault(code, name.span)))
+        }
+        Some(_) => Err(Refused::Fault(fault(Code::Types, first))),
+        None => Err(Refused::Fault(fault(absent(predeclared), first))),
     }
 }
 
-/// The type that a name stands for.
+/// The type that a name stands for. 10 and 21 where nothing declares it, 12 where it is no type's, 18 where its module doesn't
+/// export it.
 #[tactic(auto, unfolding(crate::specs::WrittenTypes::type_named))]
-fn type_named(
+pub fn type_named(
     alloc: Global,
-    modules: &[LoadedModule],
-    scope: &Block,
+    modules: &Imports,
+    scope: &Scope,
     name: &Qualident,
 ) -> Result<ObType, Refused>
     ensures { Judges (spec.type_named modules.now scope.now name.now) result }
 {
+    let first = &name.first;
     match &name.second {
-        None => own_type(alloc, scope.find(&name.first.name), &name.first),
-        Some(second) => {
-            let entry = scope.find(&name.first.name);
-            other_type(alloc, modules, entry, &name.first, second)
-        }
+        None => own_type(
+            alloc,
+            scope.seen(&first.name),
+            scope.outer(&first.name),
+            first.span,
+        ),
+        Some(second) => other_type(
+            alloc,
+            modules,
+            scope.seen(&first.name),
+            scope.outer(&first.name),
+            first.span,
+            second,
+        ),
     }
 }
 
@@ -135,8 +184,8 @@ fn length_of(constant: &Constant, span: Span) -> Result<u32, Refused>
 #[tactic(auto, unfolding(crate::specs::WrittenTypes::inner_constant))]
 fn inner_constant(
     alloc: Global,
-    modules: &[LoadedModule],
-    scope: &Block,
+    modules: &Imports,
+    scope: &Scope,
     nesting: u32,
     e: &Expr,
     span: Span,
@@ -151,8 +200,8 @@ fn inner_constant(
 #[tactic(auto, unfolding(crate::specs::WrittenTypes::next_length))]
 fn next_length(
     alloc: Global,
-    modules: &[LoadedModule],
-    scope: &Block,
+    modules: &Imports,
+    scope: &Scope,
     nesting: u32,
     so_far: Items<u32>,
     e: &Expr,
@@ -169,8 +218,8 @@ fn next_length(
 
 fn lengths_of(
     alloc: Global,
-    modules: &[LoadedModule],
-    scope: &Block,
+    modules: &Imports,
+    scope: &Scope,
     nesting: u32,
     list: &[Expr],
     span: Span,
@@ -219,22 +268,18 @@ fn numbered(alloc: Global, naming: &RecordName, before: u32) -> Result<RecordNam
 
 /// One name of a field more.
 #[tactic(auto, unfolding(crate::specs::WrittenTypes::field_name))]
-fn field_name(alloc: Global, so_far: Items<Text>, name: &IdentDef) -> Result<Items<Text>, Refused>
+fn field_name(alloc: Global, so_far: Names, name: &IdentDef) -> Result<Names, Refused>
     ensures { Judges (spec.field_name so_far name.now) result }
 {
     let mut so_far = so_far;
-    if is_among(so_far.as_slice(), &name.name.name) {
+    if so_far.contains(&name.name.name) {
         return Err(Refused::Fault(fault(Code::DeclaredTwice, name.name.span)));
     }
-    so_far.push(name.name.name.copy(alloc)?)?;
+    so_far.push(alloc, &name.name.name)?;
     Ok(so_far)
 }
 
-fn field_names(
-    alloc: Global,
-    first: Items<Text>,
-    names: &[IdentDef],
-) -> Result<Items<Text>, Refused>
+fn field_names(alloc: Global, first: Names, names: &[IdentDef]) -> Result<Names, Refused>
     ensures { Judges (through spec.field_name first names.now) result }
 {
     let mut so_far = first;
@@ -284,8 +329,8 @@ fn cells_with(taken: u32, count: usize, of: &ObType) -> Option<u32>
 #[tactic(auto, unfolding(crate::specs::WrittenTypes::type_at, crate::specs::WrittenTypes::type_rule))]
 pub fn written_type(
     alloc: Global,
-    modules: &[LoadedModule],
-    scope: &Block,
+    modules: &Imports,
+    scope: &Scope,
     naming: &RecordName,
     nesting: u32,
     records: u32,
@@ -339,8 +384,8 @@ pub fn written_type(
 #[tactic(auto, unfolding(crate::specs::WrittenTypes::record_rule))]
 fn record_type(
     alloc: Global,
-    modules: &[LoadedModule],
-    scope: &Block,
+    modules: &Imports,
+    scope: &Scope,
     naming: &RecordName,
     nesting: u32,
     records: u32,
@@ -373,8 +418,8 @@ fn record_type(
 #[cycle(written)]
 fn all_fields(
     alloc: Global,
-    modules: &[LoadedModule],
-    scope: &Block,
+    modules: &Imports,
+    scope: &Scope,
     naming: &RecordName,
     nesting: u32,
     records: u32,
@@ -384,7 +429,7 @@ fn all_fields(
     ensures { Judges (through (spec.next_fields (spec.inner_type modules.now scope.now naming.now nesting)) (spec.no_fields records) list.now) result }
 {
     let mut so_far = Fields {
-        names: Items::new(alloc),
+        names: Names::new(alloc),
         fields: Items::new(alloc),
         cells: 0,
         records,
@@ -400,8 +445,8 @@ fn all_fields(
 #[tactic(auto, unfolding(crate::specs::WrittenTypes::next_fields))]
 fn next_fields(
     alloc: Global,
-    modules: &[LoadedModule],
-    scope: &Block,
+    modules: &Imports,
+    scope: &Scope,
     naming: &RecordName,
     nesting: u32,
     so_far: Fields,
@@ -441,8 +486,8 @@ fn next_fields(
 #[tactic(auto, unfolding(crate::specs::WrittenTypes::inner_type, crate::specs::WrittenTypes::type_at))]
 fn inner_type(
     alloc: Global,
-    modules: &[LoadedModule],
-    scope: &Block,
+    modules: &Imports,
+    scope: &Scope,
     naming: &RecordName,
     nesting: u32,
     records: u32,

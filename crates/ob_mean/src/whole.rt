@@ -4,6 +4,7 @@
 //!
 //! A list of any length in a text is a list in its tree, so that no tree is deeper than its text nests.
 
+pub mod arithmetic;
 pub mod expression;
 pub mod module;
 pub mod operator;
@@ -11,6 +12,7 @@ pub mod outcome;
 pub mod shape;
 pub mod statement;
 
+pub use arithmetic::{apply, apply_one, holds, texts_relate, truth};
 pub use expression::{Argument, Callee, Designator, Operation, TypedExpr, Variable};
 pub use module::{Loaded, ModuleVariable, Parameter, TypedModule, TypedProcedure};
 pub use operator::{Operator, Relation, UnaryOperator};

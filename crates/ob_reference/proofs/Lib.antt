@@ -6,3 +6,5 @@ pub mod Sequences
 pub mod Loops
 pub mod Calls
 pub mod Endings
+pub mod Readers
+pub mod Rounds

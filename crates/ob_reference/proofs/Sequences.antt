@@ -10,7 +10,7 @@ use Rattle.ob_mean.specs.declared.whole.statement.TypedStatement.TheBlock as blo
 use Rattle.ob_mean.specs.declared.whole.statement.TypedStatement.TheBlock.{Row_of-Branch, end_of-Branch, more_of-Branch, Row_of-CaseArm, end_of-CaseArm, more_of-CaseArm, items-the_row-TypedStatement, items-the_row-Branch, items-the_row-CaseArm}
 use Rattle.ob_mean.specs.whole.Runs.{World, Supply, Done, Piece, and_then}
 use Rattle.ob_mean.specs.whole.Expressions.{Scope, value_of, variable_place}
-use Rattle.ob_mean.specs.whole.Control.{Guarded, Arm, in_order, is_labelled, arm_for, chosen, looping, repeating}
+use Rattle.ob_mean.specs.whole.Control.{in_order, is_labelled, arm_for, chosen, looping, repeating}
 use Rattle.ob_mean.specs.whole.Statements.{stat_meaning, pieces, guarded, arms_of, list_meaning, case_body, for_loop}
 use Rattle.ob_reference.specs.Branches.{branch_pieces, arm_pieces, found_arm}
 

@@ -1,17 +1,19 @@
 -- What a tree means, by its parts and its lists.
-use Rattle.std.proofs.Common.{◌≡◌, ℕ, ℤ, List, [], ◌∷◌, pos, refl, ap, ◌∙◌}
+use Rattle.std.proofs.Common.{◌≡◌, ℕ, ℤ, List, ◌∷◌, map, refl, ap, ◌∙◌}
 use Rattle.ob_mean.specs.declared.whole.operator.UnaryOperator.{UnaryOperator}
 use Rattle.ob_mean.specs.declared.whole.expression.TypedExpr.{TypedExpr, Row_of-TypedExpr, end_of-TypedExpr, more_of-TypedExpr}
-use Rattle.ob_mean.specs.declared.whole.expression.TypedExpr.TheVariants.{Unary, Chain, Chain', Every, Every', Either, Either'}
+use Rattle.ob_mean.specs.declared.whole.expression.TypedExpr.TheVariants.{Unary, Chain, Chain', Every, Every', Either, Either', Function, Function'}
 use Rattle.ob_mean.specs.declared.whole.expression.Designator.{Designator}
 use Rattle.ob_mean.specs.declared.whole.expression.Designator.TheVariants as designator
 use Rattle.ob_mean.specs.declared.whole.expression.Operation.{Operation}
-use Rattle.ob_mean.specs.declared.whole.expression.Argument.TheBlock.{Row_of-Operation, end_of-Operation, more_of-Operation, items-the_row-TypedExpr, items-the_row-Operation, items_hidden-the_row-Operation-2, items_hidden-the_row-TypedExpr-3}
-use Rattle.ob_mean.specs.whole.Values.{Place, Part, get, count}
+use Rattle.ob_mean.specs.declared.whole.expression.Argument.{Argument}
+use Rattle.ob_mean.specs.declared.whole.expression.Callee.{Callee}
+use Rattle.ob_mean.specs.declared.whole.expression.Argument.TheBlock.{Row_of-Argument, end_of-Argument, more_of-Argument, items-the_row-Argument, Row_of-Operation, end_of-Operation, more_of-Operation, items-the_row-TypedExpr, items-the_row-Operation, items_hidden-the_row-Operation-2, items_hidden-the_row-TypedExpr-3, items_hidden-the_row-Argument-4}
+use Rattle.ob_mean.specs.whole.Values.{Part, get, count}
 use Rattle.ob_mean.specs.whole.Arithmetic.{Gives, apply, apply_one}
 use Rattle.ob_mean.specs.whole.Runs.{World, Supply, Goes, and_then}
-use Rattle.ob_mean.specs.whole.Expressions.{Scope, value_of, place_of, values, operations, chained, every, either, computed, element, index_in}
-use Rattle.ob_reference.specs.Lists.{value_pieces, operation_pieces}
+use Rattle.ob_mean.specs.whole.Expressions.{Scope, value_of, place_of, argument_of, values, arguments, operations, passed, only, chained, every, either, computed, element, index_in}
+use Rattle.ob_reference.specs.Lists.{value_pieces, operation_pieces, called}
 
 pub unary_is : (scope : Scope) (op : UnaryOperator) (line : ℕ) (a : TypedExpr) (n : Supply) (w : World) → value_of scope (Unary op line a) n w ≡ and_then (value_of scope a n w) (λ x n1 w1. computed scope (apply_one op x) line n1 w1)
 unfolding Rattle.ob_mean.specs.declared.whole.expression.Argument.TheBlock.hidden-the_row-TypedExpr-1 denote.Hole.Carrier.hidden
@@ -49,6 +51,19 @@ every_is scope es n w =
 pub either_is : (scope : Scope) (es : List TypedExpr) (n : Supply) (w : World) → value_of scope (Either es) n w ≡ either (value_pieces scope es) n w
 either_is scope es n w =
     ap (λ l. either l n w) (row_values scope (values_in (Either es)).0 (values_in (Either es)).1 ∙ ap (value_pieces scope) (items_hidden-the_row-TypedExpr-3 es))
+
+row_arguments : (scope : Scope) (k : _) (row : Row_of-Argument k) → arguments scope row ≡ map (argument_of scope) (items-the_row-Argument k row)
+row_arguments scope k end_of-Argument = refl
+row_arguments scope k (more_of-Argument a rest) = ap (λ l. argument_of scope a ∷ l) (row_arguments scope _ rest)
+
+abbrev arguments_in : TypedExpr → (k : _) × Row_of-Argument k
+arguments_in (Function' f line k args) = (_, args)
+arguments_in _ = (_, end_of-Argument)
+
+pub function_is : (scope : Scope) (f : Callee) (line : ℕ) (args : List Argument) (n : Supply) (w : World) → value_of scope (Function f line args) n w ≡ called scope f line args n w
+function_is scope f line args n w =
+    ap (λ l. and_then (passed l n w) (λ a n1 w1. and_then (scope.call f a line n1 w1) (λ vs n2 w2. Goes (only vs) n2 w2)))
+    (row_arguments scope (arguments_in (Function f line args)).0 (arguments_in (Function f line args)).1 ∙ ap (map (argument_of scope)) (items_hidden-the_row-Argument-4 args))
 
 -- one operator more
 pub chain_gives : (scope : Scope) (o : Operation) (os : List Operation) (x y z : ℤ) (n n1 : Supply) (w w1 : World) → value_of scope o.operand n w ≡ Goes y n1 w1 → apply o.operator x y ≡ Gives z → chained (operation_pieces scope (o ∷ os)) x n w ≡ chained (operation_pieces scope os) z n1 w1

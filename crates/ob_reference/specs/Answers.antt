@@ -1,5 +1,5 @@
 -- What the reference answers.
-use Rattle.std.specs.Prelude.{◌≡◌, ℕ, List, drop, map, string_bytes}
+use Rattle.std.specs.Prelude.{◌≡◌, drop, map, string_bytes}
 use Rattle.ob_inout.specs.Reading.{Input}
 use Rattle.ob_mean.specs.whole.Runs.{Run, Stands, Done, supply}
 use Rattle.ob_mean.specs.whole.Programs as programs

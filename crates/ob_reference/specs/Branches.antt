@@ -2,11 +2,13 @@
 use Rattle.std.specs.Prelude.{◌≡◌, ℤ, cond, List, [], ◌∷◌, Option, Some, None}
 use Rattle.ob_mean.specs.declared.whole.statement.Branch.{Branch}
 use Rattle.ob_mean.specs.declared.whole.statement.CaseArm.{CaseArm}
+use Rattle.ob_mean.specs.declared.whole.statement.ForHead.{ForHead}
 use Rattle.ob_mean.specs.declared.whole.statement.TypedStatement.{TypedStatement}
+use Rattle.ob_mean.specs.whole.Values.{Place}
 use Rattle.ob_mean.specs.whole.Runs.{World, Supply, Stands, Done, Piece}
 use Rattle.ob_mean.specs.whole.Expressions.{Scope, value_of}
 use Rattle.ob_mean.specs.whole.Control.{Guarded, Arm, first_of, is_labelled}
-use Rattle.ob_mean.specs.whole.Statements.{list_meaning}
+use Rattle.ob_mean.specs.whole.Statements.{for_guard, for_body, list_meaning}
 use Rattle.ob_reference.specs.declared.state.State.{State}
 use Rattle.ob_reference.specs.declared.stop.Stop.{Stop}
 use Rattle.ob_reference.specs.declared.stop.Stop.TheVariants as stop
@@ -40,3 +42,7 @@ abbrev pub BranchStops : Scope → List Branch → Supply → World → Stop →
 BranchStops scope bs n w (stop.Stands why) s =
     (enter : Piece Done → Piece Done) (otherwise : Piece Done) → first_of (branch_pieces scope bs) enter otherwise n w ≡ Stands why (supply_in s) (world_in s)
 BranchStops scope bs n w stop.Unanswered s = Unit {0}
+
+-- FOR as a loop with one guard
+abbrev pub for_pieces : Scope → ForHead → Place → List TypedStatement → List Guarded
+for_pieces scope head p body = record { guard = for_guard scope head p; body = for_body head p (list_meaning scope body) } ∷ []

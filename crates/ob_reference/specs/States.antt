@@ -1,5 +1,5 @@
 -- The state of the code, and that a function of the code does what a piece of a program means.
-use Rattle.std.specs.Prelude.{◌≡◌, ℕ, List, drop, map, Option, Some, None, string_bytes, Result, Ok, Err}
+use Rattle.std.specs.Prelude.{◌≡◌, List, drop, map, Some, None, string_bytes, Result, Ok, Err}
 use Rattle.ob_inout.specs.Reading.{Line}
 use Rattle.ob_mean.specs.declared.whole.module.Loaded.{Loaded}
 use Rattle.ob_mean.specs.whole.Runs.{World, Supply, Run, Goes, Stands, supply}

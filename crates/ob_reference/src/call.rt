@@ -1,69 +1,28 @@
-//! What a call needs: the procedure, what is passed, and its variables.
+//! Calls, and what is passed.
 
-ghost use Rattle.std.specs.Prelude.{◌≡◌, map, option_to_list, OnOk, slice_index, MatchOption, None, Some};
-ghost use Rattle.ob_mean.specs.whole.Values.{first};
-ghost use Rattle.ob_mean.specs.whole.Runs.{with_store};
+ghost use Rattle.std.specs.Prelude.{◌≡◌, map, option_to_list};
 ghost use Rattle.ob_mean.specs.whole.Expressions as spec;
 ghost use Rattle.ob_mean.specs.whole.Programs as programs;
 ghost use Rattle.ob_reference.specs.Kept.{value_in};
+ghost use Rattle.ob_reference.specs.Lists.{called};
 ghost use Rattle.ob_reference.specs.States.{Follows, scope_in, supply_in, world_in};
 
 use crate::expression::{place, value};
-use crate::row::{append, keep_first};
-use crate::state::{At, State};
-use crate::stop::{NoAnswer, Stop};
+use crate::frame::{enter, home_of, leave, procedure_of};
+use crate::row::count;
+use crate::state::{At, State, take_turn};
+use crate::statement::statements;
+use crate::stop::Stop;
 use crate::value::Value;
-use crate::variable::{count_at, import_of};
-use crate::zero::{beside, cell, zeros};
-use ob_mean::whole::{Argument, Callee, Loaded, TypedExpr, TypedProcedure};
+use crate::variable::count_at;
+use crate::zero::{beside, cell};
+use ob_mean::whole::{
+    Argument, Callee, Loaded, Outcome, TrapKind, TurnKind, TypedExpr, TypedProcedure,
+};
 use std::alloc::Global;
 
-/// The module of a procedure that is called.
-pub(crate) fn home_of(program: &[Loaded], home: usize, callee: Callee) -> usize
-    ensures { result ≡ programs.home_of program.now home callee }
-{
-    match callee {
-        Callee::OfModule(_) => home,
-        Callee::OfImport(import, _) => import_of(program, home, import),
-    }
-}
-
-fn exported_at(module: &Loaded, place: usize) -> usize
-    ensures { result ≡ slice_index module.now.tree.exported place }
-{
-    match module.tree.exported.as_slice().get(place) {
-        Some(number) => *number,
-        None => 0,
-    }
-}
-
-/// The procedure that is called.
-pub(crate) fn procedure_of(
-    program: &[Loaded],
-    home: usize,
-    callee: Callee,
-) -> Option<&TypedProcedure>
-    ensures { MatchOption result (programs.procedure_of program.now home callee ≡ None) (λ f. programs.procedure_of program.now home callee ≡ Some f.now) }
-{
-    match callee {
-        Callee::OfModule(number) => match program.get(home) {
-            Some(module) => module.tree.procedures.as_slice().get(number),
-            None => None,
-        },
-        Callee::OfImport(import, place) => match program.get(import_of(program, home, import)) {
-            Some(module) => {
-                module
-                    .tree
-                    .procedures
-                    .as_slice()
-                    .get(exported_at(module, place))
-            }
-            None => None,
-        },
-    }
-}
-
 /// What is passed to one parameter.
+#[cycle(running)]
 fn argument(
     alloc: Global,
     program: &[Loaded],
@@ -74,17 +33,20 @@ fn argument(
 ) -> Result<Value, Stop>
     ensures { Follows value_in result state.new (spec.argument_of (scope_in program.now at) a.now (supply_in state.old) (world_in state.old)) }
 {
+    if room == 0 {
+        return Err(Stop::Unanswered);
+    }
     match a {
         Argument::Value(e) => {
-            let number = value(alloc, program, at, room, state, e)?;
+            let number = value(alloc, program, at, room - 1, state, e)?;
             Ok(cell(number))
         }
         Argument::Place(d) => {
-            let path = place(alloc, program, at, room, state, d)?;
+            let path = place(alloc, program, at, room - 1, state, d)?;
             Ok(Value::Named(path))
         }
         Argument::Open(d) => {
-            let path = place(alloc, program, at, room, state, d)?;
+            let path = place(alloc, program, at, room - 1, state, d)?;
             let length = count_at(&state.store, &path)?;
             Ok(Value::Open(path, length))
         }
@@ -92,6 +54,7 @@ fn argument(
 }
 
 /// What is passed.
+#[cycle(running)]
 pub(crate) fn passed(
     alloc: Global,
     program: &[Loaded],
@@ -102,45 +65,78 @@ pub(crate) fn passed(
 ) -> Result<Value, Stop>
     ensures { Follows value_in result state.new (spec.passed (map (spec.argument_of (scope_in program.now at)) arguments.now) (supply_in state.old) (world_in state.old)) }
 {
+    if room == 0 {
+        return Err(Stop::Unanswered);
+    }
     match arguments {
         [] => Ok(Value::Nothing),
         [first, others @ ..] => {
-            let one = argument(alloc, program, at, room, state, first)?;
-            let rest = passed(alloc, program, at, room, state, others)?;
+            let one = argument(alloc, program, at, room - 1, state, first)?;
+            let rest = passed(alloc, program, at, room - 1, state, others)?;
             Ok(beside(alloc, one, rest)?)
         }
     }
 }
 
-/// The variables of one more call.
-pub(crate) fn enter(
+/// A call: the test of the depth, the turn, and the procedure.
+#[cycle(running)]
+#[tactic(auto, using(crate::proofs::Calls::call_none, crate::proofs::Calls::call_waits, crate::proofs::Calls::call_missing, crate::proofs::Calls::call_found))]
+pub(crate) fn call(
     alloc: Global,
+    program: &[Loaded],
+    at: At,
     room: u32,
     state: &mut State,
+    callee: Callee,
     passed: Value,
-    f: &TypedProcedure,
-) -> Result<(), NoAnswer>
-    ensures world { OnOk result (world_in state.new ≡ with_store (world_in state.old) (programs.entered (world_in state.old).store (value_in passed) f.now)) }
-    ensures supply { OnOk result (supply_in state.new ≡ supply_in state.old) }
+    line: usize,
+) -> Result<Option<i32>, Stop>
+    ensures { Follows option_to_list result state.new (programs.call_at program.now at.depth at.home callee (value_in passed) line (supply_in state.old) (world_in state.old)) }
 {
-    let own = zeros(alloc, room, f.variables.as_slice())?;
-    let mut variables = passed;
-    append(&mut variables, own);
-    let part = beside(alloc, variables, Value::Nothing)?;
-    append(&mut state.store, part);
-    Ok(())
+    if room == 0 {
+        return Err(Stop::Unanswered);
+    }
+    if at.depth == 0 {
+        return Err(Stop::Stands(Outcome::Trapped(TrapKind::CallDepth, at.home, line)));
+    }
+    take_turn(state, TurnKind::ProcedureCall)?;
+    let inner = At {
+        home: home_of(program, at.home, callee),
+        frame: count(&state.store)?,
+        depth: at.depth - 1,
+    };
+    match procedure_of(program, at.home, callee) {
+        Some(f) => procedure(alloc, program, inner, room - 1, state, f, passed),
+        None => Ok(None),
+    }
 }
 
-/// The variables of a call go.
-pub(crate) fn leave(state: &mut State, frame: usize)
-    ensures world { world_in state.new ≡ with_store (world_in state.old) (first frame (world_in state.old).store) }
-    ensures supply { supply_in state.new ≡ supply_in state.old }
+/// A procedure, whose variables go when it returns.
+#[cycle(running)]
+fn procedure(
+    alloc: Global,
+    program: &[Loaded],
+    at: At,
+    room: u32,
+    state: &mut State,
+    f: &TypedProcedure,
+    passed: Value,
+) -> Result<Option<i32>, Stop>
+    ensures { Follows option_to_list result state.new (programs.procedure_meaning (scope_in program.now at) f.now (value_in passed) (supply_in state.old) (world_in state.old)) }
 {
-    keep_first(&mut state.store, frame);
+    if room == 0 {
+        return Err(Stop::Unanswered);
+    }
+    enter(alloc, room, state, passed, f)?;
+    statements(alloc, program, at, room - 1, state, f.body.as_slice())?;
+    let returned = result_of(alloc, program, at, room - 1, state, &f.result)?;
+    leave(state, at.frame);
+    Ok(returned)
 }
 
 /// The value behind RETURN.
-pub(crate) fn result_of(
+#[cycle(running)]
+fn result_of(
     alloc: Global,
     program: &[Loaded],
     at: At,
@@ -150,11 +146,46 @@ pub(crate) fn result_of(
 ) -> Result<Option<i32>, Stop>
     ensures { Follows option_to_list result state.new (programs.result_of (scope_in program.now at) returned.now (supply_in state.old) (world_in state.old)) }
 {
+    if room == 0 {
+        return Err(Stop::Unanswered);
+    }
     match returned {
         None => Ok(None),
         Some(e) => {
-            let number = value(alloc, program, at, room, state, e)?;
+            let number = value(alloc, program, at, room - 1, state, e)?;
             Ok(Some(number))
         }
     }
+}
+
+/// The value that a function gave.
+fn only(given: Option<i32>) -> i32
+    ensures { result ≡ spec.only (option_to_list given) }
+{
+    match given {
+        Some(number) => number,
+        None => 0,
+    }
+}
+
+/// The value of a function.
+#[cycle(running)]
+pub(crate) fn function(
+    alloc: Global,
+    program: &[Loaded],
+    at: At,
+    room: u32,
+    state: &mut State,
+    callee: Callee,
+    line: usize,
+    arguments: &[Argument],
+) -> Result<i32, Stop>
+    ensures { Follows (λ v. v) result state.new (called (scope_in program.now at) callee line arguments.now (supply_in state.old) (world_in state.old)) }
+{
+    if room == 0 {
+        return Err(Stop::Unanswered);
+    }
+    let row = passed(alloc, program, at, room - 1, state, arguments)?;
+    let given = call(alloc, program, at, room - 1, state, callee, row, line)?;
+    Ok(only(given))
 }

@@ -10,17 +10,19 @@ ghost use Rattle.ob_reference.specs.Kept.{place_of};
 ghost use Rattle.ob_reference.specs.States.{Follows, scope_in, supply_in, world_in};
 ghost use Rattle.ob_reference.specs.Lists.{operation_pieces, value_pieces};
 
-use crate::arithmetic::{apply, apply_one, truth};
+use crate::call::function;
 use crate::state::{At, State};
 use crate::stop::{NoAnswer, Stop};
-use crate::text::texts_relate;
 use crate::variable::{count_at, number_at, text_at, variable_path};
-use ob_mean::whole::{Designator, Loaded, Operation, Outcome, TrapKind, TypedExpr};
+use ob_mean::whole::{
+    Designator, Loaded, Operation, Outcome, TrapKind, TypedExpr, apply, apply_one, texts_relate,
+    truth,
+};
 use std::alloc::Global;
 
 /// The value of an expression.
-#[cycle(evaluation)]
-#[tactic(auto, using(crate::proofs::Trees::unary_is, crate::proofs::Trees::chain_is, crate::proofs::Trees::every_is, crate::proofs::Trees::either_is))]
+#[cycle(running)]
+#[tactic(auto, using(crate::proofs::Trees::unary_is, crate::proofs::Trees::chain_is, crate::proofs::Trees::every_is, crate::proofs::Trees::either_is, crate::proofs::Trees::function_is))]
 pub(crate) fn value(
     alloc: Global,
     program: &[Loaded],
@@ -63,7 +65,18 @@ pub(crate) fn value(
             let count = count_at(&state.store, &path)?;
             Ok(length(count)?)
         }
-        TypedExpr::Function(_, _, _) => Err(Stop::Unanswered),
+        TypedExpr::Function(callee, line, arguments) => {
+            function(
+                alloc,
+                program,
+                at,
+                room - 1,
+                state,
+                *callee,
+                *line,
+                arguments.as_slice(),
+            )
+        }
     }
 }
 
@@ -87,7 +100,7 @@ fn length(count: usize) -> Result<i32, NoAnswer>
 }
 
 /// An operand, and operators with their second operands.
-#[cycle(evaluation)]
+#[cycle(running)]
 #[tactic(auto, using(crate::proofs::Trees::chain_gives))]
 fn chain(
     alloc: Global,
@@ -116,7 +129,7 @@ fn chain(
 }
 
 /// Whether each holds.
-#[cycle(evaluation)]
+#[cycle(running)]
 fn every(
     alloc: Global,
     program: &[Loaded],
@@ -144,7 +157,7 @@ fn every(
 }
 
 /// Whether one of them holds.
-#[cycle(evaluation)]
+#[cycle(running)]
 fn either(
     alloc: Global,
     program: &[Loaded],
@@ -199,7 +212,7 @@ fn part(whole: Vec<usize>, number: usize) -> Result<Vec<usize>, NoAnswer>
 }
 
 /// The place of a variable or a part of one.
-#[cycle(evaluation)]
+#[cycle(running)]
 #[tactic(auto, using(crate::proofs::Trees::element_is, crate::proofs::Trees::field_is))]
 pub(crate) fn place(
     alloc: Global,

@@ -1,16 +1,17 @@
 //! A plain program that computes what the typed trees of the whole language mean, by their structure. Tests alone use it.
 #![tactic(auto)]
 
-mod arithmetic;
+mod action;
 mod call;
 mod expression;
+mod frame;
+mod input;
 mod reference;
+mod repetition;
 mod row;
-mod simple;
 mod state;
 mod statement;
 mod stop;
-mod text;
 mod value;
 mod variable;
 mod write;
@@ -19,3 +20,6 @@ mod zero;
 pub use reference::{Command, Ran, Reference};
 pub use state::GivenLine;
 pub use stop::NoAnswer;
+
+#[cfg(test)]
+mod tests;

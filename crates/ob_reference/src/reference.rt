@@ -1,10 +1,13 @@
-ghost use Rattle.std.specs.Prelude.{◌≡◌, None, map, slice_get, IfOk, MatchOption};
+ghost use Rattle.std.specs.Prelude.{◌≡◌, None, map, option_to_list, slice_get, IfOk, MatchOption};
+ghost use Rattle.ob_mean.specs.declared.whole.expression.Callee.TheVariants as callees;
+ghost use Rattle.ob_mean.specs.whole.Values as values;
 ghost use Rattle.ob_mean.specs.whole.Runs as runs;
 ghost use Rattle.ob_mean.specs.whole.Programs as spec;
 ghost use Rattle.ob_reference.specs.Kept.{value_in};
-ghost use Rattle.ob_reference.specs.Answers.{Says};
+ghost use Rattle.ob_reference.specs.Answers.{Says, command_in};
 ghost use Rattle.ob_reference.specs.States.{Follows, line_in, supply_in, world_in};
 
+use crate::call::call;
 use crate::row::{copy, count, keep_first};
 use crate::state::{At, GivenLine, State};
 use crate::statement::statements;
@@ -12,11 +15,11 @@ use crate::stop::{NoAnswer, Stop};
 use crate::value::Value;
 use crate::zero::{beside, opening_row};
 use ob_inout::LineBuffer;
-use ob_mean::whole::{Loaded, Outcome, TypedStatement};
+use ob_mean::whole::{Callee, Loaded, Outcome, TypedStatement};
 use std::alloc::Global;
 
-/// How many pieces of a program may be open at once.
-const ROOM: u32 = 4_000;
+/// How many pieces of a program may be open at once, which bounds the stack.
+const ROOM: u32 = 10_000;
 
 /// How many calls may be open.
 const MAX_DEPTH: u32 = 1000;
@@ -119,6 +122,42 @@ fn before(
     })
 }
 
+/// A command, which is a call at depth 1.
+fn run_command(
+    alloc: Global,
+    program: &[Loaded],
+    state: &mut State,
+    command: Command,
+) -> Result<Option<i32>, Stop>
+    ensures { Follows option_to_list result state.new (spec.call_at program.now spec.max_depth command.home (callees.OfModule command.procedure) values.Nothing 0 (supply_in state.old) (world_in state.old)) }
+{
+    let at = At {
+        home: command.home,
+        frame: 0,
+        depth: MAX_DEPTH,
+    };
+    let callee = Callee::OfModule(command.procedure);
+    call(alloc, program, at, ROOM, state, callee, Value::Nothing, 0)
+}
+
+/// Commands, one after the other.
+fn in_turn(
+    alloc: Global,
+    program: &[Loaded],
+    state: &mut State,
+    commands: &[Command],
+) -> Result<(), Stop>
+    ensures { Follows (λ _. runs.done) result state.new (spec.in_turn program.now (map command_in commands.now) (supply_in state.old) (world_in state.old)) }
+{
+    match commands {
+        [] => Ok(()),
+        [command, others @ ..] => {
+            run_command(alloc, program, state, *command)?;
+            in_turn(alloc, program, state, others)
+        }
+    }
+}
+
 impl Reference {
     /// Modules that are loaded, by their numbers, with their variables as they begin.
     pub fn new(alloc: Global, program: Vec<Loaded>) -> Result<Reference, NoAnswer>
@@ -152,6 +191,22 @@ impl Reference {
             }
             None => answer(state, Ok(())),
         }
+    }
+
+    /// Commands, one after the other, from the variables as they are, with these lines and at most so many turns. Nothing is
+    /// kept.
+    #[tactic(auto, unfolding(ob_mean::specs::whole::Programs::commands_meaning))]
+    pub fn run_commands(
+        &self,
+        commands: &[Command],
+        lines: Vec<GivenLine>,
+        turns: u64,
+    ) -> Result<Ran, NoAnswer>
+        ensures { IfOk result (λ ran. Says (spec.commands_meaning self.now.program.items (map command_in commands.now) (runs.supply turns (map line_in lines.items)) (spec.world_before (value_in self.now.store))) ran) }
+    {
+        let mut state = before(self.alloc, &self.store, lines, turns)?;
+        let gone = in_turn(self.alloc, &self.program, &mut state, commands);
+        answer(state, gone)
     }
 
     /// Keeps what a run has left in the modules' variables.

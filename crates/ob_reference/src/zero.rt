@@ -26,7 +26,8 @@ pub(crate) fn cell(number: i32) -> Value
     Value::Cell(number)
 }
 
-fn character_cell(c: u8) -> Value
+/// A character.
+pub(crate) fn character_cell(c: u8) -> Value
     ensures { value_in result ≡ spec.Cell (pos c) }
 {
     Value::Cell(i32::from(c))

@@ -1,5 +1,5 @@
 use Rattle.std.proofs.Common.{◌≡◌, ◌++◌, drop}
-use Rattle.ob_declare.specs.Declarations as spec
+use Rattle.ob_declare.specs.Interfaces as spec
 use Rattle.ob_declare.proofs.interface.exports_of.Given as goal
 
 abbrev pub invariant-loop-d : goal.invariant-loop-d

@@ -1,4 +1,4 @@
-use Rattle.std.proofs.Common.{◌≡◌, ◌≤◌, ◌++◌, take, drop, length}
+use Rattle.std.proofs.Common.{◌≡◌, ◌++◌, take, drop}
 use Rattle.ob_mean.specs.whole.Texts.{before_zero}
 use Rattle.ob_declare.proofs.texts.before_zero.Given as goal
 

@@ -1,4 +1,4 @@
-use Rattle.std.proofs.Common.{◌≡◌, ◌++◌, ◌≤◌, [], drop, take, length, map, reverse}
+use Rattle.std.proofs.Common.{◌≡◌, ◌≤◌, take, length, reverse}
 use Rattle.ob_declare.specs.Rule.{answer, through}
 use Rattle.ob_declare.specs.WrittenTypes as spec
 use Rattle.ob_declare.proofs.written_type.arrays_of.Given as goal

@@ -1,5 +1,4 @@
-use Rattle.std.proofs.Common.{◌≡◌, ◌++◌, ◌≤◌, [], drop, take, length, map, reverse}
-use Rattle.ob_declare.specs.Rule.{answer, through}
+use Rattle.std.proofs.Common.{◌≡◌, ◌++◌, take, map}
 use Rattle.ob_declare.specs.WrittenTypes as spec
 use Rattle.ob_declare.proofs.written_type.push_fields.Given as goal
 

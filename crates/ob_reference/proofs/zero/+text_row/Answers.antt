@@ -1,4 +1,4 @@
-use Rattle.std.proofs.Common.{◌≡◌, pos, get_or, ap, ◌∙◌, arith}
+use Rattle.std.proofs.Common.{pos, get_or, ap, ◌∙◌, arith}
 use Rattle.ob_reference.specs.Kept.{value_in}
 use Rattle.ob_mean.specs.whole.Values.{Cell, Beside}
 use Rattle.ob_reference.proofs.Zeros.{text_front}

@@ -1,4 +1,4 @@
-use Rattle.std.proofs.Common.{◌≡◌, sym, ap, ◌∙◌, subst}
+use Rattle.std.proofs.Common.{sym, ap, ◌∙◌}
 use Rattle.ob_mean.specs.whole.Values.{row}
 use Rattle.ob_mean.specs.whole.Shapes.{zero_of}
 use Rattle.ob_reference.proofs.Zeros.{array_zero}

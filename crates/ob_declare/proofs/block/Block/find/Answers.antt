@@ -1,4 +1,4 @@
-use Rattle.std.proofs.Common.{rules, ◌≡◌, ◌<◌, Some, None, option_copied, sym, ◌∙◌, ap, subst, arith, get_or, length, vec_len}
+use Rattle.std.proofs.Common.{rules, ◌≡◌, ◌<◌, Some, None, sym, ◌∙◌, ap, length}
 use Rattle.ob_declare.specs.Block.{find, place_of}
 use Rattle.ob_declare.proofs.Index.{found_at, in_range, none_found}
 use Rattle.ob_declare.proofs.block.Block.find.Goals as goal

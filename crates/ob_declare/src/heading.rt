@@ -1,0 +1,315 @@
+//! Headings of procedures.
+
+ghost use Rattle.std.specs.Prelude.{◌≡◌, None, IfOk};
+ghost use Rattle.ob_declare.specs.Block.{find};
+ghost use Rattle.ob_parse.specs.declared.tree.Procedure.{out-Procedure};
+ghost use Rattle.ob_declare.specs.Rule.{Judges, through};
+ghost use Rattle.ob_declare.specs.Headings as spec;
+
+use crate::block::{Block, Entry, Standing};
+use crate::fault::{fault, open};
+use crate::imports::Imports;
+use crate::scope::Scope;
+use crate::written_type::type_named;
+use ob_base::{Boxed, Code, Items, Refused};
+use ob_parse::tree::{FormalSection, FormalType, Formals, Ident, Procedure, Qualident};
+use ob_scan::Span;
+use ob_types::{Basic, Formal, FormalKind, ObType, Signature, is_admitted};
+use std::alloc::Global;
+
+/// The formal parameters so far, and the block that they make.
+#[derive(Drop)]
+pub struct Parameters {
+    pub formals: Items<Formal>,
+    pub block: Block,
+}
+
+/// The heading of a procedure: its signature, and the block of its parameters.
+#[derive(Drop)]
+pub struct Heading {
+    pub signature: Signature,
+    pub block: Block,
+}
+
+/// A procedure that was entered: the scope inside, behind its parameters, and its signature.
+#[derive(Drop)]
+pub struct Entered {
+    pub scope: Scope,
+    pub signature: Signature,
+}
+
+/// An open array of a type.
+#[tactic(auto, unfolding(crate::specs::Headings::open_of))]
+fn open_of(alloc: Global, element: ObType, span: Span) -> Result<ObType, Refused>
+    ensures { Judges (spec.open_of element) result }
+{
+    let of = ObType::Open(Boxed::new(alloc, element)?);
+    if !is_admitted(&of) {
+        return Err(Refused::Fault(fault(Code::Size, span)));
+    }
+    Ok(of)
+}
+
+/// The type of a formal parameter. `levels` says how many more constructs may nest.
+#[cycle(formal)]
+#[tactic(auto, unfolding(crate::specs::Headings::formal_at, crate::specs::Headings::formal_rule))]
+fn formal_type(
+    alloc: Global,
+    modules: &Imports,
+    scope: &Scope,
+    levels: u32,
+    of: &FormalType,
+) -> Result<ObType, Refused>
+    ensures { Judges (spec.formal_at modules.now scope.now levels of.now) result }
+{
+    match of {
+        FormalType::Named(name) => type_named(alloc, modules, scope, name),
+        FormalType::Open(span, element) => {
+            let element = inner_formal(alloc, modules, scope, levels, *span, element.get())?;
+            open_of(alloc, element, *span)
+        }
+    }
+}
+
+/// The type of a formal parameter inside one construct more.
+#[cycle(formal)]
+#[tactic(auto, unfolding(crate::specs::Headings::inner_formal, crate::specs::Headings::formal_at))]
+fn inner_formal(
+    alloc: Global,
+    modules: &Imports,
+    scope: &Scope,
+    levels: u32,
+    span: Span,
+    of: &FormalType,
+) -> Result<ObType, Refused>
+    ensures { Judges (spec.inner_formal modules.now scope.now levels of.now) result }
+{
+    let inside = open(levels, span)?;
+    formal_type(alloc, modules, scope, inside, of)
+}
+
+fn kind_of(by_reference: bool) -> FormalKind
+    ensures { result ≡ spec.kind_of by_reference }
+{
+    if by_reference {
+        FormalKind::Variable
+    } else {
+        FormalKind::Value
+    }
+}
+
+fn standing_of(by_reference: bool, of: &ObType, number: usize) -> Standing
+    ensures { result ≡ spec.standing_of by_reference of.now number }
+{
+    if by_reference {
+        return Standing::ByParameter(number);
+    }
+    match of {
+        ObType::Basic(_) => Standing::Local(number),
+        _ => Standing::ReadOnly(number),
+    }
+}
+
+/// One parameter more.
+#[tactic(auto, unfolding(crate::specs::Headings::parameter_rule))]
+fn parameter(
+    alloc: Global,
+    by_reference: bool,
+    of: &ObType,
+    so_far: Parameters,
+    name: &Ident,
+) -> Result<Parameters, Refused>
+    ensures { Judges (spec.parameter_rule by_reference of.now so_far name.now) result }
+{
+    let mut so_far = so_far;
+    if so_far.block.find(&name.name).is_some() {
+        return Err(Refused::Fault(fault(Code::DeclaredTwice, name.span)));
+    }
+    let number = so_far.block.declared().len();
+    let entry = Entry::Variable(of.copy(alloc)?, standing_of(by_reference, of, number));
+    so_far.block.declare(alloc, &name.name, false, entry)?;
+    so_far.formals.push(Formal {
+        kind: kind_of(by_reference),
+        of: of.copy(alloc)?,
+    })?;
+    Ok(so_far)
+}
+
+fn all_parameters(
+    alloc: Global,
+    by_reference: bool,
+    of: &ObType,
+    first: Parameters,
+    names: &[Ident],
+) -> Result<Parameters, Refused>
+    ensures { Judges (through (spec.parameter_rule by_reference of.now) first names.now) result }
+{
+    let mut so_far = first;
+    for name in names {
+        so_far = parameter(alloc, by_reference, of, so_far, name)?;
+    }
+    Ok(so_far)
+}
+
+/// Parameters of one type.
+#[tactic(auto, unfolding(crate::specs::Headings::section_rule))]
+fn section(
+    alloc: Global,
+    modules: &Imports,
+    levels: u32,
+    scope: &Scope,
+    so_far: Parameters,
+    x: &FormalSection,
+) -> Result<Parameters, Refused>
+    ensures { Judges (spec.section_rule modules.now levels scope.now so_far x.now) result }
+{
+    let of = formal_type(alloc, modules, scope, levels, x.of.get())?;
+    all_parameters(
+        alloc,
+        x.by_reference.is_some(),
+        &of,
+        so_far,
+        x.names.as_slice(),
+    )
+}
+
+fn sections(
+    alloc: Global,
+    modules: &Imports,
+    levels: u32,
+    scope: &Scope,
+    list: &[FormalSection],
+) -> Result<Parameters, Refused>
+    ensures { Judges (through (spec.section_rule modules.now levels scope.now) spec.no_parameters list.now) result }
+{
+    let mut so_far = Parameters {
+        formals: Items::new(alloc),
+        block: Block::new(alloc),
+    };
+    for x in list {
+        so_far = section(alloc, modules, levels, scope, so_far, x)?;
+    }
+    Ok(so_far)
+}
+
+#[tactic(auto, unfolding(crate::specs::Headings::basic_of))]
+fn basic_of(of: &ObType, span: Span) -> Result<Basic, Refused>
+    ensures { Judges (spec.basic_of of.now) result }
+{
+    match of {
+        ObType::Basic(basic) => Ok(*basic),
+        _ => Err(Refused::Fault(fault(Code::Parameters, span))),
+    }
+}
+
+/// The type of the result, if there is one.
+#[tactic(auto, unfolding(crate::specs::Headings::result_rule))]
+fn result_type(
+    alloc: Global,
+    modules: &Imports,
+    scope: &Scope,
+    name: &Option<Qualident>,
+) -> Result<Option<Basic>, Refused>
+    ensures { Judges (spec.result_rule modules.now scope.now name.now) result }
+{
+    match name {
+        None => Ok(None),
+        Some(name) => {
+            let of = type_named(alloc, modules, scope, name)?;
+            let basic = basic_of(&of, name.first.span)?;
+            Ok(Some(basic))
+        }
+    }
+}
+
+#[tactic(auto, unfolding(crate::specs::Headings::formals_rule))]
+fn formals(
+    alloc: Global,
+    modules: &Imports,
+    levels: u32,
+    scope: &Scope,
+    formals: &Formals,
+) -> Result<Heading, Refused>
+    ensures { Judges (spec.formals_rule modules.now levels scope.now formals.now) result }
+{
+    let parameters = sections(alloc, modules, levels, scope, formals.sections.as_slice())?;
+    let result_type = result_type(alloc, modules, scope, &formals.result)?;
+    Ok(Heading {
+        signature: Signature {
+            formals: parameters.formals,
+            result: result_type,
+        },
+        block: parameters.block,
+    })
+}
+
+/// The heading of a procedure with these formal parameters, or without any.
+#[tactic(auto, unfolding(crate::specs::Headings::heading_rule))]
+fn written_heading(
+    alloc: Global,
+    modules: &Imports,
+    levels: u32,
+    scope: &Scope,
+    list: &Option<Boxed<Formals>>,
+) -> Result<Heading, Refused>
+    ensures { Judges (spec.heading_rule modules.now levels scope.now list.now) result }
+{
+    match list {
+        None => Ok(Heading {
+            signature: Signature {
+                formals: Items::new(alloc),
+                result: None,
+            },
+            block: Block::new(alloc),
+        }),
+        Some(list) => formals(alloc, modules, levels, scope, list.get()),
+    }
+}
+
+/// A procedure of a name that is new.
+#[tactic(auto, unfolding(crate::specs::Headings::new_procedure))]
+fn new_procedure(
+    alloc: Global,
+    modules: &Imports,
+    levels: u32,
+    number: usize,
+    scope: Scope,
+    p: &Procedure,
+) -> Result<Entered, Refused>
+    requires { find scope.block (out-Procedure p.now).name.name.name ≡ None }
+    ensures { Judges (spec.new_procedure modules.now levels number scope p.now) result }
+{
+    let mut scope = scope;
+    let name = &p.name.name.name;
+    let heading = written_heading(alloc, modules, levels, &scope, &p.formals)?;
+    let signature = heading.signature.copy(alloc)?;
+    let entry = Entry::Procedure(heading.signature, number);
+    scope.declare(alloc, name, p.name.mark.is_some(), entry)?;
+    let scope = scope.enter(alloc, name, heading.block)?;
+    Ok(Entered { scope, signature })
+}
+
+/// Declares a procedure, which has this number among those of the module, by its heading, and goes inside (Wirth, The
+/// Programming Language Oberon, Oberon-07: procedure declarations). `levels` says how many more constructs may nest in it.
+///
+/// `Refused::Fault`: `DeclaredTwice` where the block has the name, or the heading a parameter's name twice; `UnknownName`,
+/// `LeftOut`, `Types` and `NotExported` for what is no type's name; `Parameters` where the result is of no basic type; `Size`
+/// where an open array has more than 200 levels; `Nesting` where more open arrays nest than may. `Refused::Memory` where
+/// memory was refused. The scope is gone then.
+#[tactic(auto, unfolding(crate::specs::Headings::procedure_rule))]
+pub fn enter_procedure(
+    alloc: Global,
+    modules: &Imports,
+    levels: u32,
+    number: usize,
+    scope: Scope,
+    p: &Procedure,
+) -> Result<Entered, Refused>
+    ensures { Judges (spec.procedure_rule modules.now levels number scope p.now) result }
+{
+    let name = &p.name.name;
+    if scope.block.find(&name.name).is_some() {
+        return Err(Refused::Fault(fault(Code::DeclaredTwice, name.span)));
+    }
+    new_procedure(alloc, modules, levels, number, scope, p)
+}

@@ -1,0 +1,164 @@
+//! Statements that have no others in them.
+
+ghost use Rattle.std.specs.Prelude.{◌≡◌, List};
+ghost use Rattle.ob_mean.specs.whole.Runs.{done};
+ghost use Rattle.ob_mean.specs.whole.Statements as spec;
+ghost use Rattle.ob_mean.specs.declared.whole.module.Loaded.{Loaded};
+ghost use Rattle.ob_reference.specs.Kept.{place_of};
+ghost use Rattle.ob_reference.specs.States.{Follows, scope_in, supply_in, world_in};
+
+use crate::call::{call, passed};
+use crate::expression::{place, value};
+use crate::input::{read_into, reopen};
+use crate::state::{At, State};
+use crate::stop::Stop;
+use crate::variable::{copy_at, count_at, number_at, store_at};
+use crate::write::{write_char, write_end, write_int, write_nothing, write_text};
+use crate::zero::{cell, text_row};
+use ob_mean::whole::{Action, Adjustment, InputCall, Loaded, Outcome, OutputCall, TrapKind};
+use std::alloc::Global;
+
+/// A number more, or less, which wraps.
+pub(crate) fn adjusted(adjustment: Adjustment, x: i32, y: i32) -> i32
+    ensures { result ≡ spec.adjusted adjustment x y }
+{
+    match adjustment {
+        Adjustment::Increase => x.wrapping_add(y),
+        Adjustment::Decrease => x.wrapping_sub(y),
+    }
+}
+
+/// A string for the array at a place.
+fn store_text(
+    alloc: Global,
+    at: At,
+    state: &mut State,
+    path: &[usize],
+    line: usize,
+    text: &[u8],
+) -> Result<(), Stop>
+    ensures { (program : List Loaded) → Follows (λ _. done) result state.new (spec.text_stored (scope_in program at) (place_of path.now) line text.now (supply_in state.old) (world_in state.old)) }
+{
+    let length = count_at(&state.store, path)?;
+    if text.len() >= length {
+        return Err(Stop::Stands(Outcome::Trapped(TrapKind::TextLength, at.home, line)));
+    }
+    let row = text_row(alloc, length, text)?;
+    store_at(state, path, row);
+    Ok(())
+}
+
+/// A statement that has no others in it.
+#[cycle(running)]
+pub(crate) fn action(
+    alloc: Global,
+    program: &[Loaded],
+    at: At,
+    room: u32,
+    state: &mut State,
+    one: &Action,
+) -> Result<(), Stop>
+    ensures { Follows (λ _. done) result state.new (spec.action_meaning (scope_in program.now at) one.now (supply_in state.old) (world_in state.old)) }
+{
+    if room == 0 {
+        return Err(Stop::Unanswered);
+    }
+    match one {
+        Action::Assign(d, e) => {
+            let path = place(alloc, program, at, room - 1, state, d)?;
+            let number = value(alloc, program, at, room - 1, state, e)?;
+            store_at(state, &path, cell(number));
+            Ok(())
+        }
+        Action::Copy(d, e) => {
+            let target = place(alloc, program, at, room - 1, state, d)?;
+            let source = place(alloc, program, at, room - 1, state, e)?;
+            let copied = copy_at(alloc, &state.store, &source)?;
+            store_at(state, &target, copied);
+            Ok(())
+        }
+        Action::AssignText(d, line, text) => {
+            let path = place(alloc, program, at, room - 1, state, d)?;
+            store_text(alloc, at, state, &path, *line, text.as_slice())
+        }
+        Action::Adjust(adjustment, d, e) => {
+            let path = place(alloc, program, at, room - 1, state, d)?;
+            let number = value(alloc, program, at, room - 1, state, e)?;
+            let now = number_at(&state.store, &path);
+            store_at(state, &path, cell(adjusted(*adjustment, now, number)));
+            Ok(())
+        }
+        Action::Assert(line, e) => {
+            let holds = value(alloc, program, at, room - 1, state, e)?;
+            if holds == 0 {
+                return Err(Stop::Stands(Outcome::Trapped(TrapKind::Assertion, at.home, *line)));
+            }
+            Ok(())
+        }
+        Action::Call(callee, line, arguments) => {
+            let row = passed(alloc, program, at, room - 1, state, arguments.as_slice())?;
+            call(alloc, program, at, room - 1, state, *callee, row, *line)?;
+            Ok(())
+        }
+        Action::Input(call) => input(alloc, program, at, room - 1, state, call),
+        Action::Output(call) => output(alloc, program, at, room - 1, state, call),
+    }
+}
+
+/// A call of In.
+#[cycle(running)]
+fn input(
+    alloc: Global,
+    program: &[Loaded],
+    at: At,
+    room: u32,
+    state: &mut State,
+    call: &InputCall,
+) -> Result<(), Stop>
+    ensures { Follows (λ _. done) result state.new (spec.input_meaning (scope_in program.now at) call.now (supply_in state.old) (world_in state.old)) }
+{
+    if room == 0 {
+        return Err(Stop::Unanswered);
+    }
+    match call {
+        InputCall::Open => reopen(state),
+        InputCall::Read(reader, d) => {
+            let path = place(alloc, program, at, room - 1, state, d)?;
+            read_into(alloc, state, *reader, &path)
+        }
+    }
+}
+
+/// A call of Out.
+#[cycle(running)]
+fn output(
+    alloc: Global,
+    program: &[Loaded],
+    at: At,
+    room: u32,
+    state: &mut State,
+    call: &OutputCall,
+) -> Result<(), Stop>
+    ensures { Follows (λ _. done) result state.new (spec.output_meaning (scope_in program.now at) call.now (supply_in state.old) (world_in state.old)) }
+{
+    if room == 0 {
+        return Err(Stop::Unanswered);
+    }
+    match call {
+        OutputCall::Open => write_nothing(state),
+        OutputCall::Char(e) => {
+            let number = value(alloc, program, at, room - 1, state, e)?;
+            write_char(state, number)
+        }
+        OutputCall::String(d) => {
+            let path = place(alloc, program, at, room - 1, state, d)?;
+            write_text(alloc, state, &path)
+        }
+        OutputCall::Int(e, width) => {
+            let number = value(alloc, program, at, room - 1, state, e)?;
+            let width = value(alloc, program, at, room - 1, state, width)?;
+            write_int(state, number, width)
+        }
+        OutputCall::Ln => write_end(state),
+    }
+}
