@@ -1,0 +1,14 @@
+-- What boards are: beginnings of what a legal log of the kernel shows.
+use Rattle.std.specs.Prelude.{◌≡◌, List, ◌++◌}
+use Rattle.jk_core.specs.declared.entry.Entry.{Entry}
+use Rattle.jk_core.specs.Log.{Log}
+use Rattle.jk_core.specs.Legal.{IsLegal}
+use Rattle.jk_core.specs.Render.{render}
+
+-- a list that begins with another
+abbrev pub StartsWith : List Entry → List Entry → Type 0
+StartsWith all first = (rest : List Entry) × (all ≡ first ++ rest)
+
+-- a board is a beginning of what some legal log shows
+unfoldable pub IsBoard : List Entry → Type 0
+IsBoard xs = (log : Log) × IsLegal log × StartsWith (render log) xs

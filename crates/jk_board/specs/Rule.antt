@@ -1,0 +1,26 @@
+-- The rule of a board: it is a beginning of what a legal log shows, and it begins with all that anyone has seen or was told of.
+use Rattle.std.specs.Prelude.{◌≡◌, ℕ, List, [], ◌∷◌}
+use mathlib.Core.Option.{some}
+use lib.ListN.{get_elem?}
+use Rattle.jk_core.specs.declared.entry.Entry.{Entry}
+use Rattle.jk_board.specs.declared.posted.Posted.{Posted}
+use Rattle.jk_board.specs.declared.rule.Seen.{Seen}
+use Rattle.jk_board.specs.Posted.{all_of}
+use Rattle.jk_board.specs.Boards.{StartsWith, IsBoard}
+
+abbrev pub Each : {X : Type 0} → (X → Type 0) → List X → Type 0
+Each P [] = Unit {0}
+Each P (x ∷ xs) = P x × Each P xs
+
+abbrev pub sees : List Entry → List (List Entry) → Seen
+sees s t = record { seen = s; told = t }
+
+abbrev pub Begins : List Entry → Seen → Type 0
+Begins all v = StartsWith all v.seen × Each (StartsWith all) v.told
+
+abbrev pub Grows : Posted → List Seen → Type 0
+Grows b views = IsBoard (all_of b) × ((j : ℕ) (v : Seen) → get_elem? views j ≡ some v → Begins (all_of b) v)
+
+-- the board that is found begins with all that was seen and told of, and is what was seen from now on
+abbrev pub Finds : Seen → Posted → Posted → Seen → Type 0
+Finds v x y w = IsBoard (all_of y) × Begins (all_of y) v × (w ≡ sees (all_of y) v.told)

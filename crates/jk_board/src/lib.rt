@@ -1,0 +1,12 @@
+//! The board of a kernel: one publisher, and followers that read what was published.
+#![tactic(auto)]
+
+pub mod board;
+pub mod follower;
+pub mod posted;
+pub mod publisher;
+pub mod rule;
+
+pub use board::{Board, Followers};
+pub use follower::Follower;
+pub use publisher::Publisher;

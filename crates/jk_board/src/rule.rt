@@ -1,0 +1,52 @@
+//! The rule of the board, and what each step of it tells.
+
+use crate::posted::Posted;
+use atomic_table::{Join, Split};
+use crossbeam_utils::rule::{Outcome, Protocol};
+use jk_core::Entry;
+use std::collections::LinkedList;
+
+/// What a reader or the writer knows: the board that it saw last, and the boards that it was told of. No value of it is made.
+pub struct Seen {
+    pub seen: LinkedList<Entry>,
+    pub told: LinkedList<LinkedList<Entry>>,
+}
+
+/// The board is a beginning of what a legal log shows, and it only grows.
+pub struct Grows;
+
+impl Protocol<Posted, Seen> for Grows {
+    ghost use Rattle.std.specs.Prelude.{[]};
+    ghost use Rattle.jk_board.specs.Rule as rule;
+
+    ghost holds = { rule.Grows };
+
+    ghost first = { rule.sees [] [] };
+}
+
+/// The board that is published, or found.
+pub struct Finds;
+
+impl Outcome<Posted, Seen> for Finds {
+    ghost use Rattle.jk_board.specs.Rule as rule;
+
+    ghost then = { rule.Finds };
+}
+
+/// What the writer saw, for a reader to learn.
+pub struct Notes;
+
+impl Split<Seen> for Notes {
+    ghost left = { λ v. v };
+
+    ghost right = { λ v. v };
+}
+
+impl Join<Seen> for Notes {
+    ghost use Rattle.std.specs.Prelude.{[], ◌∷◌};
+    ghost use Rattle.jk_board.specs.Rule.{sees};
+
+    ghost both = { λ v w. sees v.seen (w.seen ∷ v.told) };
+
+    ghost spent = { sees [] [] };
+}

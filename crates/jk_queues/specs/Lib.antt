@@ -1,0 +1,4 @@
+pub mod Inbox
+pub mod Ends
+pub mod Line
+pub mod Pool

@@ -1,0 +1,12 @@
+//! The queues between the threads of a kernel: the inbox, to which eight seats send, and the pool of parsers.
+#![tactic(auto)]
+
+pub mod inbox;
+pub mod line;
+pub mod part;
+pub mod pool;
+pub mod rule;
+
+pub use inbox::{Full, Inbox, Left, Seat, Seats, Taker, close};
+pub use jk_core::{Job, ParsedCell};
+pub use pool::{Gate, Pool, WorkerEnd, worker};
