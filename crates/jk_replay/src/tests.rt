@@ -178,7 +178,7 @@ fn cells_that_do_not_run(rt: HostRuntime) -> Result<(), Fail> {
     let mixed = "MODULE L; VAR x: INTEGER; BEGIN x := x < 1 END L.";
     for (code, name, told) in [
         (unknown, "CompileError", "compile error 10 at 1:17"),
-        (mixed, "CompileError", "compile error 12 at 1:33"),
+        (mixed, "CompileError", "compile error 12 at 1:38"),
         ("(* (* *)", "CompileError", "compile error 2 at 1:1"),
         ("Q.P", "LinkError", "link error 30: Q"),
         ("Out.Ln; Q.P", "LinkError", "link error 31: Out.Ln"),

@@ -13,8 +13,8 @@ use Rattle.ob_parse.specs.TreeOf.{cell_of}
 use Rattle.ob_scan.specs.Tokens.{Tokens}
 use Rattle.ob_scan.proofs.TokenReading.{tokens_of-complete}
 use Rattle.ob_parse.proofs.Texts.{cell_sound, cell_complete}
-use Rattle.ob_check.specs.Rule.{Rule, Given, Breaks, Then, Needs, Both, gives, breaks, answer}
-use Rattle.ob_check.proofs.Exact.{found, only, one}
+use Rattle.ob_declare.specs.Rule.{Rule, Given, Breaks, Then, Needs, Both, gives, breaks, answer}
+use Rattle.ob_declare.proofs.Exact.{found, only, one}
 use Rattle.ob_cell.specs.declared.outcome.LinkFault.{LinkFault}
 use Rattle.ob_cell.specs.declared.outcome.Outcome.TheVariants.{Unreadable}
 use Rattle.ob_cell.specs.declared.outcome.Refusal as why

@@ -11,8 +11,9 @@ use Rattle.ob_parse.specs.declared.tree.Command.{Command}
 use Rattle.ob_parse.specs.CellText.{IsCellOf}
 use Rattle.ob_parse.specs.CellText as reading
 use Rattle.ob_parse.specs.TreeOf.{cell_of}
-use Rattle.ob_check.specs.Rule.{Rule, Given, Then, gives, breaks, answer}
-use Rattle.ob_check.specs.Modules.{module_rule}
+use Rattle.ob_declare.specs.Rule.{Rule, Given, Then, gives, breaks, answer}
+use Rattle.ob_check.specs.Modules.{module_at}
+use Rattle.ob_part.specs.Part.{part_rule}
 use Rattle.ob_cell.specs.declared.outcome.LinkFault.{LinkFault}
 use Rattle.ob_cell.specs.declared.outcome.LinkFault.TheVariants.{NotLoaded, NoCommand}
 use Rattle.ob_cell.specs.declared.outcome.Outcome.{Outcome}
@@ -37,10 +38,11 @@ is_standard name = bytes_eq name (codes "In") || bytes_eq name (codes "Out")
 abbrev pub unlinked_by : List ℕ → List ℕ → LinkFault
 unlinked_by home name = if is_standard home then NoCommand home name else NotLoaded home
 
--- What a cell comes to by the static rules: a module runs. Commands are looked up before the first runs, and no module is
--- loaded in this part of the language.
+-- What a cell comes to by the static rules: a module that keeps them runs, if it is in the part that the compiler follows.
+-- Commands are looked up before the first runs. No module stays loaded in this part of the language.
 abbrev pub cell_rule : Cell → Rule Plan
-cell_rule (cells.Module m) = Then (module_rule m) (λ tree. Given (Runs (record { name = m.name.name; tree = tree })))
+cell_rule (cells.Module m) =
+    Then (module_at [] m) (λ c. Then (part_rule c.tree) (λ tree. Given (Runs (record { name = m.name.name; tree = tree }))))
 cell_rule (cells.Commands []) = Given (Runs no_program)
 cell_rule (cells.Commands (c ∷ cs)) = Given (Unlinks (unlinked_by c.module_name.name c.procedure.name))
 

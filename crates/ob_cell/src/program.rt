@@ -1,7 +1,7 @@
 //! What a cell runs.
 
 ghost use Rattle.std.specs.Prelude.{◌≡◌, [], ◌∷◌, Ok, IfOk, IfErr};
-ghost use Rattle.ob_check.specs.Rule.{answer};
+ghost use Rattle.ob_declare.specs.Rule.{answer};
 ghost use Rattle.ob_parse.specs.declared.tree.Cell.TheVariants as cells;
 ghost use Rattle.ob_cell.specs.declared.program.Plan.TheVariants.{Runs};
 ghost use Rattle.ob_cell.specs.Cell.{cell_rule, is_standard, unlinked_by, no_program, IsStaticRefusal};
@@ -9,9 +9,11 @@ ghost use Rattle.ob_cell.specs.Cell.{cell_rule, is_standard, unlinked_by, no_pro
 use crate::outcome::LinkFault;
 use ob_base::{Items, Refused, Text};
 use ob_check::check;
+use ob_declare::Imports;
 use ob_mean::TypedModule;
 use ob_mean::tree::TypedProcedure;
 use ob_parse::tree::{Cell, Command, Module};
+use ob_part::first_part;
 use std::alloc::{AllocError, Global};
 
 /// A module's name and its typed tree.
@@ -44,7 +46,9 @@ fn module_program(alloc: Global, module: &Module) -> Result<Program, Refused>
     ensures found { IfOk result (λ program. answer (cell_rule (cells.Module module.now)) ≡ Ok (Runs program)) }
     ensures faults { IfErr result (λ refused. IsStaticRefusal (cells.Module module.now) refused) }
 {
-    let tree = check(alloc, module)?;
+    let imports = Imports::empty(alloc);
+    let checked = check(alloc, module, &imports)?;
+    let tree = first_part(alloc, checked.tree())?;
     let name = module.name.name.copy(alloc)?;
     Ok(Program { name, tree })
 }

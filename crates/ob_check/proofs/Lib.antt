@@ -1,3 +1,2 @@
-pub mod Exact
-pub mod Index
-pub mod Fitting
+pub mod ShapeForms
+pub mod Ranges

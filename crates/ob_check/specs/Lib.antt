@@ -1,5 +1,11 @@
-pub mod Rule
-pub mod Block
-pub mod Typing
+pub mod Assignments
+pub mod StandardCalls
+pub mod Calls
+pub mod Labels
+pub mod LabelIndex
 pub mod Statements
+pub mod Shapes
+pub mod Procedures
+pub mod CheckedTree
 pub mod Modules
+pub mod Codes

@@ -1,132 +1,181 @@
--- The typing of statements: a rule for each. The number says how many more constructs may nest.
-use Rattle.std.specs.Prelude.{◌≡◌, ℕ, zero, suc, List, [], ◌∷◌, ◌++◌, Bool, true, false, Option, Some, None, codes, ◌||◌, if◌then◌else◌}
-use Rattle.std.specs.Str.{bytes_eq}
+-- Statements (Wirth, The Programming Language Oberon, Oberon-07): a rule for each, with its typed tree. The number says how many
+-- more constructs may nest. The variables of the module so far, with strings behind the declared ones, go through all rules from
+-- left to right.
+use Rattle.std.specs.Prelude.{ℕ, zero, suc, ℤ, pos, List, [], ◌∷◌, ◌++◌, Bool, true, false, not, Option, Some, None}
+use Rattle.std.specs.Ordering.{int_eq}
+use Rattle.ob_base.specs.declared.fault.Code.{Code}
 use Rattle.ob_base.specs.declared.fault.Code.TheVariants as code
-use Rattle.ob_parse.specs.declared.tree.Expr.{Expr}
-use Rattle.ob_parse.specs.declared.tree.Designator.{Designator, out-Designator}
-use Rattle.ob_parse.specs.declared.tree.Selector.{Selector, out-Selector}
-use Rattle.ob_parse.specs.declared.tree.Factor.TheOpen.{Selector-F}
-use Rattle.ob_parse.specs.declared.tree.Factor.{Factor}
-use Rattle.ob_parse.specs.declared.tree.AddedTerm.{AddedTerm}
-use Rattle.ob_parse.specs.declared.tree.NextFactor.{NextFactor}
-use Rattle.ob_parse.specs.declared.tree.Related.{Related}
-use Rattle.ob_parse.specs.declared.tree.Simple.{Simple}
-use Rattle.ob_parse.specs.declared.tree.Term.{Term}
 use Rattle.ob_parse.specs.declared.tree.Branch.{Branch, out-Branch}
-use Rattle.ob_parse.specs.declared.tree.Case.{Case}
+use Rattle.ob_parse.specs.declared.tree.Case.{Case, out-Case}
+use Rattle.ob_parse.specs.declared.tree.Expr.{Expr}
+use Rattle.ob_parse.specs.declared.tree.ForHead.{ForHead}
+use Rattle.ob_parse.specs.declared.tree.Ident.{Ident}
+use Rattle.ob_parse.specs.declared.tree.LabelRange.{LabelRange}
 use Rattle.ob_parse.specs.declared.tree.Statement.{Statement, out-Statement}
 use Rattle.ob_parse.specs.declared.tree.Statement.TheOpen.{Statement-F}
-use Rattle.ob_mean.specs.declared.tree.TypedExpr.{TypedExpr}
-use Rattle.ob_mean.specs.declared.tree.TypedStatement.{TypedStatement}
-use Rattle.ob_mean.specs.declared.tree.TypedStatement.TheVariants as typed
-use Rattle.ob_check.specs.declared.block.Entry.{Entry}
-use Rattle.ob_check.specs.declared.block.Entry.TheVariants as entry
-use Rattle.ob_check.specs.declared.statement.OutName.{OutName}
-use Rattle.ob_check.specs.declared.statement.OutName.TheVariants as name
-use Rattle.ob_check.specs.Block.{find}
-use Rattle.ob_check.specs.Rule.{Rule, Given, Breaks, Then, Needs, Both, there, through}
-use Rattle.ob_check.specs.Typing.{Scope, expr_at, is_integer, is_boolean}
-
-abbrev pub SelectorLayer : Type 0
-SelectorLayer = Selector-F Factor Selector AddedTerm Designator Expr NextFactor Related Simple Term
+use Rattle.ob_types.specs.declared.exports.Constant.{Constant}
+use Rattle.ob_types.specs.declared.exports.Constant.TheVariants as constant
+use Rattle.ob_types.specs.declared.structure.Basic.{Basic}
+use Rattle.ob_types.specs.declared.structure.Basic.TheVariants as basic
+use Rattle.ob_types.specs.declared.structure.ObType.{ObType}
+use Rattle.ob_types.specs.declared.structure.ObType.TheVariants.{Basic as OfBasic}
+use Rattle.ob_mean.specs.declared.whole.expression.TypedExpr.{TypedExpr}
+use Rattle.ob_mean.specs.declared.whole.expression.Variable.{Variable}
+use Rattle.ob_mean.specs.declared.whole.statement.Branch.{Branch as TypedBranch, roll-Branch}
+use Rattle.ob_mean.specs.declared.whole.statement.CaseArm.{CaseArm, roll-CaseArm}
+use Rattle.ob_mean.specs.declared.whole.statement.ForHead.{ForHead as TypedHead}
+use Rattle.ob_mean.specs.declared.whole.statement.LabelRange.{LabelRange as TypedRange}
+use Rattle.ob_mean.specs.declared.whole.statement.TypedStatement.{TypedStatement}
+use Rattle.ob_mean.specs.declared.whole.statement.TypedStatement.TheVariants as typed
+use Rattle.ob_declare.specs.declared.block.Entry.{Entry}
+use Rattle.ob_declare.specs.declared.block.Entry.TheVariants as entry
+use Rattle.ob_declare.specs.declared.block.Standing.{Standing}
+use Rattle.ob_declare.specs.declared.predeclared.Predeclared.{Predeclared}
+use Rattle.ob_declare.specs.declared.predeclared.Predeclared.TheVariants as predeclared
+use Rattle.ob_declare.specs.Constants.{constant_at}
+use Rattle.ob_declare.specs.Imports.{Modules}
+use Rattle.ob_declare.specs.Rule.{Rule, Given, Breaks, Then, Needs, there, through}
+use Rattle.ob_declare.specs.declared.scope.Scope.{Scope}
+use Rattle.ob_declare.specs.Scope.{seen, outer, variable_of, is_writable}
+use Rattle.ob_express.specs.Expressions.{value_at, value_for_at, guard_at}
+use Rattle.ob_express.specs.Operands.{Variables}
+use Rattle.ob_check.specs.Assignments.{assignment}
+use Rattle.ob_check.specs.Calls.{call}
+use Rattle.ob_check.specs.Labels.{is_character, Labelling, next_range}
 
 abbrev pub StatementLayer : Type 0
 StatementLayer = Statement-F Statement Branch Case
 
--- ---- what the module Out exports
+-- ---- what stands between FOR and DO
 
-abbrev pub out_name : List ℕ → Option OutName
-out_name text =
-    if bytes_eq text (codes "Int") then Some name.Int
-    else (if bytes_eq text (codes "Ln") then Some name.Ln
-    else (if bytes_eq text (codes "Char") || bytes_eq text (codes "String") || bytes_eq text (codes "Open") then Some name.Later else None))
+-- what is broken where nothing declares the name of a variable
+abbrev pub absent_variable : Predeclared → Code
+absent_variable predeclared.LeftOut = code.LeftOut
+absent_variable predeclared.Unknown = code.UnknownName
+absent_variable p = code.ReadOnly
 
--- ---- assignments
+abbrev pub is_integer : ObType → Bool
+is_integer (OfBasic basic.Integer) = true
+is_integer t = false
 
--- an expression of type INTEGER
-unfoldable pub number_at : Scope → ℕ → Expr → Rule TypedExpr
-number_at s n e = Then (expr_at s n e) (λ v. Needs (is_integer v.basic) code.Types (Given v.tree))
+-- an INTEGER variable or scalar parameter
+unfoldable pub counter_of : Scope → ObType → Standing → Rule Variable
+counter_of s t place = Needs (is_writable place) code.ReadOnly (Needs (is_integer t) code.Types (Given (variable_of s place)))
 
--- a variable that may be written: of this name, without selectors behind it
-unfoldable pub writable : Entry → List Selector → Rule ℕ
-writable (entry.Variable x) [] = Given x
-writable (entry.Variable x) (selector ∷ selectors) = Breaks code.Types
-writable entry.Out selectors = Breaks code.ReadOnly
+unfoldable pub counter_found : Scope → Option Entry → Predeclared → Rule Variable
+counter_found s (Some (entry.Variable t place)) before = counter_of s t place
+counter_found s (Some e) before = Breaks code.ReadOnly
+counter_found s None before = Breaks (absent_variable before)
 
-unfoldable pub target : Scope → Designator → Rule ℕ
-target s d = Then (there (find s (out-Designator d).name.name) code.UnknownName) (λ e. writable e (out-Designator d).selectors)
+unfoldable pub counter_named : Scope → Ident → Rule Variable
+counter_named s name = counter_found s (seen s name.name) (outer s name.name)
 
-unfoldable pub assignment : Scope → ℕ → Designator → Expr → Rule (Option TypedStatement)
-assignment s n d e = Then (Both (target s d) (number_at s n e)) (λ p. Given (Some (typed.Assign p.0 p.1)))
-
--- ---- calls of the module Out
-
--- Out.Int has a number and a width
-unfoldable pub out_int : Scope → ℕ → Option (List Expr) → Rule (Option TypedStatement)
-out_int s n (Some (value ∷ width ∷ [])) =
-    Then (Both (number_at s n value) (number_at s n width)) (λ p. Given (Some (typed.OutInt p.0 p.1)))
-out_int s n actuals = Breaks code.Parameters
-
--- Out.Ln has no parameter
-unfoldable pub out_line : Option (List Expr) → Rule (Option TypedStatement)
-out_line None = Given (Some typed.OutLn)
-out_line (Some []) = Given (Some typed.OutLn)
-out_line (Some (e ∷ es)) = Breaks code.Parameters
-
-unfoldable pub out_call : Scope → ℕ → Option (List Expr) → OutName → Rule (Option TypedStatement)
-out_call s n actuals name.Int = out_int s n actuals
-out_call s n actuals name.Ln = out_line actuals
-out_call s n actuals name.Later = Breaks code.LeftOut
-
--- the name behind the name of the module
-abbrev pub called_layer : Scope → ℕ → Option (List Expr) → SelectorLayer → Rule (Option TypedStatement)
-called_layer s n actuals (Selector-F.Field field) =
-    Then (there (out_name field.name) code.NotExported) (λ o. out_call s n actuals o)
-called_layer s n actuals (Selector-F.Index indexes) = Breaks code.Types
-
-unfoldable pub called : Scope → ℕ → Option (List Expr) → Entry → List Selector → Rule (Option TypedStatement)
-called s n actuals entry.Out (selector ∷ []) = called_layer s n actuals (out-Selector selector)
-called s n actuals e selectors = Breaks code.Types
-
-unfoldable pub call : Scope → ℕ → Designator → Option (List Expr) → Rule (Option TypedStatement)
-call s n d actuals =
-    Then (there (find s (out-Designator d).name.name) code.UnknownName) (λ e. called s n actuals e (out-Designator d).selectors)
-
--- ---- statements
-
--- an expression of type BOOLEAN
-unfoldable pub guard : Scope → ℕ → Expr → Rule TypedExpr
-guard s n e = Then (expr_at s n e) (λ v. Needs (is_boolean v.basic) code.Types (Given v.tree))
+-- a step is a number, and not 0
+unfoldable pub step_of : Constant → Rule ℤ
+step_of (constant.Integer z) = Needs (not (int_eq z (pos 0))) code.NotConstant (Given z)
+step_of c = Breaks code.Types
 
 -- statements, and one more behind them, if it is one
 abbrev pub chain : List TypedStatement → Option TypedStatement → List TypedStatement
 chain before None = before
 chain before (Some one) = before ++ one ∷ []
 
--- WHILE without ELSIF
-unfoldable pub while_rule : Scope → ℕ → (List Statement → Rule (List TypedStatement)) → Branch → List Branch → Rule (Option TypedStatement)
-while_rule s n inner first [] =
-    Then (Both (guard s n (out-Branch first).guard) (inner (out-Branch first).body)) (λ p. Given (Some (typed.While p.0 p.1)))
-while_rule s n inner first (other ∷ others) = Breaks code.LeftOut
+module _ (ms : Modules) (s : Scope) (n : ℕ) where
+  unfoldable pub step_at : Option Expr → Rule ℤ
+  step_at None = Given (pos 1)
+  step_at (Some e) = Then (constant_at ms s n e) (λ c. step_of c)
 
--- IF, CASE, REPEAT and FOR are not followed yet
-abbrev pub statement_layer : Scope → ℕ → (List Statement → Rule (List TypedStatement)) → StatementLayer → Rule (Option TypedStatement)
-statement_layer s n inner Statement-F.Empty = Given None
-statement_layer s n inner (Statement-F.Assign d e) = assignment s n d e
-statement_layer s n inner (Statement-F.Call d actuals) = call s n d actuals
-statement_layer s n inner (Statement-F.While first others) = while_rule s n inner first others
-statement_layer s n inner (Statement-F.If first others rest) = Breaks code.LeftOut
-statement_layer s n inner (Statement-F.Case span e cases) = Breaks code.LeftOut
-statement_layer s n inner (Statement-F.Repeat body e) = Breaks code.LeftOut
-statement_layer s n inner (Statement-F.For head body) = Breaks code.LeftOut
+  unfoldable pub for_head : Variables → ForHead → Rule (TypedHead × Variables)
+  for_head variables h =
+      Then (counter_named s h.variable) (λ v.
+      Then (value_for_at ms s n basic.Integer variables h.first) (λ p.
+      Then (value_for_at ms s n basic.Integer p.1 h.last) (λ q.
+      Then (step_at h.step) (λ z.
+      Given (record { variable = v; first = p.0; last = q.0; step = z }, q.1)))))
 
-unfoldable pub statement_of : Scope → ℕ → (List Statement → Rule (List TypedStatement)) → Statement → Rule (Option TypedStatement)
-statement_of s n inner x = statement_layer s n inner (out-Statement x)
+module _ (ms : Modules) (s : Scope) (n : ℕ) (inner : Variables → List Statement → Rule (List TypedStatement × Variables)) where
+  -- statements that need not be there
+  unfoldable pub optional : Variables → List Statement → Rule (List TypedStatement × Variables)
+  optional variables [] = Given ([], variables)
+  optional variables (x ∷ xs) = inner variables (x ∷ xs)
 
--- one statement more
-unfoldable pub next_statement : Scope → ℕ → (List Statement → Rule (List TypedStatement)) → List TypedStatement → Statement → Rule (List TypedStatement)
-next_statement s n inner before x = Then (statement_of s n inner x) (λ one. Given (chain before one))
+  -- ---- IF and WHILE
 
-unfoldable pub statements_at : Scope → ℕ → List Statement → Rule (List TypedStatement)
-statements_at s zero xs = Breaks code.Nesting
-statements_at s (suc n) xs = through (next_statement s n (statements_at s n)) [] xs
+  -- one guard more with its statements
+  unfoldable pub next_branch : (List TypedBranch × Variables) → Branch → Rule (List TypedBranch × Variables)
+  next_branch before b =
+      Then (guard_at ms s n before.1 (out-Branch b).guard) (λ p.
+      Then (inner p.1 (out-Branch b).body) (λ q.
+      Given (before.0 ++ roll-Branch (record { guard = p.0; body = q.0 }) ∷ [], q.1)))
+
+  unfoldable pub branches : Variables → Branch → List Branch → Rule (List TypedBranch × Variables)
+  branches variables first others = through next_branch ([], variables) (first ∷ others)
+
+  unfoldable pub if_rule : Variables → Branch → List Branch → List Statement → Rule (TypedStatement × Variables)
+  if_rule variables first others rest =
+      Then (branches variables first others) (λ p. Then (optional p.1 rest) (λ q. Given (typed.If p.0 q.0, q.1)))
+
+  unfoldable pub while_rule : Variables → Branch → List Branch → Rule (TypedStatement × Variables)
+  while_rule variables first others = Then (branches variables first others) (λ p. Given (typed.While p.0, p.1))
+
+  -- ---- CASE
+
+  -- all labels of a CASE so far, its arms, and the variables of the module
+  abbrev pub Arms : Type 0
+  Arms = List TypedRange × List CaseArm × Variables
+
+  unfoldable pub arm_of : Labelling → List CaseArm → Variables → List Statement → Rule Arms
+  arm_of l arms variables body =
+      Then (inner variables body) (λ q. Given (l.0, arms ++ roll-CaseArm (record { labels = l.1; body = q.0 }) ∷ [], q.1))
+
+  -- one case more, which may be empty
+  unfoldable pub case_of : Bool → Arms → List LabelRange → List Statement → Rule Arms
+  case_of character before [] body = Given before
+  case_of character before (r ∷ rs) body =
+      Then (through (next_range ms s character) (before.0, []) (r ∷ rs)) (λ l. arm_of l before.1 before.2 body)
+
+  unfoldable pub next_case : Bool → Arms → Case → Rule Arms
+  next_case character before x = case_of character before (out-Case x).labels (out-Case x).body
+
+  unfoldable pub arms_of : ℕ → Basic × TypedExpr × Variables → List Case → Rule (TypedStatement × Variables)
+  arms_of line value cases =
+      Then (there (is_character value.0) code.Types) (λ character.
+      Then (through (next_case character) ([], [], value.2) cases) (λ arms.
+      Given (typed.Case line value.1 arms.1, arms.2)))
+
+  unfoldable pub case_rule : Variables → ℕ → Expr → List Case → Rule (TypedStatement × Variables)
+  case_rule variables line e cases = Then (value_at ms s n variables e) (λ p. arms_of line p cases)
+
+  -- ---- REPEAT and FOR
+
+  unfoldable pub repeat_rule : Variables → List Statement → Expr → Rule (TypedStatement × Variables)
+  repeat_rule variables body e =
+      Then (inner variables body) (λ p. Then (guard_at ms s n p.1 e) (λ q. Given (typed.Repeat p.0 q.0, q.1)))
+
+  unfoldable pub for_rule : Variables → ForHead → List Statement → Rule (TypedStatement × Variables)
+  for_rule variables h body =
+      Then (for_head ms s n variables h) (λ p. Then (inner p.1 body) (λ q. Given (typed.For p.0 q.0, q.1)))
+
+  -- ---- all statements
+
+  abbrev pub statement_layer : Variables → StatementLayer → Rule (Option TypedStatement × Variables)
+  statement_layer variables Statement-F.Empty = Given (None, variables)
+  statement_layer variables (Statement-F.Assign d e) = Then (assignment ms s n variables d e) (λ p. Given (Some (typed.Simple p.0), p.1))
+  statement_layer variables (Statement-F.Call d actuals) = Then (call ms s n variables d actuals) (λ p. Given (Some (typed.Simple p.0), p.1))
+  statement_layer variables (Statement-F.If first others rest) = Then (if_rule variables first others rest) (λ p. Given (Some p.0, p.1))
+  statement_layer variables (Statement-F.Case span e cases) = Then (case_rule variables span.line e cases) (λ p. Given (Some p.0, p.1))
+  statement_layer variables (Statement-F.While first others) = Then (while_rule variables first others) (λ p. Given (Some p.0, p.1))
+  statement_layer variables (Statement-F.Repeat body e) = Then (repeat_rule variables body e) (λ p. Given (Some p.0, p.1))
+  statement_layer variables (Statement-F.For h body) = Then (for_rule variables h body) (λ p. Given (Some p.0, p.1))
+
+  unfoldable pub statement_of : Variables → Statement → Rule (Option TypedStatement × Variables)
+  statement_of variables x = statement_layer variables (out-Statement x)
+
+  -- one statement more
+  unfoldable pub next_statement : (List TypedStatement × Variables) → Statement → Rule (List TypedStatement × Variables)
+  next_statement before x = Then (statement_of before.1 x) (λ p. Given (chain before.0 p.0, p.1))
+
+-- a sequence of statements that opens among so many constructs
+unfoldable pub statements_at : Modules → Scope → ℕ → Variables → List Statement → Rule (List TypedStatement × Variables)
+statements_at ms s zero variables xs = Breaks code.Nesting
+statements_at ms s (suc n) variables xs = through (next_statement ms s n (statements_at ms s n)) ([], variables) xs

@@ -1,13 +1,17 @@
 //! The static rules of Oberon-07, and a checker that answers exactly by them.
 #![tactic(auto)]
 
-mod block;
-mod expression;
+mod assignment;
+mod call;
+mod checked;
+mod for_head;
+mod label;
+mod labels;
 mod module;
+mod procedure;
+mod shapes;
+mod standard_call;
 mod statement;
 
-pub use block::Entry;
+pub use checked::{Checked, Imported};
 pub use module::check;
-
-#[cfg(test)]
-mod tests;

@@ -1,238 +1,276 @@
-//! Imports, declarations, modules.
+//! Modules.
 
-ghost use Rattle.std.specs.Prelude.{◌≡◌, [], ◌∷◌, List, IfOk};
-ghost use Rattle.ob_check.specs.Rule.{Judges, gives, AnswersTree, FaultsOnly, through};
+ghost use Rattle.std.specs.Prelude.{◌≡◌, ◌++◌, [], option_copied, IfOk, IfErr};
+ghost use Rattle.ob_parse.specs.declared.tree.Declarations.{out-Declarations};
+ghost use Rattle.ob_declare.specs.Rule.{Judges, gives, AnswersTree, FaultsOnly};
+ghost use Rattle.ob_check.specs.CheckedTree.{CheckedTree};
+ghost use Rattle.ob_check.specs.Codes.{is_of_checker, HasCheckCode};
 ghost use Rattle.ob_check.specs.Modules as spec;
-ghost use Rattle.ob_mean.specs.ModuleTree.{ModuleTree};
 
-use crate::block::{Block, Entry};
-use crate::expression::{fault, not_followed};
-use crate::statement::statements;
+use crate::checked::{Checked, Imported};
+use crate::procedure::procedures;
+use crate::shapes::shape_of;
+use crate::statement::optional;
 use ob_base::{Code, Items, Refused, Text};
-use ob_mean::TypedModule;
-use ob_mean::tree::TypedProcedure;
-use ob_parse::tree::{Declarations, Ident, IdentDef, Import, Module, TypeExpr, TypedNames};
-use ob_scan::Span;
-use std::alloc::Global;
+use ob_declare::{
+    Declared, Entry, Imports, LoadedModule, MAX_NESTING, Scope, Standing, declared_by,
+    exported_procedures, interface_of,
+};
+use ob_express::Variables;
+use ob_mean::whole::{ModuleVariable, TypedModule, TypedProcedure, TypedStatement};
+use ob_parse::tree::Module;
+use std::alloc::{AllocError, Global};
 
-/// How many constructs nest.
-const MAX_NESTING: u32 = 200;
-
-/// How many cells the variables of a module take.
-const MAX_CELLS: usize = 262_144;
-
-/// What was declared so far: the names, and how many variables are among them.
-#[derive(Drop)]
-pub struct Declaring {
-    pub scope: Block,
-    pub variables: usize,
-}
-
-/// A module that is there without being loaded, or another.
-#[derive(Clone, Copy, Debug, PartialEq, Eq)]
-pub enum NamedModule {
-    Out,
-    In,
-    System,
-    Other,
-}
-
-fn module_named(name: &Text) -> NamedModule
-    ensures { result ≡ spec.module_named name.now }
-{
-    let name = name.as_slice();
-    if name == b"Out".as_slice() {
-        NamedModule::Out
-    } else if name == b"In".as_slice() {
-        NamedModule::In
-    } else if name == b"SYSTEM".as_slice() {
-        NamedModule::System
-    } else {
-        NamedModule::Other
-    }
-}
-
-/// What is imported at this place.
-#[tactic(auto, unfolding(crate::specs::Modules::imported))]
-fn imported(name: NamedModule, span: Span) -> Result<Entry, Refused>
-    ensures { Judges (spec.imported name) result }
-{
-    match name {
-        NamedModule::Out => Ok(Entry::Out),
-        NamedModule::In => Err(not_followed()),
-        NamedModule::System => Err(Refused::Fault(fault(Code::LeftOut, span))),
-        NamedModule::Other => Err(Refused::Fault(fault(Code::NotLoaded, span))),
-    }
-}
-
-/// The name that an imported module has itself.
-fn own_name(import: &Import) -> &Ident
-    ensures { result.now.name ≡ spec.own_name import.now.name import.now.module_name }
-{
-    match &import.module_name {
-        Some(own) => own,
-        None => &import.name,
-    }
-}
-
-/// One import more.
-#[tactic(auto, unfolding(crate::specs::Modules::import_rule))]
-fn import(
+fn exported_variable(
     alloc: Global,
-    module_name: &Text,
-    so_far: Block,
-    import: &Import,
-) -> Result<Block, Refused>
-    ensures { Judges (spec.import_rule module_name.now so_far import.now) result }
+    so_far: Variables,
+    entry: &Entry,
+) -> Result<Variables, AllocError>
+    ensures { IfOk result (λ vs. vs ≡ so_far ++ spec.exported_variable entry.now) }
 {
     let mut so_far = so_far;
-    let own = own_name(import);
-    if own.name.same(module_name) {
-        return Err(Refused::Fault(fault(Code::ImportsItself, own.span)));
-    }
-    let entry = imported(module_named(&own.name), own.span)?;
-    if so_far.find(&import.name.name).is_some() {
-        return Err(Refused::Fault(fault(Code::DeclaredTwice, import.name.span)));
-    }
-    so_far.declare(alloc, &import.name.name, entry)?;
-    Ok(so_far)
-}
-
-fn imports(alloc: Global, module_name: &Text, list: &[Import]) -> Result<Block, Refused>
-    ensures { Judges (through (spec.import_rule module_name.now) [] list.now) result }
-{
-    let mut so_far = Block::new(alloc);
-    for one in list {
-        so_far = import(alloc, module_name, so_far, one)?;
-    }
-    Ok(so_far)
-}
-
-/// The type of variables, which is INTEGER.
-#[tactic(auto, unfolding(crate::specs::Modules::type_rule))]
-fn integer_type(scope: &Block, t: &TypeExpr) -> Result<(), Refused>
-    ensures { Judges (spec.type_rule scope.now t.now) result }
-{
-    match t {
-        TypeExpr::Named(name) => {
-            if !(name.second.is_none() && name.first.name.as_slice() == b"INTEGER".as_slice()) {
-                return Err(not_followed());
-            }
-            if scope.find(&name.first.name).is_some() {
-                return Err(Refused::Fault(fault(Code::Types, name.first.span)));
-            }
-            Ok(())
+    match entry {
+        Entry::Variable(of, Standing::Exported(_)) => {
+            so_far.push(ModuleVariable::Declared(shape_of(alloc, of)?))?;
+            Ok(so_far)
         }
-        TypeExpr::Array(_, _, _) => Err(not_followed()),
-        TypeExpr::Record(_, _) => Err(not_followed()),
+        _ => Ok(so_far),
     }
 }
 
-/// One variable more.
-#[tactic(auto, unfolding(crate::specs::Modules::variable_rule))]
-fn variable(alloc: Global, so_far: Declaring, name: &IdentDef) -> Result<Declaring, Refused>
-    ensures { Judges (spec.variable_rule so_far name.now) result }
+/// The variables that others see.
+fn exported_variables(alloc: Global, declared: &[Declared]) -> Result<Variables, AllocError>
+    ensures { IfOk result (λ vs. vs ≡ spec.exported_variables declared.now) }
 {
-    let mut so_far = so_far;
-    let ident = &name.name;
-    if so_far.scope.find(&ident.name).is_some() {
-        return Err(Refused::Fault(fault(Code::DeclaredTwice, ident.span)));
+    let mut so_far = Items::new(alloc);
+    for d in declared {
+        so_far = exported_variable(alloc, so_far, &d.entry)?;
     }
-    if so_far.variables >= MAX_CELLS {
-        return Err(Refused::Fault(fault(Code::Size, ident.span)));
-    }
-    so_far
-        .scope
-        .declare(alloc, &ident.name, Entry::Variable(so_far.variables))?;
-    so_far.variables += 1;
     Ok(so_far)
 }
 
-fn variables(alloc: Global, first: Declaring, names: &[IdentDef]) -> Result<Declaring, Refused>
-    ensures { Judges (through spec.variable_rule first names.now) result }
+fn own_variable(alloc: Global, so_far: Variables, entry: &Entry) -> Result<Variables, AllocError>
+    ensures { IfOk result (λ vs. vs ≡ so_far ++ spec.own_variable entry.now) }
+{
+    let mut so_far = so_far;
+    match entry {
+        Entry::Variable(of, Standing::Own(_)) => {
+            so_far.push(ModuleVariable::Declared(shape_of(alloc, of)?))?;
+            Ok(so_far)
+        }
+        _ => Ok(so_far),
+    }
+}
+
+/// The other variables, behind these.
+fn own_variables(
+    alloc: Global,
+    first: Variables,
+    declared: &[Declared],
+) -> Result<Variables, AllocError>
+    ensures { IfOk result (λ vs. vs ≡ first ++ spec.own_variables declared.now) }
 {
     let mut so_far = first;
-    for name in names {
-        so_far = variable(alloc, so_far, name)?;
+    for d in declared {
+        so_far = own_variable(alloc, so_far, &d.entry)?;
     }
     Ok(so_far)
 }
 
-/// Variables of one type.
-#[tactic(auto, unfolding(crate::specs::Modules::variables_rule))]
-fn typed_names(alloc: Global, so_far: Declaring, names: &TypedNames) -> Result<Declaring, Refused>
-    ensures { Judges (spec.variables_rule so_far names.now) result }
+/// All variables of the module that are declared: those that others see come first.
+fn declared_variables(alloc: Global, declared: &[Declared]) -> Result<Variables, AllocError>
+    ensures { IfOk result (λ vs. vs ≡ spec.declared_variables declared.now) }
 {
-    integer_type(&so_far.scope, names.of.get())?;
-    variables(alloc, so_far, names.names.as_slice())
+    let exported = exported_variables(alloc, declared)?;
+    own_variables(alloc, exported, declared)
 }
 
-fn all_variables(alloc: Global, scope: Block, lists: &[TypedNames]) -> Result<Declaring, Refused>
-    ensures { Judges (through spec.variables_rule (record { scope = scope; variables = 0 }) lists.now) result }
+/// The import of a loaded module, with its key, behind these.
+fn with_key(
+    alloc: Global,
+    so_far: Items<Imported>,
+    loaded: Option<&LoadedModule>,
+) -> Result<Items<Imported>, AllocError>
+    ensures { IfOk result (λ is. is ≡ so_far ++ spec.with_key (option_copied loaded.entry)) }
 {
-    let mut so_far = Declaring {
-        scope,
-        variables: 0,
+    let mut so_far = so_far;
+    match loaded {
+        Some(loaded) => {
+            let interface = loaded.interface();
+            let name = interface.name().copy(alloc)?;
+            let key = Text::from_slice(alloc, interface.key().as_bytes())?;
+            so_far.push(Imported { name, key })?;
+            Ok(so_far)
+        }
+        None => Ok(so_far),
+    }
+}
+
+fn imported_by(
+    alloc: Global,
+    imports: &Imports,
+    so_far: Items<Imported>,
+    entry: &Entry,
+) -> Result<Items<Imported>, AllocError>
+    ensures { IfOk result (λ is. is ≡ so_far ++ spec.imported_by imports.now entry.now) }
+{
+    match entry {
+        Entry::Module(_, place) => with_key(alloc, so_far, imports.modules().get(*place)),
+        _ => Ok(so_far),
+    }
+}
+
+fn all_imported(
+    alloc: Global,
+    imports: &Imports,
+    declared: &[Declared],
+) -> Result<Items<Imported>, AllocError>
+    ensures { IfOk result (λ is. is ≡ spec.all_imported imports.now declared.now) }
+{
+    let mut so_far = Items::new(alloc);
+    for d in declared {
+        so_far = imported_by(alloc, imports, so_far, &d.entry)?;
+    }
+    Ok(so_far)
+}
+
+/// A checked module as its parts make it, or want of memory.
+fn checked_of(
+    alloc: Global,
+    imports: &Imports,
+    scope: &Scope,
+    procedures: Items<TypedProcedure>,
+    body: Items<TypedStatement>,
+    variables: Variables,
+) -> Result<Checked, AllocError>
+    ensures { IfOk result (λ c. c ≡ spec.checked_of imports.now scope.now procedures body variables) }
+{
+    let declared = scope.block.declared();
+    let exported = exported_procedures(alloc, declared)?;
+    let interface = interface_of(alloc, &scope.module_name, &scope.block)?;
+    let imported = all_imported(alloc, imports, declared)?;
+    let tree = TypedModule {
+        name: scope.module_name.copy(alloc)?,
+        variables,
+        procedures,
+        exported,
+        body,
     };
-    for names in lists {
-        so_far = typed_names(alloc, so_far, names)?;
-    }
-    Ok(so_far)
+    Ok(Checked::new(tree, interface, imported))
 }
 
-/// The declarations behind the imports.
-#[tactic(auto, unfolding(crate::specs::Modules::declarations_rule))]
-fn declarations(alloc: Global, scope: Block, d: &Declarations) -> Result<Declaring, Refused>
-    ensures { Judges (spec.declarations_rule scope d.now) result }
+/// The body of a module, behind its procedures.
+#[tactic(auto, unfolding(crate::specs::Modules::body_rule))]
+fn with_body(
+    alloc: Global,
+    imports: &Imports,
+    scope: Scope,
+    done: Items<TypedProcedure>,
+    variables: Variables,
+    tree: &Module,
+) -> Result<Checked, Refused>
+    ensures { Judges (spec.body_rule imports.now (scope, done, variables) tree.now) result }
 {
-    if !d.constants.as_slice().is_empty() {
-        return Err(not_followed());
-    }
-    if !d.types.as_slice().is_empty() {
-        return Err(not_followed());
-    }
-    if !d.procedures.as_slice().is_empty() {
-        return Err(not_followed());
-    }
-    all_variables(alloc, scope, d.variables.as_slice())
+    let list = tree.body.as_slice();
+    let span = tree.name.span;
+    let (body, variables) = optional(alloc, imports, &scope, MAX_NESTING, variables, list, span)?;
+    let checked = checked_of(alloc, imports, &scope, done, body, variables)?;
+    Ok(checked)
 }
 
-fn is_reserved(name: NamedModule) -> bool
-    ensures { result ≡ spec.is_reserved name }
+/// The procedures of a module, and then its body.
+#[tactic(auto, unfolding(crate::specs::Modules::procedures_rule))]
+fn with_procedures(
+    alloc: Global,
+    imports: &Imports,
+    scope: Scope,
+    variables: Variables,
+    tree: &Module,
+) -> Result<Checked, Refused>
+    ensures { Judges (spec.procedures_rule imports.now scope variables tree.now) result }
 {
-    match name {
-        NamedModule::Other => false,
+    let none = Items::new(alloc);
+    let list = tree.declarations.get().procedures.as_slice();
+    let (scope, done, variables) = procedures(
+        alloc,
+        imports,
+        MAX_NESTING,
+        scope,
+        none,
+        variables,
+        list,
+    )?;
+    with_body(alloc, imports, scope, done, variables, tree)
+}
+
+/// What stands behind the declarations of a module.
+#[tactic(auto, unfolding(crate::specs::Modules::checked_rule))]
+fn behind_declarations(
+    alloc: Global,
+    imports: &Imports,
+    scope: Scope,
+    tree: &Module,
+) -> Result<Checked, Refused>
+    ensures { Judges (spec.checked_rule imports.now scope tree.now) result }
+{
+    let variables = declared_variables(alloc, scope.block.declared())?;
+    with_procedures(alloc, imports, scope, variables, tree)
+}
+
+#[tactic(auto, unfolding(crate::specs::Modules::module_at))]
+fn module_of(alloc: Global, imports: &Imports, tree: &Module) -> Result<Checked, Refused>
+    ensures { Judges (spec.module_at imports.now tree.now) result }
+{
+    let scope = declared_by(alloc, imports, tree)?;
+    behind_declarations(alloc, imports, scope, tree)
+}
+
+/// Whether a code is one of a checker's.
+fn is_of_checker(code: Code) -> bool
+    ensures { result ≡ is_of_checker code }
+{
+    match code {
+        Code::Character
+        | Code::Comment
+        | Code::String
+        | Code::Number
+        | Code::Token
+        | Code::EndName => false,
         _ => true,
     }
 }
 
-/// The typed tree of a module.
-#[tactic(auto, unfolding(crate::specs::Modules::module_rule))]
-fn module_of(alloc: Global, tree: &Module) -> Result<TypedModule, Refused>
-    ensures { Judges (spec.module_rule tree.now) result }
+/// What the rules give, with a checker's code where they are broken.
+fn judged(alloc: Global, imports: &Imports, tree: &Module) -> Result<Checked, Refused>
+    ensures judged { Judges (spec.module_at imports.now tree.now) result }
+    ensures codes { IfErr result (λ e. HasCheckCode e) }
 {
-    if is_reserved(module_named(&tree.name.name)) {
-        return Err(Refused::Fault(fault(Code::DeclaredTwice, tree.name.span)));
+    match module_of(alloc, imports, tree) {
+        Ok(checked) => Ok(checked),
+        Err(Refused::Memory) => Err(Refused::Memory),
+        Err(Refused::Fault(fault)) => {
+            if is_of_checker(fault.code) {
+                Err(Refused::Fault(fault))
+            } else {
+                Err(Refused::Memory)
+            }
+        }
     }
-    let scope = imports(alloc, &tree.name.name, tree.imports.as_slice())?;
-    let declared = declarations(alloc, scope, tree.declarations.get())?;
-    let body = statements(alloc, &declared.scope, MAX_NESTING, tree.body.as_slice())?;
-    let mut procedures = Items::new(alloc);
-    procedures.push(TypedProcedure { body })?;
-    Ok(TypedModule::from_parts(declared.variables, procedures))
 }
 
-/// The typed tree of a module by the static rules of Oberon-07, or a rule that it breaks.
+/// The typed tree of a module, its interface and its imports, by the static rules of Oberon-07 (Wirth, The Programming Language
+/// Oberon), over the modules that are loaded.
 ///
-/// `Refused::Fault` has the code of a broken rule and the place of a token there; `Refused::Memory`
-/// where memory was refused.
-pub fn check(alloc: Global, tree: &Module) -> Result<TypedModule, Refused>
-    // What is answered is the module's typed tree.
-    ensures found { IfOk result (λ t. gives (spec.module_rule tree.now) t) }
-    // Where there is a typed tree it is answered, unless memory runs out.
-    ensures only { (t : ModuleTree) → gives (spec.module_rule tree.now) t → AnswersTree t result }
-    // The code of a refusal is broken, and then there is no typed tree.
-    ensures faults { FaultsOnly (spec.module_rule tree.now) result }
+/// `Refused::Fault` has the code of a broken rule and the place of a token there; `Refused::Memory` where memory was refused.
+pub fn check(alloc: Global, tree: &Module, imports: &Imports) -> Result<Checked, Refused>
+    // What is answered is what the rules give.
+    ensures found { IfOk result (λ c. gives (spec.module_at imports.now tree.now) c) }
+    // Where the rules give a checked module it is answered, unless memory runs out.
+    ensures only { (c : CheckedTree) → gives (spec.module_at imports.now tree.now) c → AnswersTree c result }
+    // The code of a refusal is broken, and then the rules give none.
+    ensures faults { FaultsOnly (spec.module_at imports.now tree.now) result }
+    // The code is one of the static rules, 10 to 21, or that of constructs which nest too deep.
+    ensures codes { IfErr result (λ e. HasCheckCode e) }
 {
-    module_of(alloc, tree)
+    judged(alloc, imports, tree)
 }

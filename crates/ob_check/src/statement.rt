@@ -2,279 +2,443 @@
 
 ghost use Rattle.std.specs.Prelude.{◌≡◌, []};
 ghost use Rattle.ob_parse.specs.declared.tree.Branch.{out-Branch};
-ghost use Rattle.ob_parse.specs.declared.tree.Designator.{out-Designator};
-ghost use Rattle.ob_parse.specs.declared.tree.Selector.{out-Selector};
-ghost use Rattle.ob_check.specs.Rule.{Judges, through};
+ghost use Rattle.ob_parse.specs.declared.tree.Case.{out-Case};
+ghost use Rattle.ob_declare.specs.Rule.{Judges, through};
 ghost use Rattle.ob_check.specs.Statements as spec;
 
-use crate::block::{Block, Entry};
-use crate::expression::{START, expr, fault, not_followed, open};
-use ob_base::{Code, Items, Refused, Text};
-use ob_mean::tree::{TypedExpr, TypedStatement};
-use ob_parse::tree::{Branch, Designator, Expr, Selector, Statement};
+use crate::assignment::assignment;
+use crate::call::call;
+use crate::for_head::for_head;
+use crate::label::{is_character, labels};
+use crate::labels::Labels;
+use ob_base::{Code, Items, Refused};
+use ob_declare::fault::{fault, open};
+use ob_declare::{Imports, Scope};
+use ob_express::Variables;
+use ob_express::value::{guard, value};
+use ob_mean::whole::{
+    Branch as TypedBranch, CaseArm, LabelRange as TypedRange, TypedExpr, TypedStatement,
+};
+use ob_parse::tree::{Branch, Case, Expr, ForHead, LabelRange, Statement};
 use ob_scan::Span;
 use ob_types::Basic;
 use std::alloc::Global;
 
-/// A name that the module Out exports.
-#[derive(Clone, Copy, Debug, PartialEq, Eq)]
-pub enum OutName {
-    Int,
-    Ln,
-    /// One that is not followed yet.
-    Later,
-}
-
-fn out_name(name: &Text) -> Option<OutName>
-    ensures { result ≡ spec.out_name name.now }
-{
-    let name = name.as_slice();
-    if name == b"Int".as_slice() {
-        Some(OutName::Int)
-    } else if name == b"Ln".as_slice() {
-        Some(OutName::Ln)
-    } else if name == b"Char".as_slice()
-        || name == b"String".as_slice()
-        || name == b"Open".as_slice()
-    {
-        Some(OutName::Later)
-    } else {
-        None
-    }
-}
-
-/// An expression of type INTEGER, in a statement that begins at this token.
-#[tactic(auto, unfolding(crate::specs::Statements::number_at))]
-fn number(
+/// Statements that need not be there.
+#[cycle(statement)]
+#[tactic(auto, unfolding(crate::specs::Statements::optional))]
+pub fn optional(
     alloc: Global,
-    scope: &Block,
+    imports: &Imports,
+    scope: &Scope,
     levels: u32,
+    variables: Variables,
+    xs: &[Statement],
     span: Span,
-    e: &Expr,
-) -> Result<TypedExpr, Refused>
-    ensures { Judges (spec.number_at scope.now levels e.now) result }
+) -> Result<(Items<TypedStatement>, Variables), Refused>
+    ensures { Judges (spec.optional imports.now scope.now levels (spec.statements_at imports.now scope.now levels) variables xs.now) result }
 {
-    let value = expr(alloc, scope, levels, e)?;
-    match value.basic {
-        Basic::Integer => Ok(value.tree),
-        _ => Err(Refused::Fault(fault(Code::Types, span))),
+    match xs {
+        [] => Ok((Items::new(alloc), variables)),
+        [_, ..] => statements(alloc, imports, scope, levels, variables, xs, span),
     }
 }
 
-/// A variable that may be written.
-#[tactic(auto, unfolding(crate::specs::Statements::writable))]
-fn writable(entry: Entry, d: &Designator) -> Result<usize, Refused>
-    ensures { Judges (spec.writable entry (out-Designator d.now).selectors) result }
-{
-    match (entry, d.selectors.as_slice()) {
-        (Entry::Variable(x), []) => Ok(x),
-        (Entry::Variable(_), _) => Err(Refused::Fault(fault(Code::Types, d.name.span))),
-        (Entry::Out, _) => Err(Refused::Fault(fault(Code::ReadOnly, d.name.span))),
-    }
-}
-
-#[tactic(auto, unfolding(crate::specs::Statements::target))]
-fn target(scope: &Block, d: &Designator) -> Result<usize, Refused>
-    ensures { Judges (spec.target scope.now d.now) result }
-{
-    match scope.find(&d.name.name) {
-        Some(entry) => writable(*entry, d),
-        None => Err(Refused::Fault(fault(Code::UnknownName, d.name.span))),
-    }
-}
-
-#[tactic(auto, unfolding(crate::specs::Statements::assignment))]
-fn assignment(
+/// One guard more with its statements.
+#[cycle(statement)]
+#[tactic(auto, unfolding(crate::specs::Statements::next_branch))]
+fn next_branch(
     alloc: Global,
-    scope: &Block,
+    imports: &Imports,
+    scope: &Scope,
     levels: u32,
-    d: &Designator,
-    e: &Expr,
-) -> Result<Option<TypedStatement>, Refused>
-    ensures { Judges (spec.assignment scope.now levels d.now e.now) result }
+    before: Items<TypedBranch>,
+    variables: Variables,
+    b: &Branch,
+) -> Result<(Items<TypedBranch>, Variables), Refused>
+    ensures { Judges (spec.next_branch imports.now scope.now levels (spec.statements_at imports.now scope.now levels) (before, variables) b.now) result }
 {
-    let variable = target(scope, d)?;
-    let value = number(alloc, scope, levels, d.name.span, e)?;
-    Ok(Some(TypedStatement::Assign(variable, value)))
+    let mut before = before;
+    let condition = b.guard.get();
+    let (guard, variables) = guard(alloc, imports, scope, levels, variables, condition)?;
+    let (body, variables) = statements(
+        alloc,
+        imports,
+        scope,
+        levels,
+        variables,
+        b.body.as_slice(),
+        condition.first_token(),
+    )?;
+    before.push(TypedBranch { guard, body })?;
+    Ok((before, variables))
 }
 
-/// `Out.Int` with a number and a width.
-#[tactic(auto, unfolding(crate::specs::Statements::out_int))]
-fn out_int(
+#[cycle(statement)]
+fn more_branches(
     alloc: Global,
-    scope: &Block,
+    imports: &Imports,
+    scope: &Scope,
     levels: u32,
-    span: Span,
-    actuals: &Option<Items<Expr>>,
-) -> Result<Option<TypedStatement>, Refused>
-    ensures { Judges (spec.out_int scope.now levels actuals.now) result }
+    first: Items<TypedBranch>,
+    variables: Variables,
+    others: &[Branch],
+) -> Result<(Items<TypedBranch>, Variables), Refused>
+    ensures { Judges (through (spec.next_branch imports.now scope.now levels (spec.statements_at imports.now scope.now levels)) (first, variables) others.now) result }
 {
-    let Some(actuals) = actuals else {
-        return Err(Refused::Fault(fault(Code::Parameters, span)));
-    };
-    match actuals.as_slice() {
-        [value, width] => {
-            let value = number(alloc, scope, levels, span, value)?;
-            let width = number(alloc, scope, levels, span, width)?;
-            Ok(Some(TypedStatement::OutInt(value, width)))
-        }
-        _ => Err(Refused::Fault(fault(Code::Parameters, span))),
+    let mut done = first;
+    let mut so_far = variables;
+    for b in others {
+        let (more, variables) = next_branch(alloc, imports, scope, levels, done, so_far, b)?;
+        done = more;
+        so_far = variables;
     }
+    Ok((done, so_far))
 }
 
-/// `Out.Ln`.
-#[tactic(auto, unfolding(crate::specs::Statements::out_line))]
-fn out_line(span: Span, actuals: &Option<Items<Expr>>) -> Result<Option<TypedStatement>, Refused>
-    ensures { Judges (spec.out_line actuals.now) result }
-{
-    let Some(actuals) = actuals else {
-        return Ok(Some(TypedStatement::OutLn));
-    };
-    match actuals.as_slice() {
-        [] => Ok(Some(TypedStatement::OutLn)),
-        [_, ..] => Err(Refused::Fault(fault(Code::Parameters, span))),
-    }
-}
-
-#[tactic(auto, unfolding(crate::specs::Statements::out_call))]
-fn out_call(
+#[cycle(statement)]
+#[tactic(auto, unfolding(crate::specs::Statements::branches))]
+fn branches(
     alloc: Global,
-    scope: &Block,
+    imports: &Imports,
+    scope: &Scope,
     levels: u32,
-    span: Span,
-    actuals: &Option<Items<Expr>>,
-    name: OutName,
-) -> Result<Option<TypedStatement>, Refused>
-    ensures { Judges (spec.out_call scope.now levels actuals.now name) result }
+    variables: Variables,
+    first: &Branch,
+    others: &[Branch],
+) -> Result<(Items<TypedBranch>, Variables), Refused>
+    ensures { Judges (spec.branches imports.now scope.now levels (spec.statements_at imports.now scope.now levels) variables first.now others.now) result }
 {
-    match name {
-        OutName::Int => out_int(alloc, scope, levels, span, actuals),
-        OutName::Ln => out_line(span, actuals),
-        OutName::Later => Err(not_followed()),
-    }
+    let none = Items::new(alloc);
+    let (done, variables) = next_branch(alloc, imports, scope, levels, none, variables, first)?;
+    more_branches(alloc, imports, scope, levels, done, variables, others)
 }
 
-/// A call of what stands behind the name of the module Out.
-fn called_of_out(
+#[cycle(statement)]
+#[tactic(auto, unfolding(crate::specs::Statements::if_rule))]
+fn if_statement(
     alloc: Global,
-    scope: &Block,
+    imports: &Imports,
+    scope: &Scope,
     levels: u32,
-    span: Span,
-    actuals: &Option<Items<Expr>>,
-    selector: &Selector,
-) -> Result<Option<TypedStatement>, Refused>
-    ensures { Judges (spec.called_layer scope.now levels actuals.now (out-Selector selector.now)) result }
+    variables: Variables,
+    first: &Branch,
+    others: &[Branch],
+    rest: &[Statement],
+) -> Result<(TypedStatement, Variables), Refused>
+    ensures { Judges (spec.if_rule imports.now scope.now levels (spec.statements_at imports.now scope.now levels) variables first.now others.now rest.now) result }
 {
-    match selector {
-        Selector::Field(field) => match out_name(&field.name) {
-            Some(name) => out_call(alloc, scope, levels, span, actuals, name),
-            None => Err(Refused::Fault(fault(Code::NotExported, field.span))),
-        },
-        Selector::Index(_) => Err(Refused::Fault(fault(Code::Types, span))),
-    }
-}
-
-#[tactic(auto, unfolding(crate::specs::Statements::called))]
-fn called(
-    alloc: Global,
-    scope: &Block,
-    levels: u32,
-    d: &Designator,
-    actuals: &Option<Items<Expr>>,
-    entry: Entry,
-) -> Result<Option<TypedStatement>, Refused>
-    ensures { Judges (spec.called scope.now levels actuals.now entry (out-Designator d.now).selectors) result }
-{
-    match (entry, d.selectors.as_slice()) {
-        (Entry::Out, [selector]) => called_of_out(
-            alloc,
-            scope,
-            levels,
-            d.name.span,
-            actuals,
-            selector,
-        ),
-        _ => Err(Refused::Fault(fault(Code::Types, d.name.span))),
-    }
-}
-
-#[tactic(auto, unfolding(crate::specs::Statements::call))]
-fn call(
-    alloc: Global,
-    scope: &Block,
-    levels: u32,
-    d: &Designator,
-    actuals: &Option<Items<Expr>>,
-) -> Result<Option<TypedStatement>, Refused>
-    ensures { Judges (spec.call scope.now levels d.now actuals.now) result }
-{
-    match scope.find(&d.name.name) {
-        Some(entry) => called(alloc, scope, levels, d, actuals, *entry),
-        None => Err(Refused::Fault(fault(Code::UnknownName, d.name.span))),
-    }
-}
-
-/// An expression of type BOOLEAN.
-#[tactic(auto, unfolding(crate::specs::Statements::guard))]
-fn guard(
-    alloc: Global,
-    scope: &Block,
-    levels: u32,
-    span: Span,
-    e: &Expr,
-) -> Result<TypedExpr, Refused>
-    ensures { Judges (spec.guard scope.now levels e.now) result }
-{
-    let value = expr(alloc, scope, levels, e)?;
-    match value.basic {
-        Basic::Boolean => Ok(value.tree),
-        _ => Err(Refused::Fault(fault(Code::Types, span))),
-    }
+    let span = first.guard.get().first_token();
+    let (done, variables) = branches(alloc, imports, scope, levels, variables, first, others)?;
+    let (rest, variables) = optional(alloc, imports, scope, levels, variables, rest, span)?;
+    Ok((TypedStatement::If(done, rest), variables))
 }
 
 #[cycle(statement)]
 #[tactic(auto, unfolding(crate::specs::Statements::while_rule))]
-fn while_loop(
+fn while_statement(
     alloc: Global,
-    scope: &Block,
+    imports: &Imports,
+    scope: &Scope,
     levels: u32,
+    variables: Variables,
     first: &Branch,
     others: &[Branch],
-) -> Result<Option<TypedStatement>, Refused>
-    ensures { Judges (spec.while_rule scope.now levels (spec.statements_at scope.now levels) first.now others.now) result }
+) -> Result<(TypedStatement, Variables), Refused>
+    ensures { Judges (spec.while_rule imports.now scope.now levels (spec.statements_at imports.now scope.now levels) variables first.now others.now) result }
 {
-    match others {
-        [] => {
-            let condition = guard(alloc, scope, levels, START, first.guard.get())?;
-            let body = statements(alloc, scope, levels, first.body.as_slice())?;
-            Ok(Some(TypedStatement::While(condition, body)))
+    let (done, variables) = branches(alloc, imports, scope, levels, variables, first, others)?;
+    Ok((TypedStatement::While(done), variables))
+}
+
+/// The arm of these labels.
+#[cycle(statement)]
+#[tactic(auto, unfolding(crate::specs::Statements::arm_of))]
+fn arm_of(
+    alloc: Global,
+    imports: &Imports,
+    scope: &Scope,
+    levels: u32,
+    all: Labels,
+    labels: Items<TypedRange>,
+    arms: Items<CaseArm>,
+    variables: Variables,
+    body: &[Statement],
+    span: Span,
+) -> Result<(Labels, Items<CaseArm>, Variables), Refused>
+    ensures { Judges (spec.arm_of imports.now scope.now levels (spec.statements_at imports.now scope.now levels) (all, labels) arms variables body.now) result }
+{
+    let mut arms = arms;
+    let (body, variables) = statements(alloc, imports, scope, levels, variables, body, span)?;
+    arms.push(CaseArm { labels, body })?;
+    Ok((all, arms, variables))
+}
+
+/// One case more, which may be empty.
+#[cycle(statement)]
+#[tactic(auto, unfolding(crate::specs::Statements::case_of))]
+fn case_of(
+    alloc: Global,
+    imports: &Imports,
+    scope: &Scope,
+    levels: u32,
+    character: bool,
+    all: Labels,
+    arms: Items<CaseArm>,
+    variables: Variables,
+    list: &[LabelRange],
+    body: &[Statement],
+    span: Span,
+) -> Result<(Labels, Items<CaseArm>, Variables), Refused>
+    ensures { Judges (spec.case_of imports.now scope.now levels (spec.statements_at imports.now scope.now levels) character (all, arms, variables) list.now body.now) result }
+{
+    match list {
+        [] => Ok((all, arms, variables)),
+        [_, ..] => {
+            let (all, own) = labels(alloc, imports, scope, character, all, list)?;
+            arm_of(
+                alloc, imports, scope, levels, all, own, arms, variables, body, span,
+            )
         }
-        [_, ..] => Err(not_followed()),
     }
+}
+
+#[cycle(statement)]
+#[tactic(auto, unfolding(crate::specs::Statements::next_case))]
+fn next_case(
+    alloc: Global,
+    imports: &Imports,
+    scope: &Scope,
+    levels: u32,
+    character: bool,
+    all: Labels,
+    arms: Items<CaseArm>,
+    variables: Variables,
+    x: &Case,
+    span: Span,
+) -> Result<(Labels, Items<CaseArm>, Variables), Refused>
+    ensures { Judges (spec.next_case imports.now scope.now levels (spec.statements_at imports.now scope.now levels) character (all, arms, variables) x.now) result }
+{
+    case_of(
+        alloc,
+        imports,
+        scope,
+        levels,
+        character,
+        all,
+        arms,
+        variables,
+        x.labels.as_slice(),
+        x.body.as_slice(),
+        span,
+    )
+}
+
+#[cycle(statement)]
+fn all_cases(
+    alloc: Global,
+    imports: &Imports,
+    scope: &Scope,
+    levels: u32,
+    character: bool,
+    variables: Variables,
+    cases: &[Case],
+    span: Span,
+) -> Result<(Labels, Items<CaseArm>, Variables), Refused>
+    ensures { Judges (through (spec.next_case imports.now scope.now levels (spec.statements_at imports.now scope.now levels) character) ([], [], variables) cases.now) result }
+{
+    let mut all = Labels::new(alloc);
+    let mut arms = Items::new(alloc);
+    let mut so_far = variables;
+    for x in cases {
+        let (longer, more, variables) = next_case(
+            alloc, imports, scope, levels, character, all, arms, so_far, x, span,
+        )?;
+        all = longer;
+        arms = more;
+        so_far = variables;
+    }
+    Ok((all, arms, so_far))
+}
+
+/// The arms of a CASE over this value.
+#[cycle(statement)]
+#[tactic(auto, unfolding(crate::specs::Statements::arms_of))]
+fn arms_of(
+    alloc: Global,
+    imports: &Imports,
+    scope: &Scope,
+    levels: u32,
+    span: Span,
+    basic: Basic,
+    value: TypedExpr,
+    variables: Variables,
+    cases: &[Case],
+) -> Result<(TypedStatement, Variables), Refused>
+    ensures { Judges (spec.arms_of imports.now scope.now levels (spec.statements_at imports.now scope.now levels) span.line (basic, value, variables) cases.now) result }
+{
+    match is_character(basic) {
+        Some(character) => {
+            let (_, arms, variables) = all_cases(
+                alloc, imports, scope, levels, character, variables, cases, span,
+            )?;
+            Ok((TypedStatement::Case(span.line, value, arms), variables))
+        }
+        None => Err(Refused::Fault(fault(Code::Types, span))),
+    }
+}
+
+#[cycle(statement)]
+#[tactic(auto, unfolding(crate::specs::Statements::case_rule))]
+fn case_statement(
+    alloc: Global,
+    imports: &Imports,
+    scope: &Scope,
+    levels: u32,
+    variables: Variables,
+    span: Span,
+    e: &Expr,
+    cases: &[Case],
+) -> Result<(TypedStatement, Variables), Refused>
+    ensures { Judges (spec.case_rule imports.now scope.now levels (spec.statements_at imports.now scope.now levels) variables span.line e.now cases.now) result }
+{
+    let (basic, value, variables) = value(alloc, imports, scope, levels, variables, e)?;
+    arms_of(
+        alloc, imports, scope, levels, span, basic, value, variables, cases,
+    )
+}
+
+#[cycle(statement)]
+#[tactic(auto, unfolding(crate::specs::Statements::repeat_rule))]
+fn repeat_statement(
+    alloc: Global,
+    imports: &Imports,
+    scope: &Scope,
+    levels: u32,
+    variables: Variables,
+    body: &[Statement],
+    e: &Expr,
+) -> Result<(TypedStatement, Variables), Refused>
+    ensures { Judges (spec.repeat_rule imports.now scope.now levels (spec.statements_at imports.now scope.now levels) variables body.now e.now) result }
+{
+    let (body, variables) = statements(
+        alloc,
+        imports,
+        scope,
+        levels,
+        variables,
+        body,
+        e.first_token(),
+    )?;
+    let (condition, variables) = guard(alloc, imports, scope, levels, variables, e)?;
+    Ok((TypedStatement::Repeat(body, condition), variables))
+}
+
+#[cycle(statement)]
+#[tactic(auto, unfolding(crate::specs::Statements::for_rule))]
+fn for_statement(
+    alloc: Global,
+    imports: &Imports,
+    scope: &Scope,
+    levels: u32,
+    variables: Variables,
+    h: &ForHead,
+    body: &[Statement],
+) -> Result<(TypedStatement, Variables), Refused>
+    ensures { Judges (spec.for_rule imports.now scope.now levels (spec.statements_at imports.now scope.now levels) variables h.now body.now) result }
+{
+    let (head, variables) = for_head(alloc, imports, scope, levels, variables, h)?;
+    let (body, variables) = statements(
+        alloc,
+        imports,
+        scope,
+        levels,
+        variables,
+        body,
+        h.variable.span,
+    )?;
+    Ok((TypedStatement::For(head, body), variables))
 }
 
 #[cycle(statement)]
 #[tactic(auto, unfolding(crate::specs::Statements::statement_of))]
 fn statement(
     alloc: Global,
-    scope: &Block,
+    imports: &Imports,
+    scope: &Scope,
     levels: u32,
+    variables: Variables,
     x: &Statement,
-) -> Result<Option<TypedStatement>, Refused>
-    ensures { Judges (spec.statement_of scope.now levels (spec.statements_at scope.now levels) x.now) result }
+) -> Result<(Option<TypedStatement>, Variables), Refused>
+    ensures { Judges (spec.statement_of imports.now scope.now levels (spec.statements_at imports.now scope.now levels) variables x.now) result }
 {
     match x {
-        Statement::Empty => Ok(None),
-        Statement::Assign(d, e) => assignment(alloc, scope, levels, d, e.get()),
-        Statement::Call(d, actuals) => call(alloc, scope, levels, d, actuals),
-        Statement::While(first, others) => while_loop(
-            alloc,
-            scope,
-            levels,
-            first,
-            others.as_slice(),
-        ),
-        _ => Err(not_followed()),
+        Statement::Empty => Ok((None, variables)),
+        Statement::Assign(d, e) => {
+            let (action, variables) = assignment(
+                alloc,
+                imports,
+                scope,
+                levels,
+                variables,
+                d,
+                e.get(),
+            )?;
+            Ok((Some(TypedStatement::Simple(action)), variables))
+        }
+        Statement::Call(d, actuals) => {
+            let (action, variables) = call(alloc, imports, scope, levels, variables, d, actuals)?;
+            Ok((Some(TypedStatement::Simple(action)), variables))
+        }
+        Statement::If(first, others, rest) => {
+            let others = others.as_slice();
+            let rest = rest.as_slice();
+            let (one, variables) = if_statement(
+                alloc, imports, scope, levels, variables, first, others, rest,
+            )?;
+            Ok((Some(one), variables))
+        }
+        Statement::Case(span, e, cases) => {
+            let cases = cases.as_slice();
+            let (one, variables) = case_statement(
+                alloc,
+                imports,
+                scope,
+                levels,
+                variables,
+                *span,
+                e.get(),
+                cases,
+            )?;
+            Ok((Some(one), variables))
+        }
+        Statement::While(first, others) => {
+            let others = others.as_slice();
+            let (one, variables) = while_statement(
+                alloc, imports, scope, levels, variables, first, others,
+            )?;
+            Ok((Some(one), variables))
+        }
+        Statement::Repeat(body, e) => {
+            let body = body.as_slice();
+            let (one, variables) = repeat_statement(
+                alloc,
+                imports,
+                scope,
+                levels,
+                variables,
+                body,
+                e.get(),
+            )?;
+            Ok((Some(one), variables))
+        }
+        Statement::For(h, body) => {
+            let body = body.as_slice();
+            let (one, variables) = for_statement(
+                alloc, imports, scope, levels, variables, h, body,
+            )?;
+            Ok((Some(one), variables))
+        }
     }
 }
 
@@ -283,49 +447,61 @@ fn statement(
 #[tactic(auto, unfolding(crate::specs::Statements::next_statement))]
 fn next_statement(
     alloc: Global,
-    scope: &Block,
+    imports: &Imports,
+    scope: &Scope,
     levels: u32,
     before: Items<TypedStatement>,
+    variables: Variables,
     x: &Statement,
-) -> Result<Items<TypedStatement>, Refused>
-    ensures { Judges (spec.next_statement scope.now levels (spec.statements_at scope.now levels) before x.now) result }
+) -> Result<(Items<TypedStatement>, Variables), Refused>
+    ensures { Judges (spec.next_statement imports.now scope.now levels (spec.statements_at imports.now scope.now levels) (before, variables) x.now) result }
 {
     let mut all = before;
-    match statement(alloc, scope, levels, x)? {
+    let (one, variables) = statement(alloc, imports, scope, levels, variables, x)?;
+    match one {
         Some(one) => {
             all.push(one)?;
-            Ok(all)
+            Ok((all, variables))
         }
-        None => Ok(all),
+        None => Ok((all, variables)),
     }
 }
 
 #[cycle(statement)]
 fn sequence(
     alloc: Global,
-    scope: &Block,
+    imports: &Imports,
+    scope: &Scope,
     levels: u32,
+    variables: Variables,
     xs: &[Statement],
-) -> Result<Items<TypedStatement>, Refused>
-    ensures { Judges (through (spec.next_statement scope.now levels (spec.statements_at scope.now levels)) [] xs.now) result }
+) -> Result<(Items<TypedStatement>, Variables), Refused>
+    ensures { Judges (through (spec.next_statement imports.now scope.now levels (spec.statements_at imports.now scope.now levels)) ([], variables) xs.now) result }
 {
-    let mut so_far = Items::new(alloc);
+    let mut done = Items::new(alloc);
+    let mut so_far = variables;
     for x in xs {
-        so_far = next_statement(alloc, scope, levels, so_far, x)?;
+        let (more, variables) = next_statement(alloc, imports, scope, levels, done, so_far, x)?;
+        done = more;
+        so_far = variables;
     }
-    Ok(so_far)
+    Ok((done, so_far))
 }
 
+/// A sequence of statements, which opens among so many constructs at this token.
 #[cycle(statement)]
 #[tactic(auto, unfolding(crate::specs::Statements::statements_at))]
 pub fn statements(
     alloc: Global,
-    scope: &Block,
+    imports: &Imports,
+    scope: &Scope,
     levels: u32,
+    variables: Variables,
     xs: &[Statement],
-) -> Result<Items<TypedStatement>, Refused>
-    ensures { Judges (spec.statements_at scope.now levels xs.now) result }
+    span: Span,
+) -> Result<(Items<TypedStatement>, Variables), Refused>
+    ensures { Judges (spec.statements_at imports.now scope.now levels variables xs.now) result }
 {
-    let inside = open(levels, START)?;
-    sequence(alloc, scope, inside, xs)
+    let inside = open(levels, span)?;
+    sequence(alloc, imports, scope, inside, variables, xs)
 }

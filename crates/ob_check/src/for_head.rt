@@ -1,0 +1,165 @@
+//! What stands between FOR and DO.
+
+ghost use Rattle.std.specs.Prelude.{◌≡◌, option_copied};
+ghost use Rattle.ob_declare.specs.Rule.{Judges};
+ghost use Rattle.ob_check.specs.Statements as spec;
+
+use ob_base::{Boxed, Code, Refused};
+use ob_declare::constant::constant;
+use ob_declare::fault::fault;
+use ob_declare::predeclared::Predeclared;
+use ob_declare::{Entry, Imports, Scope, Standing, is_writable};
+use ob_express::Variables;
+use ob_express::value::assigned_value;
+use ob_mean::whole::{ForHead as TypedHead, Variable};
+use ob_parse::tree::{Expr, ForHead, Ident};
+use ob_scan::Span;
+use ob_types::{Basic, Constant, ObType};
+use std::alloc::Global;
+
+/// What is broken where nothing declares the name of a variable.
+fn absent_variable(before: Predeclared) -> Code
+    ensures { result ≡ spec.absent_variable before }
+{
+    match before {
+        Predeclared::LeftOut => Code::LeftOut,
+        Predeclared::Unknown => Code::UnknownName,
+        _ => Code::ReadOnly,
+    }
+}
+
+fn is_integer(of: &ObType) -> bool
+    ensures { result ≡ spec.is_integer of.now }
+{
+    match of {
+        ObType::Basic(Basic::Integer) => true,
+        _ => false,
+    }
+}
+
+#[tactic(auto, unfolding(crate::specs::Statements::counter_of))]
+fn counter_of(
+    scope: &Scope,
+    of: &ObType,
+    standing: Standing,
+    span: Span,
+) -> Result<Variable, Refused>
+    ensures { Judges (spec.counter_of scope.now of.now standing) result }
+{
+    if !is_writable(standing) {
+        return Err(Refused::Fault(fault(Code::ReadOnly, span)));
+    }
+    if !is_integer(of) {
+        return Err(Refused::Fault(fault(Code::Types, span)));
+    }
+    Ok(scope.variable_of(standing))
+}
+
+#[tactic(auto, unfolding(crate::specs::Statements::counter_found))]
+fn counter_found(
+    scope: &Scope,
+    entry: Option<&Entry>,
+    before: Predeclared,
+    span: Span,
+) -> Result<Variable, Refused>
+    ensures { Judges (spec.counter_found scope.now (option_copied entry.entry) before) result }
+{
+    match entry {
+        Some(Entry::Variable(of, standing)) => counter_of(scope, of, *standing, span),
+        Some(_) => Err(Refused::Fault(fault(Code::ReadOnly, span))),
+        None => Err(Refused::Fault(fault(absent_variable(before), span))),
+    }
+}
+
+/// The variable of a FOR.
+#[tactic(auto, unfolding(crate::specs::Statements::counter_named))]
+fn counter_named(scope: &Scope, name: &Ident) -> Result<Variable, Refused>
+    ensures { Judges (spec.counter_named scope.now name.now) result }
+{
+    counter_found(
+        scope,
+        scope.seen(&name.name),
+        scope.outer(&name.name),
+        name.span,
+    )
+}
+
+/// The step that a constant is.
+#[tactic(auto, unfolding(crate::specs::Statements::step_of))]
+fn step_of(constant: &Constant, span: Span) -> Result<i32, Refused>
+    ensures { Judges (spec.step_of constant.now) result }
+{
+    match constant {
+        Constant::Integer(number) => {
+            let number = *number;
+            if number == 0 {
+                return Err(Refused::Fault(fault(Code::NotConstant, span)));
+            }
+            Ok(number)
+        }
+        _ => Err(Refused::Fault(fault(Code::Types, span))),
+    }
+}
+
+#[tactic(auto, unfolding(crate::specs::Statements::step_at))]
+fn step(
+    alloc: Global,
+    imports: &Imports,
+    scope: &Scope,
+    levels: u32,
+    e: &Option<Boxed<Expr>>,
+) -> Result<i32, Refused>
+    ensures { Judges (spec.step_at imports.now scope.now levels e.now) result }
+{
+    match e {
+        None => Ok(1),
+        Some(e) => {
+            let e = e.get();
+            let span = e.first_token();
+            let value = constant(alloc, imports, scope, levels, e, span)?;
+            step_of(&value, span)
+        }
+    }
+}
+
+/// What stands between FOR and DO.
+#[tactic(auto, unfolding(crate::specs::Statements::for_head))]
+pub fn for_head(
+    alloc: Global,
+    imports: &Imports,
+    scope: &Scope,
+    levels: u32,
+    variables: Variables,
+    h: &ForHead,
+) -> Result<(TypedHead, Variables), Refused>
+    ensures { Judges (spec.for_head imports.now scope.now levels variables h.now) result }
+{
+    let variable = counter_named(scope, &h.variable)?;
+    let integer = Basic::Integer;
+    let (first, variables) = assigned_value(
+        alloc,
+        imports,
+        scope,
+        levels,
+        integer,
+        variables,
+        h.first.get(),
+    )?;
+    let (last, variables) = assigned_value(
+        alloc,
+        imports,
+        scope,
+        levels,
+        integer,
+        variables,
+        h.last.get(),
+    )?;
+    let step = step(alloc, imports, scope, levels, &h.step)?;
+    let head = TypedHead {
+        variable,
+        first,
+        last,
+        step,
+    };
+    Ok((head, variables))
+}

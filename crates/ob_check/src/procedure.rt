@@ -1,0 +1,273 @@
+//! Procedures.
+
+ghost use Rattle.std.specs.Prelude.{◌≡◌, ◌++◌, ◌+◌, suc, sum, map, length, IfOk, IfSome, IfNone};
+ghost use Rattle.ob_parse.specs.declared.tree.Procedure.{out-Procedure};
+ghost use Rattle.ob_declare.specs.Rule.{Judges, through};
+ghost use Rattle.ob_check.specs.Procedures as spec;
+
+use crate::shapes::{parameters_of, shape_of};
+use crate::statement::optional;
+use ob_base::{Code, Items, Refused};
+use ob_declare::fault::{fault, open};
+use ob_declare::{
+    Declared, Entered, Entry, Imports, Scope, Standing, declare_all, enter_procedure,
+};
+use ob_express::Variables;
+use ob_express::value::assigned_value;
+use ob_mean::whole::{Shape, TypedExpr, TypedProcedure, TypedStatement};
+use ob_parse::tree::{Procedure, Returned};
+use ob_scan::Span;
+use ob_types::{Basic, Signature};
+use std::alloc::{AllocError, Global};
+
+/// One less, if there is one.
+fn one_less(levels: u32) -> Option<u32>
+    ensures some { IfSome result (λ n. levels ≡ suc n) }
+    ensures none { IfNone result (levels ≡ 0) }
+{
+    if levels == 0 {
+        return None;
+    }
+    Some(levels - 1)
+}
+
+/// How many procedures a procedure is, with those in it. None where that is no number of 64 bits.
+#[cycle(counting)]
+#[tactic(auto, unfolding(crate::specs::Procedures::counted))]
+fn counted(levels: u32, p: &Procedure) -> Option<usize>
+    ensures { IfSome result (λ n. n ≡ spec.counted levels p.now) }
+{
+    match one_less(levels) {
+        None => Some(0),
+        Some(inside) => {
+            let total = all_counted(inside, p.declarations.get().procedures.as_slice())?;
+            total.checked_add(1)
+        }
+    }
+}
+
+#[cycle(counting)]
+fn all_counted(levels: u32, list: &[Procedure]) -> Option<usize>
+    ensures { IfSome result (λ n. n ≡ sum (map (spec.counted levels) list.now)) }
+{
+    let mut total: usize = 0;
+    for p in list {
+        total = total.checked_add(counted(levels, p)?)?;
+    }
+    Some(total)
+}
+
+/// The number of a procedure, behind so many and those in it.
+fn number_of(levels: u32, before: usize, p: &Procedure) -> Result<usize, AllocError>
+    ensures { IfOk result (λ n. n ≡ before + spec.nested levels p.now) }
+{
+    let list = p.declarations.get().procedures.as_slice();
+    match all_counted(levels, list) {
+        Some(inside) => match before.checked_add(inside) {
+            Some(number) => Ok(number),
+            None => Err(AllocError),
+        },
+        None => Err(AllocError),
+    }
+}
+
+/// The variable that a declaration of a procedure makes, if it makes one: the parameters stand before it.
+fn own_shape(
+    alloc: Global,
+    so_far: Items<Shape>,
+    parameters: usize,
+    entry: &Entry,
+) -> Result<Items<Shape>, AllocError>
+    ensures { IfOk result (λ ss. ss ≡ so_far ++ spec.own_shape parameters entry.now) }
+{
+    let mut so_far = so_far;
+    match entry {
+        Entry::Variable(of, Standing::Local(i)) => {
+            if parameters <= *i {
+                so_far.push(shape_of(alloc, of)?)?;
+            }
+            Ok(so_far)
+        }
+        _ => Ok(so_far),
+    }
+}
+
+/// The variables of a procedure, behind so many parameters.
+fn own_shapes(
+    alloc: Global,
+    parameters: usize,
+    declared: &[Declared],
+) -> Result<Items<Shape>, AllocError>
+    ensures { IfOk result (λ ss. ss ≡ spec.own_shapes parameters declared.now) }
+{
+    let mut so_far = Items::new(alloc);
+    for d in declared {
+        so_far = own_shape(alloc, so_far, parameters, &d.entry)?;
+    }
+    Ok(so_far)
+}
+
+/// What stands behind RETURN, in a function alone.
+#[tactic(auto, unfolding(crate::specs::Procedures::result_at))]
+fn returned(
+    alloc: Global,
+    imports: &Imports,
+    scope: &Scope,
+    levels: u32,
+    basic: Option<Basic>,
+    variables: Variables,
+    value: &Option<Returned>,
+    span: Span,
+) -> Result<(Option<TypedExpr>, Variables), Refused>
+    ensures { Judges (spec.result_at imports.now scope.now levels basic variables value.now) result }
+{
+    match (basic, value) {
+        (None, None) => Ok((None, variables)),
+        (None, Some(r)) => Err(Refused::Fault(fault(Code::Parameters, r.span))),
+        (Some(_), None) => Err(Refused::Fault(fault(Code::Parameters, span))),
+        (Some(basic), Some(r)) => {
+            let e = r.value.get();
+            let (e, variables) = assigned_value(
+                alloc, imports, scope, levels, basic, variables, e,
+            )?;
+            Ok((Some(e), variables))
+        }
+    }
+}
+
+/// A procedure as its parts make it, or want of memory.
+fn typed_procedure(
+    alloc: Global,
+    signature: &Signature,
+    scope: &Scope,
+    body: Items<TypedStatement>,
+    returned: Option<TypedExpr>,
+) -> Result<TypedProcedure, AllocError>
+    ensures { IfOk result (λ p. p ≡ spec.typed_procedure signature.now scope.now body returned) }
+{
+    let formals = signature.formals.as_slice();
+    let parameters = parameters_of(alloc, formals)?;
+    let variables = own_shapes(alloc, formals.len(), scope.block.declared())?;
+    Ok(TypedProcedure {
+        parameters,
+        variables,
+        body,
+        result: returned,
+    })
+}
+
+/// The body and the result of a procedure, in the scope behind its declarations.
+#[tactic(auto, unfolding(crate::specs::Procedures::body_of))]
+fn body_of(
+    alloc: Global,
+    imports: &Imports,
+    levels: u32,
+    signature: &Signature,
+    scope: Scope,
+    done: Items<TypedProcedure>,
+    variables: Variables,
+    p: &Procedure,
+) -> Result<(Scope, Items<TypedProcedure>, Variables), Refused>
+    ensures { Judges (spec.body_of imports.now levels signature.now (scope, done, variables) p.now) result }
+{
+    let mut done = done;
+    let span = p.name.name.span;
+    let list = p.body.as_slice();
+    let (statements, variables) = optional(alloc, imports, &scope, levels, variables, list, span)?;
+    let basic = signature.result;
+    let value = &p.returned;
+    let (value, variables) = returned(
+        alloc, imports, &scope, levels, basic, variables, value, span,
+    )?;
+    let procedure = typed_procedure(alloc, signature, &scope, statements, value)?;
+    done.push(procedure)?;
+    Ok((scope.leave(), done, variables))
+}
+
+/// A procedure that was entered: its declarations, the procedures in it, its body.
+#[cycle(procedures)]
+#[tactic(auto, unfolding(crate::specs::Procedures::inside_of))]
+fn inside_of(
+    alloc: Global,
+    imports: &Imports,
+    levels: u32,
+    entered: Entered,
+    done: Items<TypedProcedure>,
+    variables: Variables,
+    p: &Procedure,
+) -> Result<(Scope, Items<TypedProcedure>, Variables), Refused>
+    ensures { Judges (spec.inside_of imports.now levels (spec.procedure_at imports.now levels) entered done variables p.now) result }
+{
+    let declarations = p.declarations.get();
+    let Entered { scope, signature } = entered;
+    let scope = declare_all(alloc, imports, levels, scope, declarations)?;
+    let list = declarations.procedures.as_slice();
+    let (scope, done, variables) = procedures(
+        alloc, imports, levels, scope, done, variables, list,
+    )?;
+    body_of(
+        alloc, imports, levels, &signature, scope, done, variables, p,
+    )
+}
+
+/// A procedure, inside its construct.
+#[cycle(procedures)]
+#[tactic(auto, unfolding(crate::specs::Procedures::procedure_of))]
+fn procedure_of(
+    alloc: Global,
+    imports: &Imports,
+    levels: u32,
+    scope: Scope,
+    done: Items<TypedProcedure>,
+    variables: Variables,
+    p: &Procedure,
+) -> Result<(Scope, Items<TypedProcedure>, Variables), Refused>
+    ensures { Judges (spec.procedure_of imports.now levels (spec.procedure_at imports.now levels) (scope, done, variables) p.now) result }
+{
+    let number = number_of(levels, done.len(), p)?;
+    let entered = enter_procedure(alloc, imports, levels, number, scope, p)?;
+    inside_of(alloc, imports, levels, entered, done, variables, p)
+}
+
+/// One procedure more.
+#[cycle(procedures)]
+#[tactic(auto, unfolding(crate::specs::Procedures::procedure_at))]
+fn procedure(
+    alloc: Global,
+    imports: &Imports,
+    levels: u32,
+    scope: Scope,
+    done: Items<TypedProcedure>,
+    variables: Variables,
+    p: &Procedure,
+) -> Result<(Scope, Items<TypedProcedure>, Variables), Refused>
+    ensures { Judges (spec.procedure_at imports.now levels (scope, done, variables) p.now) result }
+{
+    let inside = open(levels, p.name.name.span)?;
+    procedure_of(alloc, imports, inside, scope, done, variables, p)
+}
+
+/// The procedures of a module or of a procedure, behind its other declarations.
+#[cycle(procedures)]
+pub fn procedures(
+    alloc: Global,
+    imports: &Imports,
+    levels: u32,
+    scope: Scope,
+    done: Items<TypedProcedure>,
+    variables: Variables,
+    list: &[Procedure],
+) -> Result<(Scope, Items<TypedProcedure>, Variables), Refused>
+    ensures { Judges (through (spec.procedure_at imports.now levels) (scope, done, variables) list.now) result }
+{
+    let mut scope = scope;
+    let mut done = done;
+    let mut variables = variables;
+    for p in list {
+        let (next, more, longer) = procedure(alloc, imports, levels, scope, done, variables, p)?;
+        scope = next;
+        done = more;
+        variables = longer;
+    }
+    Ok((scope, done, variables))
+}

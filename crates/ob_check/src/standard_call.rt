@@ -1,0 +1,528 @@
+//! Calls of In and Out, and of the procedures that are declared before any module.
+
+ghost use Rattle.std.specs.Prelude.{◌≡◌, IfOk};
+ghost use Rattle.ob_declare.specs.Rule.{Judges};
+ghost use Rattle.ob_check.specs.StandardCalls as spec;
+
+use ob_base::{Boxed, Code, Items, Refused};
+use ob_declare::fault::{fault, open};
+use ob_declare::predeclared::{InputName, OutputName, ProperProcedure};
+use ob_declare::{Imports, Scope};
+use ob_express::Variables;
+use ob_express::expression::actual;
+use ob_express::value::{number, truth};
+use ob_mean::whole::{
+    Action, Adjustment, Argument, Designator, InputCall, OutputCall, Reader, TypedExpr,
+};
+use ob_parse::tree::Expr;
+use ob_scan::Span;
+use ob_types::{Basic, Formal, FormalKind, ObType};
+use std::alloc::{AllocError, Global};
+
+fn value_formal(basic: Basic) -> Formal
+    ensures { result ≡ spec.value_formal basic }
+{
+    Formal {
+        kind: FormalKind::Value,
+        of: ObType::Basic(basic),
+    }
+}
+
+fn variable_formal(basic: Basic) -> Formal
+    ensures { result ≡ spec.variable_formal basic }
+{
+    Formal {
+        kind: FormalKind::Variable,
+        of: ObType::Basic(basic),
+    }
+}
+
+/// `VAR s: ARRAY OF CHAR`.
+fn text_variable(alloc: Global) -> Result<Formal, AllocError>
+    ensures { IfOk result (λ f. f ≡ spec.text_variable) }
+{
+    let of = ObType::Open(Boxed::new(alloc, ObType::Basic(Basic::Char))?);
+    Ok(Formal {
+        kind: FormalKind::Variable,
+        of,
+    })
+}
+
+/// `s: ARRAY OF CHAR`.
+fn text_value(alloc: Global) -> Result<Formal, AllocError>
+    ensures { IfOk result (λ f. f ≡ spec.text_value) }
+{
+    let of = ObType::Open(Boxed::new(alloc, ObType::Basic(Basic::Char))?);
+    Ok(Formal {
+        kind: FormalKind::Value,
+        of,
+    })
+}
+
+/// What a reader sets.
+fn reader_formal(alloc: Global, reader: Reader) -> Result<Formal, AllocError>
+    ensures { IfOk result (λ f. f ≡ spec.reader_formal reader) }
+{
+    match reader {
+        Reader::Char => Ok(variable_formal(Basic::Char)),
+        Reader::Int => Ok(variable_formal(Basic::Integer)),
+        Reader::String | Reader::Name => text_variable(alloc),
+    }
+}
+
+/// The place that is passed to a VAR or structured parameter.
+#[tactic(auto, unfolding(crate::specs::StandardCalls::place_passed))]
+fn place_passed(argument: Argument, span: Span) -> Result<Designator, Refused>
+    ensures { Judges (spec.place_passed argument) result }
+{
+    match argument {
+        Argument::Place(place) => Ok(place),
+        Argument::Open(place) => Ok(place),
+        Argument::Value(_) => Err(Refused::Fault(fault(Code::Parameters, span))),
+    }
+}
+
+/// The value that is passed to a scalar value parameter.
+#[tactic(auto, unfolding(crate::specs::StandardCalls::value_passed))]
+fn value_passed(argument: Argument, span: Span) -> Result<TypedExpr, Refused>
+    ensures { Judges (spec.value_passed argument) result }
+{
+    match argument {
+        Argument::Value(value) => Ok(value),
+        _ => Err(Refused::Fault(fault(Code::Parameters, span))),
+    }
+}
+
+/// An action without parameters.
+#[tactic(auto, unfolding(crate::specs::StandardCalls::without_actuals))]
+fn without_actuals(
+    action: Action,
+    variables: Variables,
+    actuals: &Option<Items<Expr>>,
+    span: Span,
+) -> Result<(Action, Variables), Refused>
+    ensures { Judges (spec.without_actuals action variables actuals.now) result }
+{
+    let Some(actuals) = actuals else {
+        return Ok((action, variables));
+    };
+    match actuals.as_slice() {
+        [] => Ok((action, variables)),
+        [_, ..] => Err(Refused::Fault(fault(Code::Parameters, span))),
+    }
+}
+
+#[tactic(auto, unfolding(crate::specs::StandardCalls::number_inside))]
+fn number_inside(
+    alloc: Global,
+    imports: &Imports,
+    scope: &Scope,
+    levels: u32,
+    variables: Variables,
+    e: &Expr,
+) -> Result<(TypedExpr, Variables), Refused>
+    ensures { Judges (spec.number_inside imports.now scope.now levels variables e.now) result }
+{
+    let inside = open(levels, e.first_token())?;
+    number(alloc, imports, scope, inside, variables, e)
+}
+
+#[tactic(auto, unfolding(crate::specs::StandardCalls::truth_inside))]
+fn truth_inside(
+    alloc: Global,
+    imports: &Imports,
+    scope: &Scope,
+    levels: u32,
+    variables: Variables,
+    e: &Expr,
+) -> Result<(TypedExpr, Variables), Refused>
+    ensures { Judges (spec.truth_inside imports.now scope.now levels variables e.now) result }
+{
+    let inside = open(levels, e.first_token())?;
+    truth(alloc, imports, scope, inside, variables, e)
+}
+
+/// An actual parameter that is a place.
+#[tactic(auto, unfolding(crate::specs::StandardCalls::place_at))]
+fn place(
+    alloc: Global,
+    imports: &Imports,
+    scope: &Scope,
+    levels: u32,
+    variables: Variables,
+    formal: &Formal,
+    e: &Expr,
+) -> Result<(Designator, Variables), Refused>
+    ensures { Judges (spec.place_at imports.now scope.now levels variables formal.now e.now) result }
+{
+    let (argument, variables) = actual(
+        alloc,
+        imports,
+        scope,
+        levels,
+        variables,
+        formal,
+        e.first_token(),
+        e,
+    )?;
+    let place = place_passed(argument, e.first_token())?;
+    Ok((place, variables))
+}
+
+/// An actual parameter that is a value.
+#[tactic(auto, unfolding(crate::specs::StandardCalls::scalar_at))]
+fn scalar(
+    alloc: Global,
+    imports: &Imports,
+    scope: &Scope,
+    levels: u32,
+    variables: Variables,
+    basic: Basic,
+    e: &Expr,
+) -> Result<(TypedExpr, Variables), Refused>
+    ensures { Judges (spec.scalar_at imports.now scope.now levels variables basic e.now) result }
+{
+    let formal = value_formal(basic);
+    let (argument, variables) = actual(
+        alloc,
+        imports,
+        scope,
+        levels,
+        variables,
+        &formal,
+        e.first_token(),
+        e,
+    )?;
+    let value = value_passed(argument, e.first_token())?;
+    Ok((value, variables))
+}
+
+/// A call of a procedure of In that reads.
+#[tactic(auto, unfolding(crate::specs::StandardCalls::read_call))]
+fn read_call(
+    alloc: Global,
+    imports: &Imports,
+    scope: &Scope,
+    levels: u32,
+    reader: Reader,
+    variables: Variables,
+    actuals: &Option<Items<Expr>>,
+    span: Span,
+) -> Result<(Action, Variables), Refused>
+    ensures { Judges (spec.read_call imports.now scope.now levels reader variables actuals.now) result }
+{
+    let Some(actuals) = actuals else {
+        return Err(Refused::Fault(fault(Code::Parameters, span)));
+    };
+    match actuals.as_slice() {
+        [e] => {
+            let formal = reader_formal(alloc, reader)?;
+            let (place, variables) = place(alloc, imports, scope, levels, variables, &formal, e)?;
+            Ok((Action::Input(InputCall::Read(reader, place)), variables))
+        }
+        _ => Err(Refused::Fault(fault(Code::Parameters, span))),
+    }
+}
+
+/// A call of what In exports.
+#[tactic(auto, unfolding(crate::specs::StandardCalls::in_call))]
+pub fn in_call(
+    alloc: Global,
+    imports: &Imports,
+    scope: &Scope,
+    levels: u32,
+    name: InputName,
+    variables: Variables,
+    actuals: &Option<Items<Expr>>,
+    span: Span,
+) -> Result<(Action, Variables), Refused>
+    ensures { Judges (spec.in_call imports.now scope.now levels name variables actuals.now) result }
+{
+    match name {
+        InputName::Open => without_actuals(
+            Action::Input(InputCall::Open),
+            variables,
+            actuals,
+            span,
+        ),
+        InputName::Char => {
+            read_call(
+                alloc,
+                imports,
+                scope,
+                levels,
+                Reader::Char,
+                variables,
+                actuals,
+                span,
+            )
+        }
+        InputName::Int => {
+            read_call(
+                alloc,
+                imports,
+                scope,
+                levels,
+                Reader::Int,
+                variables,
+                actuals,
+                span,
+            )
+        }
+        InputName::String => {
+            read_call(
+                alloc,
+                imports,
+                scope,
+                levels,
+                Reader::String,
+                variables,
+                actuals,
+                span,
+            )
+        }
+        InputName::Name => {
+            read_call(
+                alloc,
+                imports,
+                scope,
+                levels,
+                Reader::Name,
+                variables,
+                actuals,
+                span,
+            )
+        }
+        InputName::Done => Err(Refused::Fault(fault(Code::Types, span))),
+        InputName::Unknown => Err(Refused::Fault(fault(Code::NotExported, span))),
+    }
+}
+
+/// `Out.Char`.
+#[tactic(auto, unfolding(crate::specs::StandardCalls::out_char))]
+fn out_char(
+    alloc: Global,
+    imports: &Imports,
+    scope: &Scope,
+    levels: u32,
+    variables: Variables,
+    actuals: &Option<Items<Expr>>,
+    span: Span,
+) -> Result<(Action, Variables), Refused>
+    ensures { Judges (spec.out_char imports.now scope.now levels variables actuals.now) result }
+{
+    let Some(actuals) = actuals else {
+        return Err(Refused::Fault(fault(Code::Parameters, span)));
+    };
+    match actuals.as_slice() {
+        [e] => {
+            let (value, variables) = scalar(
+                alloc,
+                imports,
+                scope,
+                levels,
+                variables,
+                Basic::Char,
+                e,
+            )?;
+            Ok((Action::Output(OutputCall::Char(value)), variables))
+        }
+        _ => Err(Refused::Fault(fault(Code::Parameters, span))),
+    }
+}
+
+/// `Out.String`.
+#[tactic(auto, unfolding(crate::specs::StandardCalls::out_string))]
+fn out_string(
+    alloc: Global,
+    imports: &Imports,
+    scope: &Scope,
+    levels: u32,
+    variables: Variables,
+    actuals: &Option<Items<Expr>>,
+    span: Span,
+) -> Result<(Action, Variables), Refused>
+    ensures { Judges (spec.out_string imports.now scope.now levels variables actuals.now) result }
+{
+    let Some(actuals) = actuals else {
+        return Err(Refused::Fault(fault(Code::Parameters, span)));
+    };
+    match actuals.as_slice() {
+        [e] => {
+            let formal = text_value(alloc)?;
+            let (place, variables) = place(alloc, imports, scope, levels, variables, &formal, e)?;
+            Ok((Action::Output(OutputCall::String(place)), variables))
+        }
+        _ => Err(Refused::Fault(fault(Code::Parameters, span))),
+    }
+}
+
+/// `Out.Int` with a number and a width.
+#[tactic(auto, unfolding(crate::specs::StandardCalls::out_int))]
+fn out_int(
+    alloc: Global,
+    imports: &Imports,
+    scope: &Scope,
+    levels: u32,
+    variables: Variables,
+    actuals: &Option<Items<Expr>>,
+    span: Span,
+) -> Result<(Action, Variables), Refused>
+    ensures { Judges (spec.out_int imports.now scope.now levels variables actuals.now) result }
+{
+    let Some(actuals) = actuals else {
+        return Err(Refused::Fault(fault(Code::Parameters, span)));
+    };
+    match actuals.as_slice() {
+        [e, width] => {
+            let (value, variables) = scalar(
+                alloc,
+                imports,
+                scope,
+                levels,
+                variables,
+                Basic::Integer,
+                e,
+            )?;
+            let (width, variables) = scalar(
+                alloc,
+                imports,
+                scope,
+                levels,
+                variables,
+                Basic::Integer,
+                width,
+            )?;
+            Ok((Action::Output(OutputCall::Int(value, width)), variables))
+        }
+        _ => Err(Refused::Fault(fault(Code::Parameters, span))),
+    }
+}
+
+/// A call of what Out exports.
+#[tactic(auto, unfolding(crate::specs::StandardCalls::out_call))]
+pub fn out_call(
+    alloc: Global,
+    imports: &Imports,
+    scope: &Scope,
+    levels: u32,
+    name: OutputName,
+    variables: Variables,
+    actuals: &Option<Items<Expr>>,
+    span: Span,
+) -> Result<(Action, Variables), Refused>
+    ensures { Judges (spec.out_call imports.now scope.now levels name variables actuals.now) result }
+{
+    match name {
+        OutputName::Open => without_actuals(
+            Action::Output(OutputCall::Open),
+            variables,
+            actuals,
+            span,
+        ),
+        OutputName::Char => out_char(alloc, imports, scope, levels, variables, actuals, span),
+        OutputName::String => out_string(alloc, imports, scope, levels, variables, actuals, span),
+        OutputName::Int => out_int(alloc, imports, scope, levels, variables, actuals, span),
+        OutputName::Ln => without_actuals(Action::Output(OutputCall::Ln), variables, actuals, span),
+        OutputName::Unknown => Err(Refused::Fault(fault(Code::NotExported, span))),
+    }
+}
+
+/// INC or DEC of an INTEGER variable.
+#[tactic(auto, unfolding(crate::specs::StandardCalls::adjusted))]
+fn adjusted(
+    alloc: Global,
+    imports: &Imports,
+    scope: &Scope,
+    levels: u32,
+    adjustment: Adjustment,
+    variables: Variables,
+    actuals: &Option<Items<Expr>>,
+    span: Span,
+) -> Result<(Action, Variables), Refused>
+    ensures { Judges (spec.adjusted imports.now scope.now levels adjustment variables actuals.now) result }
+{
+    let Some(actuals) = actuals else {
+        return Err(Refused::Fault(fault(Code::Parameters, span)));
+    };
+    let formal = variable_formal(Basic::Integer);
+    match actuals.as_slice() {
+        [v] => {
+            let (place, variables) = place(alloc, imports, scope, levels, variables, &formal, v)?;
+            let action = Action::Adjust(adjustment, place, TypedExpr::Constant(1));
+            Ok((action, variables))
+        }
+        [v, e] => {
+            let (place, variables) = place(alloc, imports, scope, levels, variables, &formal, v)?;
+            let (by, variables) = number_inside(alloc, imports, scope, levels, variables, e)?;
+            Ok((Action::Adjust(adjustment, place, by), variables))
+        }
+        _ => Err(Refused::Fault(fault(Code::Parameters, span))),
+    }
+}
+
+/// ASSERT of a truth value.
+#[tactic(auto, unfolding(crate::specs::StandardCalls::asserted))]
+fn asserted(
+    alloc: Global,
+    imports: &Imports,
+    scope: &Scope,
+    levels: u32,
+    variables: Variables,
+    actuals: &Option<Items<Expr>>,
+    span: Span,
+) -> Result<(Action, Variables), Refused>
+    ensures { Judges (spec.asserted imports.now scope.now levels span.line variables actuals.now) result }
+{
+    let Some(actuals) = actuals else {
+        return Err(Refused::Fault(fault(Code::Parameters, span)));
+    };
+    match actuals.as_slice() {
+        [e] => {
+            let (condition, variables) = truth_inside(alloc, imports, scope, levels, variables, e)?;
+            Ok((Action::Assert(span.line, condition), variables))
+        }
+        _ => Err(Refused::Fault(fault(Code::Parameters, span))),
+    }
+}
+
+/// A call of a procedure that is declared before any module.
+#[tactic(auto, unfolding(crate::specs::StandardCalls::predeclared_call))]
+pub fn predeclared_call(
+    alloc: Global,
+    imports: &Imports,
+    scope: &Scope,
+    levels: u32,
+    procedure: ProperProcedure,
+    variables: Variables,
+    actuals: &Option<Items<Expr>>,
+    span: Span,
+) -> Result<(Action, Variables), Refused>
+    ensures { Judges (spec.predeclared_call imports.now scope.now levels procedure span.line variables actuals.now) result }
+{
+    match procedure {
+        ProperProcedure::Inc => adjusted(
+            alloc,
+            imports,
+            scope,
+            levels,
+            Adjustment::Increase,
+            variables,
+            actuals,
+            span,
+        ),
+        ProperProcedure::Dec => adjusted(
+            alloc,
+            imports,
+            scope,
+            levels,
+            Adjustment::Decrease,
+            variables,
+            actuals,
+            span,
+        ),
+        ProperProcedure::Assert => {
+            asserted(alloc, imports, scope, levels, variables, actuals, span)
+        }
+    }
+}

@@ -1,0 +1,795 @@
+//! Expressions, variables that are written, and actual parameters.
+
+ghost use Rattle.std.specs.Prelude.{◌≡◌, suc, [], option_copied, is_some, IfOk, OnErr, IfErr};
+ghost use Rattle.ob_declare.specs.Rule.{Judges, through};
+ghost use Rattle.ob_parse.specs.declared.tree.Factor.{out-Factor};
+ghost use Rattle.ob_express.specs.Judging.{result_map};
+ghost use Rattle.ob_express.specs.Named.{meant, callable};
+ghost use Rattle.ob_express.specs.Selecting as selecting;
+ghost use Rattle.ob_express.specs.Expressions as spec;
+
+use crate::functions::{one_of, two_of};
+use crate::joining::{
+    Joined, add_joining, mul_joining, negated, product_of, signed, sum_of, with_operand,
+};
+use crate::names::{Called, Named, procedure, read, written};
+use crate::operand::{
+    Operand, Variables, fitting, number_of, operand_of_constant, operand_of_variable, truth_number,
+    truth_of, value_for,
+};
+use crate::passing::{value_passed, variable_argument};
+use crate::relations::{related, relation_of};
+use crate::selecting::{element_of, field_of};
+use ob_base::{Boxed, Code, Items, Refused};
+use ob_declare::fault::{fault, open};
+use ob_declare::predeclared::Function;
+use ob_declare::{Imports, Scope};
+use ob_mean::whole::{Argument, Callee, Designator, TypedExpr};
+use ob_parse::tree::{
+    AddedTerm, Designator as Written, Expr, Factor, NextFactor, Related, Selector, Sign, Simple,
+    Term,
+};
+use ob_scan::Span;
+use ob_types::{Basic, Formal, FormalKind, ObType};
+use std::alloc::Global;
+
+fn designator_in(f: &Factor) -> Option<&Written>
+    ensures { option_copied result ≡ spec.designator_in (out-Factor f.now) }
+{
+    match f {
+        Factor::Value(d) => Some(d),
+        Factor::Integer(_, _)
+        | Factor::Text(_, _)
+        | Factor::Truth(_, _)
+        | Factor::Call(_, _)
+        | Factor::Parens(_, _)
+        | Factor::Not(_, _) => None,
+    }
+}
+
+fn factor_alone<'a>(f: &'a Factor, others: &[NextFactor]) -> Option<&'a Written>
+    ensures { option_copied result ≡ spec.factor_alone f.now others.now }
+{
+    match others {
+        [] => designator_in(f),
+        [_, ..] => None,
+    }
+}
+
+fn term_alone<'a>(
+    sign: Option<(Sign, Span)>,
+    t: &'a Term,
+    others: &[AddedTerm],
+) -> Option<&'a Written>
+    ensures { option_copied result ≡ spec.term_alone sign t.now others.now }
+{
+    match (sign, others) {
+        (None, []) => factor_alone(&t.first, t.others.as_slice()),
+        (None, [_, ..]) | (Some(_), _) => None,
+    }
+}
+
+/// The designator that an expression is, without parentheses or operators.
+#[tactic(auto, unfolding(crate::specs::Expressions::alone))]
+pub fn alone(e: &Expr) -> Option<&Written>
+    ensures { option_copied result ≡ spec.alone e.now }
+{
+    match &e.right {
+        Some(_) => None,
+        None => term_alone(e.left.sign, &e.left.first, e.left.others.as_slice()),
+    }
+}
+
+fn is_alone(e: &Expr) -> bool
+    ensures { result ≡ is_some (spec.alone e.now) }
+{
+    match alone(e) {
+        Some(_) => true,
+        None => false,
+    }
+}
+
+/// Two sums with a relation between them, or one alone.
+#[cycle(expression)]
+#[tactic(auto, unfolding(crate::specs::Expressions::expr_rule, crate::specs::Expressions::expr_at))]
+pub fn expr(
+    alloc: Global,
+    imports: &Imports,
+    scope: &Scope,
+    levels: u32,
+    variables: Variables,
+    e: &Expr,
+) -> Result<(Operand, Variables), Refused>
+    ensures { Judges (spec.expr_at imports.now scope.now levels variables e.now) result }
+{
+    let (left, variables) = simple(alloc, imports, scope, levels, variables, &e.left)?;
+    relation(alloc, imports, scope, levels, left, variables, &e.right)
+}
+
+#[cycle(expression)]
+#[tactic(auto, unfolding(crate::specs::Expressions::related_rule))]
+fn relation(
+    alloc: Global,
+    imports: &Imports,
+    scope: &Scope,
+    levels: u32,
+    left: Operand,
+    variables: Variables,
+    right: &Option<Related>,
+) -> Result<(Operand, Variables), Refused>
+    ensures { Judges (spec.related_at imports.now scope.now levels (left, variables) right.now) result }
+{
+    match right {
+        None => Ok((left, variables)),
+        Some(right) => {
+            let (other, variables) = simple(
+                alloc,
+                imports,
+                scope,
+                levels,
+                variables,
+                &right.simple,
+            )?;
+            related(
+                alloc,
+                relation_of(right.relation),
+                right.span,
+                variables,
+                left,
+                other,
+            )
+        }
+    }
+}
+
+#[cycle(expression)]
+#[tactic(auto, unfolding(crate::specs::Expressions::simple_rule))]
+fn simple(
+    alloc: Global,
+    imports: &Imports,
+    scope: &Scope,
+    levels: u32,
+    variables: Variables,
+    x: &Simple,
+) -> Result<(Operand, Variables), Refused>
+    ensures { Judges (spec.simple_at imports.now scope.now levels variables x.now) result }
+{
+    let (first, variables) = term(alloc, imports, scope, levels, variables, &x.first)?;
+    let first = Joined::One(signed(alloc, x.sign, first)?);
+    let (all, variables) = added_terms(
+        alloc,
+        imports,
+        scope,
+        levels,
+        first,
+        variables,
+        x.others.as_slice(),
+    )?;
+    Ok((sum_of(alloc, all)?, variables))
+}
+
+#[cycle(expression)]
+fn added_terms(
+    alloc: Global,
+    imports: &Imports,
+    scope: &Scope,
+    levels: u32,
+    first: Joined,
+    variables: Variables,
+    others: &[AddedTerm],
+) -> Result<(Joined, Variables), Refused>
+    ensures { Judges (through (spec.added_term_at imports.now scope.now levels) (first, variables) others.now) (result_map (λ p. (p.0, p.1)) result) }
+{
+    let mut so_far = (first, variables);
+    for x in others {
+        let (left, variables) = so_far;
+        so_far = added_term(alloc, imports, scope, levels, left, variables, x)?;
+    }
+    Ok(so_far)
+}
+
+#[cycle(expression)]
+#[tactic(auto, unfolding(crate::specs::Expressions::added_term))]
+fn added_term(
+    alloc: Global,
+    imports: &Imports,
+    scope: &Scope,
+    levels: u32,
+    left: Joined,
+    variables: Variables,
+    x: &AddedTerm,
+) -> Result<(Joined, Variables), Refused>
+    ensures { Judges (spec.added_term_at imports.now scope.now levels (left, variables) x.now) (result_map (λ p. (p.0, p.1)) result) }
+{
+    let (right, variables) = term(alloc, imports, scope, levels, variables, &x.term)?;
+    let all = with_operand(alloc, add_joining(x.operator), x.span, left, right)?;
+    Ok((all, variables))
+}
+
+#[cycle(expression)]
+#[tactic(auto, unfolding(crate::specs::Expressions::term_rule))]
+fn term(
+    alloc: Global,
+    imports: &Imports,
+    scope: &Scope,
+    levels: u32,
+    variables: Variables,
+    t: &Term,
+) -> Result<(Operand, Variables), Refused>
+    ensures { Judges (spec.term_at imports.now scope.now levels variables t.now) result }
+{
+    let (first, variables) = factor(alloc, imports, scope, levels, variables, &t.first)?;
+    let (all, variables) = next_factors(
+        alloc,
+        imports,
+        scope,
+        levels,
+        Joined::One(first),
+        variables,
+        t.others.as_slice(),
+    )?;
+    Ok((product_of(alloc, all)?, variables))
+}
+
+#[cycle(expression)]
+fn next_factors(
+    alloc: Global,
+    imports: &Imports,
+    scope: &Scope,
+    levels: u32,
+    first: Joined,
+    variables: Variables,
+    others: &[NextFactor],
+) -> Result<(Joined, Variables), Refused>
+    ensures { Judges (through (spec.next_factor_at imports.now scope.now levels) (first, variables) others.now) (result_map (λ p. (p.0, p.1)) result) }
+{
+    let mut so_far = (first, variables);
+    for x in others {
+        let (left, variables) = so_far;
+        so_far = next_factor(alloc, imports, scope, levels, left, variables, x)?;
+    }
+    Ok(so_far)
+}
+
+#[cycle(expression)]
+#[tactic(auto, unfolding(crate::specs::Expressions::next_factor))]
+fn next_factor(
+    alloc: Global,
+    imports: &Imports,
+    scope: &Scope,
+    levels: u32,
+    left: Joined,
+    variables: Variables,
+    x: &NextFactor,
+) -> Result<(Joined, Variables), Refused>
+    ensures { Judges (spec.next_factor_at imports.now scope.now levels (left, variables) x.now) (result_map (λ p. (p.0, p.1)) result) }
+{
+    let (right, variables) = factor(alloc, imports, scope, levels, variables, &x.factor)?;
+    let all = with_operand(alloc, mul_joining(x.operator), x.span, left, right)?;
+    Ok((all, variables))
+}
+
+#[cycle(expression)]
+#[tactic(auto, unfolding(crate::specs::Expressions::factor_rule))]
+fn factor(
+    alloc: Global,
+    imports: &Imports,
+    scope: &Scope,
+    levels: u32,
+    variables: Variables,
+    f: &Factor,
+) -> Result<(Operand, Variables), Refused>
+    ensures { Judges (spec.factor_at imports.now scope.now levels variables f.now) result }
+{
+    match f {
+        Factor::Integer(number, _) => {
+            let value = TypedExpr::Constant(*number);
+            Ok((Operand::Value(Basic::Integer, value), variables))
+        }
+        Factor::Text(chars, _) => Ok((Operand::Text(chars.copy(alloc)?), variables)),
+        Factor::Truth(truth, _) => {
+            let value = TypedExpr::Constant(truth_number(*truth));
+            Ok((Operand::Value(Basic::Boolean, value), variables))
+        }
+        Factor::Value(d) => {
+            let named = read(imports, scope, d)?;
+            value_named(alloc, imports, scope, levels, variables, named)
+        }
+        Factor::Call(d, actuals) => {
+            let function = procedure(imports, scope, d)?;
+            call(
+                alloc,
+                imports,
+                scope,
+                levels,
+                variables,
+                function,
+                d.name.span,
+                actuals.as_slice(),
+            )
+        }
+        Factor::Parens(span, e) => nested(alloc, imports, scope, levels, *span, variables, e.get()),
+        Factor::Not(span, f) => {
+            let (operand, variables) = deeper(
+                alloc,
+                imports,
+                scope,
+                levels,
+                *span,
+                variables,
+                f.get(),
+            )?;
+            Ok((negated(alloc, *span, operand)?, variables))
+        }
+    }
+}
+
+/// What a name stands for.
+#[cycle(expression)]
+#[tactic(auto, unfolding(crate::specs::Expressions::meant_rule))]
+fn value_named(
+    alloc: Global,
+    imports: &Imports,
+    scope: &Scope,
+    levels: u32,
+    variables: Variables,
+    named: Named,
+) -> Result<(Operand, Variables), Refused>
+    ensures { Judges (spec.meant_at imports.now scope.now levels (meant named.entry) variables) result }
+{
+    match named {
+        Named::Constant(constant) => Ok((operand_of_constant(alloc, constant)?, variables)),
+        Named::InputDone => {
+            let value = TypedExpr::InputDone;
+            Ok((Operand::Value(Basic::Boolean, value), variables))
+        }
+        Named::Variable(of, variable, behind) => {
+            let whole = Designator::Whole(variable);
+            let (of, place, variables) = selected(
+                alloc, imports, scope, levels, of, whole, variables, behind,
+            )?;
+            Ok((operand_of_variable(alloc, of, place)?, variables))
+        }
+    }
+}
+
+/// What selectors select.
+#[cycle(expression)]
+fn selected<'a>(
+    alloc: Global,
+    imports: &Imports,
+    scope: &Scope,
+    levels: u32,
+    of: &'a ObType,
+    whole: Designator,
+    variables: Variables,
+    selectors: &[Selector],
+) -> Result<(&'a ObType, Designator, Variables), Refused>
+    ensures { Judges (through (spec.selected_at imports.now scope.now levels) (of.now, whole, variables) selectors.now) (result_map (λ p. (p.0.now, p.1, p.2)) result) }
+{
+    let mut so_far = (of, whole, variables);
+    for selector in selectors {
+        let (of, place, variables) = so_far;
+        so_far = next_selected(
+            alloc, imports, scope, levels, of, place, variables, selector,
+        )?;
+    }
+    Ok(so_far)
+}
+
+/// What one selector more selects.
+#[cycle(expression)]
+#[tactic(auto, unfolding(crate::specs::Selecting::selected))]
+fn next_selected<'a>(
+    alloc: Global,
+    imports: &Imports,
+    scope: &Scope,
+    levels: u32,
+    of: &'a ObType,
+    place: Designator,
+    variables: Variables,
+    selector: &Selector,
+) -> Result<(&'a ObType, Designator, Variables), Refused>
+    ensures { Judges (spec.selected_at imports.now scope.now levels (of.now, place, variables) selector.now) (result_map (λ p. (p.0.now, p.1, p.2)) result) }
+{
+    match selector {
+        Selector::Field(name) => {
+            let (number, of) = field_of(scope, of, name)?;
+            let part = Designator::Field(Boxed::new(alloc, place)?, number);
+            Ok((of, part, variables))
+        }
+        Selector::Index(indexes) => elements(
+            alloc,
+            imports,
+            scope,
+            levels,
+            of,
+            place,
+            variables,
+            indexes.as_slice(),
+        ),
+    }
+}
+
+/// What indexes select.
+#[cycle(expression)]
+fn elements<'a>(
+    alloc: Global,
+    imports: &Imports,
+    scope: &Scope,
+    levels: u32,
+    of: &'a ObType,
+    place: Designator,
+    variables: Variables,
+    indexes: &[Expr],
+) -> Result<(&'a ObType, Designator, Variables), Refused>
+    ensures { Judges (through (spec.indexed_at imports.now scope.now levels) (of.now, place, variables) indexes.now) (result_map (λ p. (p.0.now, p.1, p.2)) result) }
+{
+    let mut so_far = (of, place, variables);
+    for e in indexes {
+        let (of, place, variables) = so_far;
+        so_far = element(alloc, imports, scope, levels, of, place, variables, e)?;
+    }
+    Ok(so_far)
+}
+
+/// What one index more selects.
+#[cycle(expression)]
+#[tactic(auto, unfolding(crate::specs::Selecting::indexed))]
+fn element<'a>(
+    alloc: Global,
+    imports: &Imports,
+    scope: &Scope,
+    levels: u32,
+    of: &'a ObType,
+    place: Designator,
+    variables: Variables,
+    e: &Expr,
+) -> Result<(&'a ObType, Designator, Variables), Refused>
+    ensures { Judges (spec.indexed_at imports.now scope.now levels (of.now, place, variables) e.now) (result_map (λ p. (p.0.now, p.1, p.2)) result) }
+{
+    let span = e.first_token();
+    let of = element_of(of, span)?;
+    let (operand, variables) = nested(alloc, imports, scope, levels, span, variables, e)?;
+    let index = fitting(number_of(operand), Code::Types, span)?;
+    let part = Designator::Element(
+        Boxed::new(alloc, place)?,
+        span.line,
+        Boxed::new(alloc, index)?,
+    );
+    Ok((of, part, variables))
+}
+
+/// A call that gives a value. What is called stands at `span`.
+#[cycle(expression)]
+#[tactic(auto, unfolding(crate::specs::Expressions::call_rule))]
+fn call(
+    alloc: Global,
+    imports: &Imports,
+    scope: &Scope,
+    levels: u32,
+    variables: Variables,
+    function: Called,
+    span: Span,
+    actuals: &[Expr],
+) -> Result<(Operand, Variables), Refused>
+    ensures { Judges (spec.call_at imports.now scope.now levels (callable function.entry) span.line variables actuals.now) result }
+{
+    match function {
+        Called::Procedure(signature, callee) => function_call(
+            alloc,
+            imports,
+            scope,
+            levels,
+            variables,
+            signature.result,
+            callee,
+            signature.formals.as_slice(),
+            span,
+            actuals,
+        ),
+        Called::Function(function) => {
+            predeclared_call(
+                alloc, imports, scope, levels, variables, function, span, actuals,
+            )
+        }
+        Called::Proper(_) | Called::Input(_) | Called::Output(_) => {
+            Err(Refused::Fault(fault(Code::Parameters, span)))
+        }
+    }
+}
+
+#[cycle(expression)]
+#[tactic(auto, unfolding(crate::specs::Expressions::function_rule))]
+fn function_call(
+    alloc: Global,
+    imports: &Imports,
+    scope: &Scope,
+    levels: u32,
+    variables: Variables,
+    result_type: Option<Basic>,
+    callee: Callee,
+    formals: &[Formal],
+    span: Span,
+    actuals: &[Expr],
+) -> Result<(Operand, Variables), Refused>
+    ensures { Judges (spec.function_at imports.now scope.now levels result_type callee formals.now span.line variables actuals.now) result }
+{
+    match result_type {
+        None => Err(Refused::Fault(fault(Code::Parameters, span))),
+        Some(basic) => {
+            let (passed, variables) = all_passed(
+                alloc, imports, scope, levels, formals, span, variables, actuals,
+            )?;
+            let value = TypedExpr::Function(callee, span.line, passed);
+            Ok((Operand::Value(basic, value), variables))
+        }
+    }
+}
+
+#[cycle(expression)]
+#[tactic(auto, unfolding(crate::specs::Expressions::predeclared_rule))]
+fn predeclared_call(
+    alloc: Global,
+    imports: &Imports,
+    scope: &Scope,
+    levels: u32,
+    variables: Variables,
+    function: Function,
+    span: Span,
+    actuals: &[Expr],
+) -> Result<(Operand, Variables), Refused>
+    ensures { Judges (spec.predeclared_at imports.now scope.now levels function span.line variables actuals.now) result }
+{
+    match actuals {
+        [one] => {
+            let (operand, variables) = nested(alloc, imports, scope, levels, span, variables, one)?;
+            let value = one_of(alloc, function, span, is_alone(one), operand)?;
+            Ok((value, variables))
+        }
+        [one, two] => {
+            let (left, variables) = nested(alloc, imports, scope, levels, span, variables, one)?;
+            let (right, variables) = nested(alloc, imports, scope, levels, span, variables, two)?;
+            let value = two_of(alloc, function, span, left, right)?;
+            Ok((value, variables))
+        }
+        _ => Err(Refused::Fault(fault(Code::Parameters, span))),
+    }
+}
+
+/// The actual parameters of a call, as many as there are formal ones.
+#[cycle(expression)]
+#[tactic(auto, unfolding(crate::specs::Expressions::all_passed, crate::specs::Expressions::none_left))]
+pub fn all_passed(
+    alloc: Global,
+    imports: &Imports,
+    scope: &Scope,
+    levels: u32,
+    formals: &[Formal],
+    span: Span,
+    variables: Variables,
+    actuals: &[Expr],
+) -> Result<(Items<Argument>, Variables), Refused>
+    ensures { Judges (spec.all_passed (spec.passed_at imports.now scope.now levels) variables formals.now actuals.now) result }
+{
+    let (passed, variables, left) = passed_in_turn(
+        alloc, imports, scope, levels, formals, span, variables, actuals,
+    )?;
+    match left {
+        [] => Ok((passed, variables)),
+        [_, ..] => Err(Refused::Fault(fault(Code::Parameters, span))),
+    }
+}
+
+/// Actual parameters for the first formal ones, and those that are left.
+#[cycle(expression)]
+fn passed_in_turn<'a>(
+    alloc: Global,
+    imports: &Imports,
+    scope: &Scope,
+    levels: u32,
+    formals: &'a [Formal],
+    span: Span,
+    variables: Variables,
+    actuals: &[Expr],
+) -> Result<(Items<Argument>, Variables, &'a [Formal]), Refused>
+    ensures { Judges (through (spec.next_passed_at imports.now scope.now levels) ([], variables, formals.now) actuals.now) (result_map (λ p. (p.0, p.1, p.2.now)) result) }
+{
+    let mut so_far = (Items::new(alloc), variables, formals);
+    for e in actuals {
+        let (passed, variables, left) = so_far;
+        so_far = next_passed(
+            alloc, imports, scope, levels, passed, variables, left, span, e,
+        )?;
+    }
+    Ok(so_far)
+}
+
+/// One actual parameter more.
+#[cycle(expression)]
+#[tactic(auto, unfolding(crate::specs::Expressions::one_passed))]
+fn next_passed<'a>(
+    alloc: Global,
+    imports: &Imports,
+    scope: &Scope,
+    levels: u32,
+    so_far: Items<Argument>,
+    variables: Variables,
+    formals: &'a [Formal],
+    span: Span,
+    e: &Expr,
+) -> Result<(Items<Argument>, Variables, &'a [Formal]), Refused>
+    ensures { Judges (spec.next_passed_at imports.now scope.now levels (so_far, variables, formals.now) e.now) (result_map (λ p. (p.0, p.1, p.2.now)) result) }
+{
+    match formals {
+        [] => Err(Refused::Fault(fault(Code::Parameters, span))),
+        [formal, left @ ..] => {
+            let (argument, variables) = actual(
+                alloc, imports, scope, levels, variables, formal, span, e,
+            )?;
+            let mut passed = so_far;
+            passed.push(argument)?;
+            Ok((passed, variables, left))
+        }
+    }
+}
+
+/// The actual parameter for a formal one, in a list that opens at `span`.
+#[cycle(expression)]
+#[tactic(auto, unfolding(crate::specs::Expressions::passed_at))]
+pub fn actual(
+    alloc: Global,
+    imports: &Imports,
+    scope: &Scope,
+    levels: u32,
+    variables: Variables,
+    formal: &Formal,
+    span: Span,
+    e: &Expr,
+) -> Result<(Argument, Variables), Refused>
+    ensures { Judges (spec.passed_at imports.now scope.now levels formal.now variables e.now) result }
+{
+    let inside = open(levels, span)?;
+    actual_of_kind(
+        alloc,
+        imports,
+        scope,
+        inside,
+        variables,
+        formal.kind,
+        &formal.of,
+        e,
+    )
+}
+
+#[cycle(expression)]
+#[tactic(auto, unfolding(crate::specs::Expressions::actual_rule))]
+fn actual_of_kind(
+    alloc: Global,
+    imports: &Imports,
+    scope: &Scope,
+    levels: u32,
+    variables: Variables,
+    kind: FormalKind,
+    formal: &ObType,
+    e: &Expr,
+) -> Result<(Argument, Variables), Refused>
+    ensures { Judges (spec.actual_rule (spec.expr_within imports.now scope.now levels) (spec.target_within imports.now scope.now levels) kind formal.now variables e.now) result }
+{
+    match kind {
+        FormalKind::Variable => {
+            let d = alone(e);
+            let span = e.first_token();
+            variable_actual(alloc, imports, scope, levels, variables, formal, d, span)
+        }
+        FormalKind::Value => value_actual(alloc, imports, scope, levels, variables, formal, e),
+    }
+}
+
+#[cycle(expression)]
+#[tactic(auto, unfolding(crate::specs::Expressions::variable_actual, crate::specs::Expressions::target_at))]
+fn variable_actual(
+    alloc: Global,
+    imports: &Imports,
+    scope: &Scope,
+    levels: u32,
+    variables: Variables,
+    formal: &ObType,
+    d: Option<&Written>,
+    span: Span,
+) -> Result<(Argument, Variables), Refused>
+    ensures { Judges (spec.variable_actual (spec.target_within imports.now scope.now levels) formal.now variables (option_copied d.entry)) result }
+{
+    match d {
+        None => Err(Refused::Fault(fault(Code::ReadOnly, span))),
+        Some(d) => {
+            let (of, place, variables) = target_part(alloc, imports, scope, levels, variables, d)?;
+            variable_argument(variables, formal, of, place, span)
+        }
+    }
+}
+
+#[cycle(expression)]
+#[tactic(auto, unfolding(crate::specs::Expressions::value_actual, crate::specs::Expressions::expr_at))]
+fn value_actual(
+    alloc: Global,
+    imports: &Imports,
+    scope: &Scope,
+    levels: u32,
+    variables: Variables,
+    formal: &ObType,
+    e: &Expr,
+) -> Result<(Argument, Variables), Refused>
+    ensures { Judges (spec.value_actual (spec.expr_within imports.now scope.now levels) formal.now variables e.now) result }
+{
+    let (operand, variables) = expr(alloc, imports, scope, levels, variables, e)?;
+    value_passed(
+        alloc,
+        variables,
+        formal,
+        is_alone(e),
+        operand,
+        e.first_token(),
+    )
+}
+
+/// A variable that may be written, or a part of one.
+#[cycle(expression)]
+#[tactic(auto, unfolding(crate::specs::Expressions::target_at, crate::specs::Expressions::target_rule))]
+pub fn target_part<'a>(
+    alloc: Global,
+    imports: &'a Imports,
+    scope: &'a Scope,
+    levels: u32,
+    variables: Variables,
+    d: &'a Written,
+) -> Result<(&'a ObType, Designator, Variables), Refused>
+    ensures { Judges (spec.target_at imports.now scope.now levels variables d.now) (result_map (λ p. (p.0.now, p.1, p.2)) result) }
+{
+    let target = written(imports, scope, d)?;
+    let whole = Designator::Whole(target.variable);
+    selected(
+        alloc,
+        imports,
+        scope,
+        levels,
+        target.of,
+        whole,
+        variables,
+        target.behind,
+    )
+}
+
+#[cycle(expression)]
+#[tactic(auto, unfolding(crate::specs::Expressions::inner_at, crate::specs::Expressions::expr_at))]
+fn nested(
+    alloc: Global,
+    imports: &Imports,
+    scope: &Scope,
+    levels: u32,
+    span: Span,
+    variables: Variables,
+    e: &Expr,
+) -> Result<(Operand, Variables), Refused>
+    ensures { Judges (spec.inner_at imports.now scope.now levels variables e.now) result }
+{
+    let inside = open(levels, span)?;
+    expr(alloc, imports, scope, inside, variables, e)
+}
+
+#[cycle(expression)]
+#[tactic(auto, unfolding(crate::specs::Expressions::deeper_at))]
+fn deeper(
+    alloc: Global,
+    imports: &Imports,
+    scope: &Scope,
+    levels: u32,
+    span: Span,
+    variables: Variables,
+    f: &Factor,
+) -> Result<(Operand, Variables), Refused>
+    ensures { Judges (spec.deeper_at imports.now scope.now levels variables f.now) result }
+{
+    let inside = open(levels, span)?;
+    factor(alloc, imports, scope, inside, variables, f)
+}

@@ -1,0 +1,138 @@
+//! The functions that are declared before any module.
+
+ghost use Rattle.std.specs.Prelude.{◌≡◌};
+ghost use Rattle.ob_base.specs.declared.fault.Code.TheVariants as code;
+ghost use Rattle.ob_declare.specs.Rule.{Judges, there};
+ghost use Rattle.ob_express.specs.Functions as spec;
+
+use crate::operand::{Operand, fitting, number_of, only_character};
+use ob_base::{Boxed, Code, Items, Refused};
+use ob_declare::fault::fault;
+use ob_declare::predeclared::Function;
+use ob_mean::whole::{Operation, Operator, TypedExpr, UnaryOperator};
+use ob_scan::Span;
+use ob_types::{Basic, ObType};
+use std::alloc::Global;
+
+fn ordinal_of(operand: Operand) -> Option<TypedExpr>
+    ensures { result ≡ spec.ordinal_of operand }
+{
+    match operand {
+        Operand::Value(Basic::Char | Basic::Boolean, value) => Some(value),
+        Operand::Text(text) => only_character(&text),
+        _ => None,
+    }
+}
+
+fn is_array(of: &ObType) -> bool
+    ensures { result ≡ spec.is_array of.now }
+{
+    match of {
+        ObType::Array(_, _) | ObType::Open(_) => true,
+        ObType::Basic(_) | ObType::Record(_) => false,
+    }
+}
+
+fn length_of(alone: bool, operand: Operand) -> Option<Operand>
+    ensures { result ≡ spec.length_of alone operand }
+{
+    match (alone, operand) {
+        (true, Operand::Place(of, place)) => {
+            if is_array(&of) {
+                Some(Operand::Value(Basic::Integer, TypedExpr::Length(place)))
+            } else {
+                None
+            }
+        }
+        _ => None,
+    }
+}
+
+fn unary(
+    alloc: Global,
+    basic: Basic,
+    operator: UnaryOperator,
+    span: Span,
+    value: Option<TypedExpr>,
+) -> Result<Operand, Refused>
+    ensures { Judges (there (spec.unary basic operator span.line value) code.Parameters) result }
+{
+    match value {
+        Some(value) => Ok(Operand::Value(
+            basic,
+            TypedExpr::Unary(operator, span.line, Boxed::new(alloc, value)?),
+        )),
+        None => Err(Refused::Fault(fault(Code::Parameters, span))),
+    }
+}
+
+/// A function of one value, and whether that is written as a variable alone. The function's name stands at `span`.
+pub fn one_of(
+    alloc: Global,
+    function: Function,
+    span: Span,
+    alone: bool,
+    operand: Operand,
+) -> Result<Operand, Refused>
+    ensures { Judges (there (spec.one_of function span.line alone operand) code.Parameters) result }
+{
+    match function {
+        Function::Abs => {
+            let number = number_of(operand);
+            unary(alloc, Basic::Integer, UnaryOperator::Absolute, span, number)
+        }
+        Function::Odd => {
+            let number = number_of(operand);
+            unary(alloc, Basic::Boolean, UnaryOperator::Odd, span, number)
+        }
+        Function::Ord => {
+            let ordinal = ordinal_of(operand);
+            unary(alloc, Basic::Integer, UnaryOperator::Ordinal, span, ordinal)
+        }
+        Function::Chr => {
+            let number = number_of(operand);
+            unary(alloc, Basic::Char, UnaryOperator::Character, span, number)
+        }
+        Function::Len => fitting(length_of(alone, operand), Code::Parameters, span),
+        Function::Lsl | Function::Asr | Function::Ror => {
+            Err(Refused::Fault(fault(Code::Parameters, span)))
+        }
+    }
+}
+
+fn shift_of(function: Function) -> Option<Operator>
+    ensures { result ≡ spec.shift_of function }
+{
+    match function {
+        Function::Lsl => Some(Operator::ShiftLeft),
+        Function::Asr => Some(Operator::ShiftRight),
+        Function::Ror => Some(Operator::Rotate),
+        Function::Abs | Function::Odd | Function::Ord | Function::Chr | Function::Len => None,
+    }
+}
+
+/// A function of two values. Its name stands at `span`.
+#[tactic(auto, unfolding(crate::specs::Functions::two_of))]
+pub fn two_of(
+    alloc: Global,
+    function: Function,
+    span: Span,
+    left: Operand,
+    right: Operand,
+) -> Result<Operand, Refused>
+    ensures { Judges (spec.two_of function span.line left right) result }
+{
+    let operator = fitting(shift_of(function), Code::Parameters, span)?;
+    let left = fitting(number_of(left), Code::Parameters, span)?;
+    let right = fitting(number_of(right), Code::Parameters, span)?;
+    let mut steps = Items::new(alloc);
+    steps.push(Operation {
+        operator,
+        line: span.line,
+        operand: right,
+    })?;
+    Ok(Operand::Value(
+        Basic::Integer,
+        TypedExpr::Chain(Boxed::new(alloc, left)?, steps),
+    ))
+}

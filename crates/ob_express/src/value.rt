@@ -1,0 +1,142 @@
+//! What statements take: variables that they write, values, and actual parameters.
+
+ghost use Rattle.std.specs.Prelude.{◌≡◌};
+ghost use Rattle.ob_declare.specs.Rule.{Judges};
+ghost use Rattle.ob_express.specs.Expressions as spec;
+
+use crate::expression::{all_passed, expr, target_part};
+use crate::operand::{Operand, Variables, fitting, number_of, truth_of, value_for};
+use ob_base::{Code, Items, Refused};
+use ob_declare::{Imports, Scope};
+use ob_mean::whole::{Argument, Designator, TypedExpr};
+use ob_parse::tree::{Designator as Written, Expr};
+use ob_scan::Span;
+use ob_types::{Basic, Formal, ObType};
+use std::alloc::Global;
+
+/// A variable that may be written, or a part of one, with its type.
+pub fn target(
+    alloc: Global,
+    imports: &Imports,
+    scope: &Scope,
+    levels: u32,
+    variables: Variables,
+    d: &Written,
+) -> Result<(ObType, Designator, Variables), Refused>
+    ensures { Judges (spec.target_at imports.now scope.now levels variables d.now) result }
+{
+    let (of, place, variables) = target_part(alloc, imports, scope, levels, variables, d)?;
+    Ok((of.copy(alloc)?, place, variables))
+}
+
+/// The actual parameters of a call, as many as there are formal ones. The called name stands at `span`.
+#[tactic(auto, unfolding(crate::specs::Expressions::actuals_at))]
+pub fn actuals(
+    alloc: Global,
+    imports: &Imports,
+    scope: &Scope,
+    levels: u32,
+    formals: &[Formal],
+    span: Span,
+    variables: Variables,
+    es: &[Expr],
+) -> Result<(Items<Argument>, Variables), Refused>
+    ensures { Judges (spec.actuals_at imports.now scope.now levels formals.now variables es.now) result }
+{
+    all_passed(alloc, imports, scope, levels, formals, span, variables, es)
+}
+
+fn is_value(operand: Operand) -> Option<(Basic, TypedExpr)>
+    ensures { result ≡ spec.is_value operand }
+{
+    match operand {
+        Operand::Value(basic, value) => Some((basic, value)),
+        Operand::Text(_) | Operand::Place(_, _) => None,
+    }
+}
+
+/// A value of basic type.
+#[tactic(auto, unfolding(crate::specs::Expressions::value_at))]
+pub fn value(
+    alloc: Global,
+    imports: &Imports,
+    scope: &Scope,
+    levels: u32,
+    variables: Variables,
+    e: &Expr,
+) -> Result<(Basic, TypedExpr, Variables), Refused>
+    ensures { Judges (spec.value_at imports.now scope.now levels variables e.now) result }
+{
+    let (operand, variables) = expr(alloc, imports, scope, levels, variables, e)?;
+    let (basic, value) = fitting(is_value(operand), Code::Types, e.first_token())?;
+    Ok((basic, value, variables))
+}
+
+/// A value for a variable of a basic type.
+#[tactic(auto, unfolding(crate::specs::Expressions::value_for_at))]
+pub fn assigned_value(
+    alloc: Global,
+    imports: &Imports,
+    scope: &Scope,
+    levels: u32,
+    basic: Basic,
+    variables: Variables,
+    e: &Expr,
+) -> Result<(TypedExpr, Variables), Refused>
+    ensures { Judges (spec.value_for_at imports.now scope.now levels basic variables e.now) result }
+{
+    let (operand, variables) = expr(alloc, imports, scope, levels, variables, e)?;
+    let value = value_for(alloc, basic, operand, e.first_token())?;
+    Ok((value, variables))
+}
+
+/// A truth value on which a statement depends.
+#[tactic(auto, unfolding(crate::specs::Expressions::guard_at))]
+pub fn guard(
+    alloc: Global,
+    imports: &Imports,
+    scope: &Scope,
+    levels: u32,
+    variables: Variables,
+    e: &Expr,
+) -> Result<(TypedExpr, Variables), Refused>
+    ensures { Judges (spec.guard_at imports.now scope.now levels variables e.now) result }
+{
+    let (operand, variables) = expr(alloc, imports, scope, levels, variables, e)?;
+    let value = fitting(truth_of(operand), Code::Types, e.first_token())?;
+    Ok((value, variables))
+}
+
+/// A number that a predeclared procedure takes.
+#[tactic(auto, unfolding(crate::specs::Expressions::number_at))]
+pub fn number(
+    alloc: Global,
+    imports: &Imports,
+    scope: &Scope,
+    levels: u32,
+    variables: Variables,
+    e: &Expr,
+) -> Result<(TypedExpr, Variables), Refused>
+    ensures { Judges (spec.number_at imports.now scope.now levels variables e.now) result }
+{
+    let (operand, variables) = expr(alloc, imports, scope, levels, variables, e)?;
+    let value = fitting(number_of(operand), Code::Parameters, e.first_token())?;
+    Ok((value, variables))
+}
+
+/// A truth value that a predeclared procedure takes.
+#[tactic(auto, unfolding(crate::specs::Expressions::truth_at))]
+pub fn truth(
+    alloc: Global,
+    imports: &Imports,
+    scope: &Scope,
+    levels: u32,
+    variables: Variables,
+    e: &Expr,
+) -> Result<(TypedExpr, Variables), Refused>
+    ensures { Judges (spec.truth_at imports.now scope.now levels variables e.now) result }
+{
+    let (operand, variables) = expr(alloc, imports, scope, levels, variables, e)?;
+    let value = fitting(truth_of(operand), Code::Parameters, e.first_token())?;
+    Ok((value, variables))
+}
