@@ -282,13 +282,24 @@ ListFits names (s ∷ rest) = StatFits names s × ListFits names rest
 -- what the body of a module can name
 abbrev pub names_in : Program → Loaded → Names
 names_in program m = record {
-  program = program; imports = m.imports; variables = m.tree.variables; procedures = m.tree.procedures; parameters = []; own = [] }
+  program = program;
+  imports = m.imports;
+  variables = m.tree.variables;
+  procedures = m.tree.procedures;
+  parameters = [];
+  own = [];
+}
 
 -- and a procedure of it
 abbrev pub names_of : Program → Loaded → TypedProcedure → Names
 names_of program m f = record {
-  program = program; imports = m.imports; variables = m.tree.variables; procedures = m.tree.procedures;
-  parameters = f.parameters; own = f.variables }
+  program = program;
+  imports = m.imports;
+  variables = m.tree.variables;
+  procedures = m.tree.procedures;
+  parameters = f.parameters;
+  own = f.variables;
+}
 
 abbrev pub ResultFits : Names → Option TypedExpr → Type 0
 ResultFits names None = Unit {0}
