@@ -15,3 +15,6 @@ mod statement;
 
 pub use checked::{Checked, Imported};
 pub use module::check;
+
+#[cfg(test)]
+mod tests;
