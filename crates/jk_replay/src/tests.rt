@@ -173,18 +173,30 @@ fn a_loop_whole_and_in_slices(rt: HostRuntime) -> Result<(), Fail> {
 }
 
 #[test]
-fn cells_that_do_not_run(rt: HostRuntime) -> Result<(), Fail> {
+fn compile_errors(rt: HostRuntime) -> Result<(), Fail> {
     let unknown = "MODULE A; BEGIN x := 1 END A.";
     let mixed = "MODULE L; VAR x: INTEGER; BEGIN x := x < 1 END L.";
-    for (code, name, told) in [
-        (unknown, "CompileError", "compile error 10 at 1:17"),
-        (mixed, "CompileError", "compile error 12 at 1:38"),
-        ("(* (* *)", "CompileError", "compile error 2 at 1:1"),
-        ("Q.P", "LinkError", "link error 30: Q"),
-        ("Out.Ln; Q.P", "LinkError", "link error 31: Out.Ln"),
+    for (code, told) in [
+        (unknown, "compile error 10 at 1:17"),
+        (mixed, "compile error 12 at 1:38"),
+        ("(* (* *)", "compile error 2 at 1:1"),
     ] {
         let line = cell_line(rt.alloc(), "m", code)?;
-        let failure = failed(rt.alloc(), "m", name, told)?;
+        let failure = failed(rt.alloc(), "m", "CompileError", told)?;
+        let wanted = cell_lines(rt.alloc(), "m", code, &[], failure.as_str())?;
+        assert_rests(&rt, line.as_str(), wanted.as_str())?;
+    }
+    Ok(())
+}
+
+#[test]
+fn link_errors(rt: HostRuntime) -> Result<(), Fail> {
+    for (code, told) in [
+        ("Q.P", "link error 30: Q"),
+        ("Out.Ln; Q.P", "link error 31: Out.Ln"),
+    ] {
+        let line = cell_line(rt.alloc(), "m", code)?;
+        let failure = failed(rt.alloc(), "m", "LinkError", told)?;
         let wanted = cell_lines(rt.alloc(), "m", code, &[], failure.as_str())?;
         assert_rests(&rt, line.as_str(), wanted.as_str())?;
     }
