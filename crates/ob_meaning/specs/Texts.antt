@@ -1,7 +1,7 @@
 -- The meaning of a cell of the whole language, from its text: it is read by the tokens and the grammar, judged by the static
 -- rules over the modules that are loaded, linked, and run by what its typed tree means (Wirth, The Programming Language Oberon,
 -- Oberon-07; In and Out after the Oakwood Guidelines).
-use Rattle.std.specs.Prelude.{◌≡◌, ℕ, zero, suc, List, [], ◌∷◌, length, map, Option, Some, None, Result, Ok, Err}
+use Rattle.std.specs.Prelude.{◌≡◌, ℕ, zero, suc, List, [], ◌∷◌, ◌++◌, length, map, Option, Some, None, Result, Ok, Err}
 use Rattle.std.specs.List.{flat_map}
 use Rattle.ob_base.specs.declared.fault.Code.{Code}
 use Rattle.ob_inout.specs.Reading.{Line}
@@ -17,7 +17,6 @@ use Rattle.ob_check.specs.Modules.{module_at}
 use Rattle.ob_session.specs.Session.{Session, Module, Import, find_module}
 use Rattle.ob_session.specs.Cells.{CellMeaning, Checked, OfModule, OfCommands, CommandName, checked_meaning}
 use Rattle.ob_session.specs.Laws.{IsLawful, IsFed}
-use Rattle.std.specs.Prelude.{◌++◌}
 
 -- ---- the modules that are loaded, as the static rules see them
 
