@@ -16,8 +16,8 @@ use Rattle.ob_code.specs.declared.instr.Line.{Line}
 use Rattle.ob_code.specs.declared.instr.Frame.{Frame}
 use Rattle.ob_code.specs.declared.instr.Procedure.{Procedure}
 use Rattle.ob_code.specs.declared.instr.CodeModule.{CodeModule}
-use Rattle.ob_code.specs.Valid.{height_of, height_at, Fits, LinesFit, IsValid}
-use Rattle.ob_code.specs.Stuck.{IsWithin, IsInCode, IsNeverStuck}
+use Rattle.ob_code.specs.Valid.{height_of, height_at, Fits, IsValid}
+use Rattle.ob_code.specs.Stuck.{IsInCode, IsNeverStuck}
 use Rattle.ob_code.specs.Machine.{Code, Memory, Config, Effect, Moves, Turns, Fails, Finishes, Misses, at, stored, put, on_top, on_two, operated, called, returned, perform, act, effect, lines_of, Point, Going, Standing, Lost, take_effect, next, after, Comes, start}
 use Rattle.ob_code.proofs.Runs.{goes_on, moves, takes_turn, has_no_turn, finishes, fails}
 use Rattle.ob_code.proofs.Each.{stands_within}

@@ -3,5 +3,6 @@
 
 mod compile;
 mod emit;
+pub mod whole;
 
 pub use compile::generate;

@@ -1,5 +1,5 @@
 -- What contracts see of the buffer of In.
-use Rattle.std.specs.Prelude.{◌≡◌, List, ℕ, [], None, Bool, drop, length, nat_lt}
+use Rattle.std.specs.Prelude.{◌≡◌, List, ℕ, [], None, Bool, true, false, drop, length, nat_lt}
 use Rattle.ob_inout.specs.declared.answer.Answer.{Answer}
 use Rattle.ob_inout.specs.declared.answer.Answer.TheVariants as answers
 use Rattle.ob_inout.specs.Reading.{Input, opened, given, after_blanks}
@@ -36,3 +36,8 @@ IsAnswer (answers.Value chars) (answers.Value done) before after = after ≡ cha
 IsAnswer answers.Failed answers.Failed before after = after ≡ before
 IsAnswer answers.NeedsLine answers.NeedsLine before after = after ≡ before
 IsAnswer _ _ before after = ⊥
+
+abbrev pub is_value : {A : Type 0} → Answer A → Bool
+is_value (answers.Value value) = true
+is_value answers.Failed = false
+is_value answers.NeedsLine = false

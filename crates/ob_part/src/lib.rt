@@ -6,3 +6,6 @@ mod module;
 mod statement;
 
 pub use module::first_part;
+
+#[cfg(test)]
+mod tests;

@@ -87,16 +87,14 @@ pub(crate) fn copy(alloc: Global, value: &Value) -> Result<Value, AllocError>
     }
 }
 
-/// The character of a number, where it is one.
-pub(crate) fn natural(number: i32) -> Result<u8, NoAnswer>
-    ensures { IfOk result (λ c. c ≡ texts.natural number) }
+/// The character that a cell holds: 0X for a number that is none.
+pub(crate) fn character(number: i32) -> u8
+    ensures { result ≡ texts.character number }
 {
-    if number < 0 {
-        Ok(0)
-    } else if number < 256 {
-        Ok(number as u8)
+    if number >= 0 && number < 256 {
+        number as u8
     } else {
-        Err(NoAnswer)
+        0
     }
 }
 
@@ -106,7 +104,7 @@ pub(crate) fn characters(row: &Value, out: &mut Vec<u8>) -> Result<(), NoAnswer>
 {
     match row {
         Value::Beside(first, rest) => {
-            let c = natural(number(first))?;
+            let c = character(number(first));
             out.push(c)?;
             characters(rest, out)
         }
@@ -120,7 +118,7 @@ pub(crate) fn text(row: &Value, out: &mut Vec<u8>) -> Result<(), NoAnswer>
 {
     match row {
         Value::Beside(first, rest) => {
-            let c = natural(number(first))?;
+            let c = character(number(first));
             if c == 0 {
                 return Ok(());
             }

@@ -4,6 +4,7 @@
 mod calls;
 mod input;
 mod loops;
+mod operators;
 mod traps;
 mod trees;
 mod values;

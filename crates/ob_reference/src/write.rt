@@ -9,7 +9,7 @@ ghost use Rattle.ob_mean.specs.whole.Values.{get};
 ghost use Rattle.ob_reference.specs.Kept.{place_of};
 ghost use Rattle.ob_reference.specs.States.{Follows, supply_in, world_in};
 
-use crate::row::natural;
+use crate::row::character;
 use crate::state::{State, take_turn};
 use crate::stop::{NoAnswer, Stop};
 use crate::variable::characters_at;
@@ -18,11 +18,10 @@ use ob_mean::whole::TurnKind;
 use std::alloc::Global;
 
 fn put_number_char(state: &mut State, number: i32) -> Result<(), NoAnswer>
-    ensures world { OnOk result (world_in state.new ≡ write (world_in state.old) (char_text (texts.natural number))) }
+    ensures world { OnOk result (world_in state.new ≡ write (world_in state.old) (char_text (texts.character number))) }
     ensures supply { OnOk result (supply_in state.new ≡ supply_in state.old) }
 {
-    let c = natural(number)?;
-    put_char(&mut state.written, c)?;
+    put_char(&mut state.written, character(number))?;
     Ok(())
 }
 
@@ -61,7 +60,7 @@ pub(crate) fn write_nothing(state: &mut State) -> Result<(), Stop>
 
 /// The character of a number.
 pub(crate) fn write_char(state: &mut State, number: i32) -> Result<(), Stop>
-    ensures { Follows (λ _. done) result state.new (turn kind.Output (supply_in state.old) (world_in state.old) (λ n. Goes done n (write (world_in state.old) (char_text (texts.natural number))))) }
+    ensures { Follows (λ _. done) result state.new (turn kind.Output (supply_in state.old) (world_in state.old) (λ n. Goes done n (write (world_in state.old) (char_text (texts.character number))))) }
 {
     take_turn(state, TurnKind::Output)?;
     Ok(put_number_char(state, number)?)

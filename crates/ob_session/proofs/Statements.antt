@@ -19,7 +19,7 @@ use Rattle.ob_mean.specs.declared.whole.outcome.TurnKind.TheVariants as kind
 use Rattle.ob_mean.specs.declared.whole.expression.Callee.{Callee}
 use Rattle.ob_mean.specs.declared.whole.expression.Argument.{Argument}
 use Rattle.ob_mean.specs.whole.Values.{Place, Value, Cell, get}
-use Rattle.ob_mean.specs.whole.Texts.{natural, characters}
+use Rattle.ob_mean.specs.whole.Texts.{character, characters}
 use Rattle.ob_mean.specs.whole.Runs.{World, supply, Goes, Done, done, Piece, and_then, turn, write, stored, with_input}
 use Rattle.ob_mean.specs.whole.Input.{finds, reading, kept}
 use Rattle.ob_mean.specs.whole.Expressions.{Scope, traps, variable_place, value_of, argument_of}
@@ -62,7 +62,7 @@ module _ (scope : Scope) (calls : (f : Callee) (a : Value) (line : ℕ) → Good
   output_good : (call : OutputCall) → Good (output_meaning scope call)
   output_good outgoing.Open b w = turn_within b kind.Output w (λ n1. Goes done n1 w) (goes_at b w.written done w refl)
   output_good (outgoing.Char e) b w =
-      bind_at (value_good scope calls e b w) (λ c w1. writes_at b kind.Output w1 (char_text (natural c)))
+      bind_at (value_good scope calls e b w) (λ c w1. writes_at b kind.Output w1 (char_text (character c)))
   output_good (outgoing.String d) b w =
       bind_at (place_good scope calls d b w) (λ p w1. writes_at b kind.Output w1 (string_text (characters (get w1.store p))))
   output_good (outgoing.Int e width) b w =

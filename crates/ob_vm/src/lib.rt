@@ -7,6 +7,7 @@ mod operands;
 mod run;
 mod state;
 mod step;
+pub mod whole;
 
 pub use image::Image;
 pub use machine::{Machine, Room};

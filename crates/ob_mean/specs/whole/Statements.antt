@@ -17,7 +17,7 @@ use Rattle.ob_mean.specs.declared.whole.statement.TypedStatement.TheVariants.{Si
 use Rattle.ob_mean.specs.declared.whole.outcome.TrapKind.TheVariants as trap
 use Rattle.ob_mean.specs.declared.whole.outcome.TurnKind.TheVariants as kind
 use Rattle.ob_mean.specs.whole.Values.{Place, Cell, count, get, number}
-use Rattle.ob_mean.specs.whole.Texts.{natural, characters, text_row}
+use Rattle.ob_mean.specs.whole.Texts.{character, characters, text_row}
 use Rattle.ob_mean.specs.whole.Arithmetic.{truth, wrap}
 use Rattle.ob_mean.specs.whole.Runs.{Goes, Done, done, Piece, and_then, turn, choose, stored, write, with_input}
 use Rattle.ob_mean.specs.whole.Input.{finds, reading, kept}
@@ -48,7 +48,7 @@ input_meaning scope (incoming.Read reader d) n w =
 abbrev pub output_meaning : Scope → OutputCall → Piece Done
 output_meaning scope outgoing.Open n w = turn kind.Output n w (λ n1. Goes done n1 w)
 output_meaning scope (outgoing.Char e) n w =
-    and_then (value_of scope e n w) (λ c n1 w1. turn kind.Output n1 w1 (λ n2. Goes done n2 (write w1 (char_text (natural c)))))
+    and_then (value_of scope e n w) (λ c n1 w1. turn kind.Output n1 w1 (λ n2. Goes done n2 (write w1 (char_text (character c)))))
 output_meaning scope (outgoing.String d) n w =
     and_then (place_of scope d n w) (λ p n1 w1. turn kind.Output n1 w1 (λ n2.
     Goes done n2 (write w1 (string_text (characters (get w1.store p))))))

@@ -7,13 +7,18 @@ abbrev pub natural : ℤ → ℕ
 natural (pos n) = n
 natural (negsuc n) = 0
 
+-- the character that a cell holds: of a number from 0 to 255 that one, and 0X of any other, which no CHAR holds
+abbrev pub character : ℤ → ℕ
+character (pos n) = if nat_lt n 256 then n else 0
+character (negsuc n) = 0
+
 -- the characters of an array, to its end
 abbrev pub characters : Value → List ℕ
 characters (Cell z) = []
 characters (Named p) = []
 characters (Open p k) = []
 characters Nothing = []
-characters (Beside v rest) = natural (number v) ∷ characters rest
+characters (Beside v rest) = character (number v) ∷ characters rest
 
 -- those before the first 0X, or all of them
 abbrev pub before_zero : List ℕ → List ℕ

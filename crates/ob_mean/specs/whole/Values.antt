@@ -92,13 +92,13 @@ named (Open p k) = p
 named Nothing = Whole
 named (Beside v rest) = Whole
 
--- ---- the picture of a store as one row of cells, which is what a machine keeps
+-- ---- the picture of a store as one row of cells, which is what a machine keeps; what parameters name stands beside it
 
--- how many cells a value takes: the name of an open array has its length beside it
+-- how many cells a value takes
 abbrev pub size : Value → ℕ
 size (Cell z) = 1
-size (Named p) = 1
-size (Open p k) = 2
+size (Named p) = 0
+size (Open p k) = 0
 size Nothing = 0
 size (Beside v rest) = size v + size rest
 
@@ -124,14 +124,10 @@ shape (Open p k) = Open p k
 shape Nothing = Nothing
 shape (Beside v rest) = Beside (shape v) (shape rest)
 
--- the cells of a value, where places have these addresses
-abbrev pub cells : (Place → ℕ) → Value → List ℤ
-cells f (Cell z) = z ∷ []
-cells f (Named p) = pos (f p) ∷ []
-cells f (Open p k) = pos (f p) ∷ pos k ∷ []
-cells f Nothing = []
-cells f (Beside v rest) = cells f v ++ cells f rest
-
 -- all variables as one row of cells
 abbrev pub image : Value → List ℤ
-image s = cells (offset (shape s)) s
+image (Cell z) = z ∷ []
+image (Named p) = []
+image (Open p k) = []
+image Nothing = []
+image (Beside v rest) = image v ++ image rest

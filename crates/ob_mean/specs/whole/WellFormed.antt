@@ -1,6 +1,6 @@
 -- Trees in which each number names what is there, and each thing is used as what it is. The static rules give no others,
 -- and a compiler may rest on it.
-use Rattle.std.specs.Prelude.{◌≡◌, ◌≢◌, ℕ, zero, suc, ◌<◌, pos, Option, Some, None, List, [], ◌∷◌, length, slice_get}
+use Rattle.std.specs.Prelude.{◌≡◌, ◌≢◌, ℕ, zero, suc, ◌+◌, ◌^◌, ◌<◌, pos, Bool, true, false, Option, Some, None, List, [], ◌∷◌, length, slice_get}
 use Rattle.ob_mean.specs.declared.whole.expression.Variable.{Variable}
 use Rattle.ob_mean.specs.declared.whole.expression.Variable.TheVariants as variable
 use Rattle.ob_mean.specs.declared.whole.expression.Callee.{Callee}
@@ -19,7 +19,10 @@ use Rattle.ob_mean.specs.declared.whole.module.Parameter.TheVariants as paramete
 use Rattle.ob_mean.specs.declared.whole.module.ModuleVariable.{ModuleVariable}
 use Rattle.ob_mean.specs.declared.whole.module.ModuleVariable.TheVariants.{Declared, Text}
 use Rattle.ob_mean.specs.declared.whole.module.TypedProcedure.{TypedProcedure}
+use Rattle.ob_mean.specs.declared.whole.module.TypedModule.{TypedModule}
 use Rattle.ob_mean.specs.declared.whole.module.Loaded.{Loaded}
+use Rattle.ob_mean.specs.declared.whole.face.Heading.{Heading}
+use Rattle.ob_mean.specs.declared.whole.face.Face.{Face}
 use Rattle.ob_mean.specs.declared.whole.statement.Action.{Action}
 use Rattle.ob_mean.specs.declared.whole.statement.Action.TheVariants.{Assign, Copy, AssignText, Adjust, Assert, Call, Input, Output}
 use Rattle.ob_mean.specs.declared.whole.statement.Reader.{Reader}
@@ -33,6 +36,8 @@ use Rattle.ob_mean.specs.declared.whole.statement.TypedStatement.{TypedStatement
 use Rattle.ob_mean.specs.declared.whole.statement.TypedStatement.TheBlock.{Row_of-Branch, end_of-Branch, more_of-Branch, Row_of-CaseArm, end_of-CaseArm, more_of-CaseArm}
 use Rattle.ob_mean.specs.declared.whole.statement.TypedStatement.TheVariants.{Simple, If', Case', While', Repeat', For'}
 use Rattle.ob_mean.specs.whole.Programs.{Program}
+use Rattle.ob_mean.specs.whole.Values.{size}
+use Rattle.ob_mean.specs.whole.Shapes.{zero_of, zeros, opening_row}
 
 -- ---- what names stand for
 
@@ -41,38 +46,37 @@ pub data Object : Type 0 where
   Of : Shape → Object
   OpenOf : Shape → Object
 
--- what a text can name: the loaded modules, the numbers of those that its module imports, its module's variables and
--- procedures, and the parameters and other variables of its procedure
+-- what a text can name: what is known of the modules that its module imports, its module's variables and procedures, and
+-- the parameters and other variables of its procedure
 pub record Names : Type 0 where
-  pub program : Program
-  pub imports : List ℕ
+  pub faces : List Face
   pub variables : List ModuleVariable
   pub procedures : List TypedProcedure
   pub parameters : List Parameter
   pub own : List Shape
 
-abbrev pub module_in : Program → Option ℕ → Option Loaded
-module_in program None = None
-module_in program (Some m) = slice_get program m
-
--- the module of an import
-abbrev pub imported : Names → ℕ → Option Loaded
-imported names i = module_in names.program (slice_get names.imports i)
-
 -- ---- procedures
 
-abbrev pub procedure_at : List TypedProcedure → Option ℕ → Option TypedProcedure
-procedure_at fs None = None
-procedure_at fs (Some p) = slice_get fs p
+abbrev pub is_there : {A : Type 0} → Option A → Bool
+is_there None = false
+is_there (Some a) = true
 
-abbrev pub exported_by : Option Loaded → ℕ → Option TypedProcedure
-exported_by None place = None
-exported_by (Some m) place = procedure_at m.tree.procedures (slice_get m.tree.exported place)
+-- what callers know of a procedure
+abbrev pub heading_of : TypedProcedure → Heading
+heading_of f = record { parameters = f.parameters; is_function = is_there f.result }
+
+abbrev pub own_heading : Option TypedProcedure → Option Heading
+own_heading None = None
+own_heading (Some f) = Some (heading_of f)
+
+abbrev pub face_heading : Option Face → ℕ → Option Heading
+face_heading None place = None
+face_heading (Some face) place = slice_get face.procedures place
 
 -- the procedure that is called
-abbrev pub called : Names → Callee → Option TypedProcedure
-called names (callee.OfModule p) = slice_get names.procedures p
-called names (callee.OfImport i place) = exported_by (imported names i) place
+abbrev pub called : Names → Callee → Option Heading
+called names (callee.OfModule p) = own_heading (slice_get names.procedures p)
+called names (callee.OfImport i place) = face_heading (slice_get names.faces i) place
 
 -- ---- variables and their parts
 
@@ -81,13 +85,13 @@ module_object None = None
 module_object (Some (Declared shape)) = Some (Of shape)
 module_object (Some (Text characters n)) = Some (Of (Array n Basic))
 
-abbrev pub import_object : Option Loaded → ℕ → Option Object
-import_object None x = None
-import_object (Some m) x = module_object (slice_get m.tree.variables x)
-
 abbrev pub shape_object : Option Shape → Option Object
 shape_object None = None
 shape_object (Some shape) = Some (Of shape)
+
+abbrev pub face_object : Option Face → ℕ → Option Object
+face_object None x = None
+face_object (Some face) x = shape_object (slice_get face.variables x)
 
 -- a parameter that holds a value
 abbrev pub value_object : Parameter → Option Object
@@ -110,7 +114,7 @@ named_object (Some (parameter.Open shape)) = Some (OpenOf shape)
 
 abbrev pub variable_object : Names → Variable → Option Object
 variable_object names (variable.OfModule x) = module_object (slice_get names.variables x)
-variable_object names (variable.OfImport i x) = import_object (imported names i) x
+variable_object names (variable.OfImport i x) = face_object (slice_get names.faces i) x
 variable_object names (variable.OfProcedure x) = own_object names.parameters names.own x
 variable_object names (variable.ByParameter x) = named_object (slice_get names.parameters x)
 
@@ -157,8 +161,9 @@ IsBasic object = object ≡ Some (Of Basic)
 abbrev pub IsText : Option Object → Type 0
 IsText object = elements_in object ≡ Some Basic
 
+-- an array whose elements have cells, and so no more elements than its object has cells
 abbrev pub IsArray : Option Object → Type 0
-IsArray object = (element : Shape) × (elements_in object ≡ Some element)
+IsArray object = (element : Shape) × (elements_in object ≡ Some element) × (0 < size (zero_of element))
 
 -- two structured variables of one shape, neither of them an open array
 abbrev pub AreAlike : Option Object → Option Object → Type 0
@@ -177,7 +182,7 @@ abbrev mutual
       IndexesFit names a × IndexesFit names b × IsText (object_of names a) × IsText (object_of names b)
   ExprFits names (Length d) = IndexesFit names d × IsArray (object_of names d)
   ExprFits names (Function' f line k args) =
-      (g : TypedProcedure) × (called names f ≡ Some g) × (g.result ≢ None) × RowPassed names args g.parameters
+      (g : Heading) × (called names f ≡ Some g) × (g.is_function ≡ true) × RowPassed names args g.parameters
 
   pub ExprsFit : Names → {k : _} → Row_of-TypedExpr k → Type 0
   ExprsFit names end_of-TypedExpr = Unit {0}
@@ -244,7 +249,7 @@ ActionFits names (AssignText d line text) = IndexesFit names d × IsText (object
 ActionFits names (Adjust a d e) = IndexesFit names d × IsBasic (object_of names d) × ExprFits names e
 ActionFits names (Assert line e) = ExprFits names e
 ActionFits names (Call f line args) =
-    (g : TypedProcedure) × (called names f ≡ Some g) × (g.result ≡ None) × ListPassed names args g.parameters
+    (g : Heading) × (called names f ≡ Some g) × (g.is_function ≡ false) × ListPassed names args g.parameters
 ActionFits names (Input call) = InputFits names call
 ActionFits names (Output call) = OutputFits names call
 
@@ -280,52 +285,78 @@ ListFits names (s ∷ rest) = StatFits names s × ListFits names rest
 -- ---- modules
 
 -- what the body of a module can name
-abbrev pub names_in : Program → Loaded → Names
-names_in program m = record {
-  program = program;
-  imports = m.imports;
-  variables = m.tree.variables;
-  procedures = m.tree.procedures;
-  parameters = [];
-  own = [];
-}
+abbrev pub names_in : List Face → TypedModule → Names
+names_in faces m = record { faces = faces; variables = m.variables; procedures = m.procedures; parameters = []; own = [] }
 
 -- and a procedure of it
-abbrev pub names_of : Program → Loaded → TypedProcedure → Names
-names_of program m f = record {
-  program = program;
-  imports = m.imports;
-  variables = m.tree.variables;
-  procedures = m.tree.procedures;
-  parameters = f.parameters;
-  own = f.variables;
-}
+abbrev pub names_of : List Face → TypedModule → TypedProcedure → Names
+names_of faces m f = record { faces = faces; variables = m.variables; procedures = m.procedures; parameters = f.parameters; own = f.variables }
 
 abbrev pub ResultFits : Names → Option TypedExpr → Type 0
 ResultFits names None = Unit {0}
 ResultFits names (Some e) = ExprFits names e
 
-abbrev pub ProceduresFit : Program → Loaded → List TypedProcedure → Type 0
-ProceduresFit program m [] = Unit {0}
-ProceduresFit program m (f ∷ fs) =
-    ListFits (names_of program m f) f.body × ResultFits (names_of program m f) f.result × ProceduresFit program m fs
+-- cells have addresses below 2^31
+abbrev pub cell_limit : ℕ
+cell_limit = 2 ^ 31
+
+abbrev pub ProcedureFits : Names → TypedProcedure → Type 0
+ProcedureFits names f = ListFits names f.body × ResultFits names f.result × (length f.parameters + size (zeros f.variables) < cell_limit)
+
+abbrev pub ProceduresFit : List Face → TypedModule → List TypedProcedure → Type 0
+ProceduresFit faces m [] = Unit {0}
+ProceduresFit faces m (f ∷ fs) = ProcedureFits (names_of faces m f) f × ProceduresFit faces m fs
 
 -- numbers of what is there
 abbrev pub AllBelow : ℕ → List ℕ → Type 0
 AllBelow n [] = Unit {0}
 AllBelow n (i ∷ is) = (i < n) × AllBelow n is
 
--- a module among the loaded ones
-pub record IsWellFormed (program : Program) (m : Loaded) : Type 0 where
-  pub imports : AllBelow (length program) m.imports
-  pub exported : AllBelow (length m.tree.procedures) m.tree.exported
-  pub procedures : ProceduresFit program m m.tree.procedures
-  pub body : ListFits (names_in program m) m.tree.body
+abbrev pub FacesFit : List Face → Type 0
+FacesFit [] = Unit {0}
+FacesFit (face ∷ rest) = (size (zeros face.variables) < cell_limit) × FacesFit rest
 
-abbrev pub EachWellFormed : Program → List Loaded → Type 0
-EachWellFormed program [] = Unit {0}
-EachWellFormed program (m ∷ ms) = IsWellFormed program m × EachWellFormed program ms
+-- a module over what is known of those that it imports
+pub record IsWellFormed (faces : List Face) (m : TypedModule) : Type 0 where
+  pub known : FacesFit faces
+  pub cells : size (opening_row m.variables) < cell_limit
+  pub exported : AllBelow (length m.procedures) m.exported
+  pub procedures : ProceduresFit faces m m.procedures
+  pub body : ListFits (names_in faces m) m.body
 
--- all loaded modules
-abbrev pub IsWellFormedProgram : Program → Type 0
-IsWellFormedProgram program = EachWellFormed program program
+-- ---- loaded modules
+
+-- the declared variables begin with these
+abbrev pub StartWith : List Shape → List ModuleVariable → Type 0
+StartWith [] variables = Unit {0}
+StartWith (shape ∷ shapes) [] = ⊥
+StartWith (shape ∷ shapes) (Declared other ∷ rest) = (shape ≡ other) × StartWith shapes rest
+StartWith (shape ∷ shapes) (Text characters n ∷ rest) = ⊥
+
+-- these are the procedures with these numbers
+abbrev pub AreHeadings : List Heading → List TypedProcedure → List ℕ → Type 0
+AreHeadings [] procedures [] = Unit {0}
+AreHeadings [] procedures (p ∷ ps) = ⊥
+AreHeadings (h ∷ hs) procedures [] = ⊥
+AreHeadings (h ∷ hs) procedures (p ∷ ps) = (own_heading (slice_get procedures p) ≡ Some h) × AreHeadings hs procedures ps
+
+-- what is known of a module is so
+pub record IsFaceOf (face : Face) (m : TypedModule) : Type 0 where
+  pub variables : StartWith face.variables m.variables
+  pub procedures : AreHeadings face.procedures m.procedures m.exported
+
+abbrev pub Shows : Option Loaded → Face → Type 0
+Shows None face = ⊥
+Shows (Some m) face = IsFaceOf face m.tree
+
+-- each import is a loaded module of this face
+abbrev pub AllShow : Program → List ℕ → List Face → Type 0
+AllShow program [] [] = Unit {0}
+AllShow program [] (face ∷ faces) = ⊥
+AllShow program (i ∷ is) [] = ⊥
+AllShow program (i ∷ is) (face ∷ faces) = Shows (slice_get program i) face × AllShow program is faces
+
+-- a loaded module that may run, over what is known of those that it imports
+pub record IsLinked (program : Program) (faces : List Face) (m : Loaded) : Type 0 where
+  pub formed : IsWellFormed faces m.tree
+  pub shown : AllShow program m.imports faces

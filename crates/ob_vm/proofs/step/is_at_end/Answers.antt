@@ -1,6 +1,6 @@
 use Rattle.std.proofs.Common.{◌∙◌, refl}
 use Rattle.std.specs.Prelude.{nat_le}
-use Rattle.ob_vm.proofs.Sound.{line_cases}
+use Rattle.ob_vm.proofs.PartSound.{line_cases}
 use Rattle.ob_vm.proofs.step.is_at_end.Goals as goal
 
 pub returns : goal.returns

@@ -1,7 +1,7 @@
 use Rattle.std.proofs.Common.{ap, ◌∙◌, arith}
 use Rattle.ob_code.specs.Machine.{act, returned}
 use Rattle.ob_vm.specs.Steps.{config_of}
-use Rattle.ob_vm.proofs.Sound.{back_sound, none_is}
+use Rattle.ob_vm.proofs.PartSound.{back_sound, none_is}
 use Rattle.ob_vm.proofs.step.leave.Goals as goal
 
 pub returns-clause-sound : goal.returns-clause-sound

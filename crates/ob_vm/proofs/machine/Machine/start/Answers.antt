@@ -4,7 +4,7 @@ use Rattle.ob_code.specs.declared.instr.Frame.{Frame}
 use Rattle.ob_code.specs.Valid.{IsValid}
 use Rattle.ob_vm.specs.Stacks.{Stacked}
 use Rattle.ob_vm.specs.States.{ImageState, HasRoom}
-use Rattle.ob_vm.proofs.Sound.{start_stacked}
+use Rattle.ob_vm.proofs.PartSound.{start_stacked}
 use Rattle.ob_vm.proofs.machine.Machine.start.Goals as goal
 
 pub returns-clause-fits : goal.returns-clause-fits

@@ -1,0 +1,6 @@
+pub mod Tables
+pub mod Known
+pub mod Trees
+pub mod Lists
+pub mod Sequences
+pub mod Generated

@@ -1,0 +1,17 @@
+pub mod Reaches
+pub mod Store
+pub mod Zeros
+pub mod Places
+pub mod Passing
+pub mod Expressions
+pub mod Actions
+pub mod Control
+pub mod Statements
+pub mod Frames
+pub mod Linked
+pub mod Flows
+pub mod Fitting
+pub mod Calls
+pub mod Ends
+pub mod Behaves
+pub mod Commands

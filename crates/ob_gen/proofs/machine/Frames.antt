@@ -1,0 +1,255 @@
+-- What stands where in the store: the modules' variables, and those of the running call.
+use Rattle.std.proofs.Common.{◌≡◌, ℕ, zero, suc, ◌+◌, ◌<◌, pos, List, [], ◌∷◌, ◌++◌, length, Some, None, refl, sym, ap, ◌∙◌, subst, arith, length-append}
+use Rattle.std.specs.Prelude.{slice_get}
+use Rattle.ob_mean.specs.declared.whole.shape.Shape.{Shape}
+use Rattle.ob_mean.specs.declared.whole.shape.Shape.TheVariants.{Basic}
+use Rattle.ob_mean.specs.declared.whole.module.ModuleVariable.{ModuleVariable}
+use Rattle.ob_mean.specs.declared.whole.module.ModuleVariable.TheVariants.{Declared, Text}
+use Rattle.ob_mean.specs.declared.whole.module.Parameter.{Parameter}
+use Rattle.ob_mean.specs.declared.whole.module.Parameter.TheVariants as parameter
+use Rattle.ob_mean.specs.declared.whole.module.Loaded.{Loaded}
+use Rattle.ob_mean.specs.whole.Values.{Place, Whole, Part, Value, Cell, Named, Open, Beside, count, size, item, before, get, named, offset, shape, image, append}
+use Rattle.ob_mean.specs.whole.Shapes.{zero_of, zeros, opening_value, opening_row}
+use Rattle.ob_mean.specs.whole.Texts.{text_row}
+use Rattle.ob_mean.specs.whole.Programs.{Program, opening_store}
+use Rattle.ob_mean.specs.whole.WellFormed.{Object, Of, OpenOf, module_object, shape_object, value_object, own_object, named_object, StartWith, cell_limit}
+use Rattle.ob_code.specs.declared.whole.instr.Extent.{Extent}
+use Rattle.ob_code.specs.declared.whole.instr.Name.{Name}
+use Rattle.ob_gen.specs.whole.Code.{extent_at, parameter_value, parameter_row, named_one, named_before}
+use Rattle.ob_gen.specs.whole.Correct.{named_count, parameter_count}
+use Rattle.ob_gen.proofs.machine.Store.{Inside, IsRow, size-shape, count-append, item-front, before-front, name_is, open_is}
+use Rattle.ob_gen.proofs.machine.Zeros.{declared_shape, declared_row, shape-opening, shape-opening_value, shape-text_row, zero-array}
+use Rattle.ob_gen.proofs.machine.Places.{IsObject, PlaceFits, some_same}
+use Rattle.ob_gen.proofs.machine.Passing.{OneFits, PassedFit, one_name, names_passed}
+
+-- ---- a variable in a row of variables, and where code looks for it
+
+-- in the row u there stands a variable of this shape, at this extent
+pub record HeldAt (u : Value) (x : ℕ) (t : Shape) (e : Extent) : Type 0 where
+  pub there : x < count u
+  pub is : item u x ≡ zero_of t
+  pub from : before u x ≡ e.from
+  pub cells : size (item u x) ≡ e.cells
+
+held_later : (v u : Value) (x : ℕ) (t : Shape) (e e' : Extent) → e'.from ≡ size v + e.from → e'.cells ≡ e.cells → HeldAt u x t e → HeldAt (Beside v u) (suc x) t e'
+held_later v u x t e e' a b h =
+    record { there = omega (arith, h.there); is = h.is; from = omega (arith, h.from, a); cells = h.cells ∙ sym b }
+
+-- the module's own
+pub held_module : (vs : List ModuleVariable) (x : ℕ) (o : Object) → module_object (slice_get vs x) ≡ Some o → (t : Shape) × (o ≡ Of t) × HeldAt (declared_row vs) x t (extent_at (opening_row vs) x)
+held_module [] x o e = absurd (let n : None ≡ Some o = e in cc)
+held_module (Declared t ∷ vs) zero o e = (t, sym (some_same (Of t) o e), record { there = omega arith; is = refl; from = refl; cells = refl })
+held_module (Text cs n ∷ vs) zero o e =
+    (_, sym (some_same _ o e), record { there = omega arith; is = sym (zero-array n Basic); from = refl; cells = ap size (sym (shape-text_row n cs)) ∙ size-shape (text_row n cs) })
+held_module (v ∷ vs) (suc x) o e =
+    let h = held_module vs x o e in
+    let same : size (declared_shape v) ≡ size (opening_value v) = ap size (sym (shape-opening_value v)) ∙ size-shape (opening_value v) in
+    (h.0, h.1, held_later (declared_shape v) (declared_row vs) x h.0 (extent_at (opening_row vs) x) (extent_at (opening_row (v ∷ vs)) (suc x)) (omega (arith, same)) refl h.2)
+
+-- those that an importing module knows of
+pub held_import : (ts : List Shape) (vs : List ModuleVariable) (x : ℕ) (o : Object) → StartWith ts vs → shape_object (slice_get ts x) ≡ Some o → (t : Shape) × (o ≡ Of t) × HeldAt (declared_row vs) x t (extent_at (zeros ts) x)
+held_import [] vs x o h e = absurd (let n : None ≡ Some o = e in cc)
+held_import (t ∷ ts) [] x o h e = absurd h
+held_import (t ∷ ts) (Text cs n ∷ vs) x o h e = absurd h
+held_import (t ∷ ts) (Declared u ∷ vs) zero o h e =
+    let same : zero_of u ≡ zero_of t = ap zero_of (sym h.0) in
+    (t, sym (some_same (Of t) o e), record { there = omega arith; is = same; from = refl; cells = ap size same })
+held_import (t ∷ ts) (Declared u ∷ vs) (suc x) o h e =
+    let k = held_import ts vs x o h.1 e in
+    let same : size (zero_of u) ≡ size (zero_of t) = ap (λ y. size (zero_of y)) (sym h.0) in
+    (k.0, k.1, held_later (zero_of u) (declared_row vs) x k.0 (extent_at (zeros ts) x) (extent_at (zeros (t ∷ ts)) (suc x)) (omega (arith, same)) refl k.2)
+
+-- those of a call
+held_zeros : (ts : List Shape) (x : ℕ) (o : Object) → shape_object (slice_get ts x) ≡ Some o → (t : Shape) × (o ≡ Of t) × HeldAt (zeros ts) x t (extent_at (zeros ts) x)
+held_zeros [] x o e = absurd (let n : None ≡ Some o = e in cc)
+held_zeros (t ∷ ts) zero o e = (t, sym (some_same (Of t) o e), record { there = omega arith; is = refl; from = refl; cells = refl })
+held_zeros (t ∷ ts) (suc x) o e =
+    let k = held_zeros ts x o e in
+    (k.0, k.1, held_later (zero_of t) (zeros ts) x k.0 (extent_at (zeros ts) x) (extent_at (zeros (t ∷ ts)) (suc x)) refl refl k.2)
+
+one_size : (s : Value) (p : Parameter) (v : Value) → OneFits s p v → size (shape v) ≡ size (parameter_value p)
+one_size s parameter.Value v h = ap (λ x. size (shape x)) h.1
+one_size s (parameter.Place t) v h = ap (λ x. size (shape x)) h.1
+one_size s (parameter.Open t) v h = ap (λ x. size (shape x)) h.2
+
+-- the variables of a call, of what was passed
+abbrev pub own_of : Value → List Shape → Value
+own_of a ts = append (shape a) (zeros ts)
+
+abbrev own_rows : List Parameter → List Shape → Value
+own_rows ps ts = append (parameter_row ps) (zeros ts)
+
+held_first : (s : Value) (p : Parameter) (v u u' : Value) (o : Object) → OneFits s p v → value_object p ≡ Some o → (t : Shape) × (o ≡ Of t) × HeldAt (Beside (shape v) u) 0 t (extent_at (Beside (parameter_value p) u') 0)
+held_first s parameter.Value v u u' o h e =
+    let same : shape v ≡ Cell (pos 0) = ap shape h.1 in
+    (Basic, sym (some_same (Of Basic) o e), record { there = omega arith; is = same; from = refl; cells = ap size same })
+held_first s (parameter.Place t) v u u' o h e = absurd (let n : None ≡ Some o = e in cc)
+held_first s (parameter.Open t) v u u' o h e = absurd (let n : None ≡ Some o = e in cc)
+
+pub held_own : (s : Value) (ps : List Parameter) (ts : List Shape) (a : Value) (x : ℕ) (o : Object) → PassedFit s ps a → own_object ps ts x ≡ Some o → (t : Shape) × (o ≡ Of t) × HeldAt (own_of a ts) x t (extent_at (own_rows ps ts) x)
+held_own s [] ts a x o h e = subst (λ y. (t : Shape) × (o ≡ Of t) × HeldAt (own_of y ts) x t (extent_at (own_rows [] ts) x)) (sym h) (held_zeros ts x o e)
+held_own s (p ∷ ps) ts a zero o h e =
+    subst (λ y. (t : Shape) × (o ≡ Of t) × HeldAt (own_of y ts) 0 t (extent_at (own_rows (p ∷ ps) ts) 0)) (sym h.2)
+    (held_first s p h.0 (own_of h.1 ts) (own_rows ps ts) o h.3 e)
+held_own s (p ∷ ps) ts a (suc x) o h e =
+    let k = held_own s ps ts h.1 x o h.4 e in
+    let same = one_size s p h.0 h.3 in
+    subst (λ y. (t : Shape) × (o ≡ Of t) × HeldAt (own_of y ts) (suc x) t (extent_at (own_rows (p ∷ ps) ts) (suc x))) (sym h.2)
+    (k.0, k.1, held_later (shape h.0) (own_of h.1 ts) x k.0 (extent_at (own_rows ps ts) x) (extent_at (own_rows (p ∷ ps) ts) (suc x)) (omega (arith, same)) refl k.2)
+
+-- ---- what a parameter names
+
+pub record NamesAt (s : Value) (u : Value) (names : List Name) (x y : ℕ) (o : Object) : Type 0 where
+  pub place : Place
+  pub many : ℕ
+  pub there : x < count u
+  pub called : (v : Value) → shape v ≡ item u x → named v ≡ place
+  pub found : slice_get names y ≡ Some (record { address = offset s place; cells = size (get s place); length = many })
+  pub leads : Inside s place
+  pub is : IsObject s many o place
+  pub low : size (get s place) < cell_limit
+
+names_first : (s : Value) (p : Parameter) (v u : Value) (rest : List Name) (o : Object) → OneFits s p v → named_object (Some p) ≡ Some o → NamesAt s (Beside (shape v) u) (one_name s v ++ rest) 0 0 o
+names_first s parameter.Value v u rest o h e = absurd (let n : None ≡ Some o = e in cc)
+names_first s (parameter.Place t) v u rest o h e =
+    let same : Of t ≡ o = some_same (Of t) o e in
+    let is_name : shape v ≡ Named h.0 = ap shape h.1 in
+    record {
+      place = h.0;
+      many = 0;
+      there = omega arith;
+      called = λ y q. ap named (name_is y h.0 (q ∙ is_name));
+      found = ap (λ y. slice_get (one_name s y ++ rest) 0) h.1;
+      leads = h.2;
+      is = subst (λ y. IsObject s 0 y h.0) same h.3;
+      low = h.4;
+    }
+names_first s (parameter.Open t) v u rest o h e =
+    let same : OpenOf t ≡ o = some_same (OpenOf t) o e in
+    let is_name : shape v ≡ Open h.0 h.1 = ap shape h.2 in
+    record {
+      place = h.0;
+      many = h.1;
+      there = omega arith;
+      called = λ y q. ap named (open_is y h.0 h.1 (q ∙ is_name));
+      found = ap (λ y. slice_get (one_name s y ++ rest) 0) h.2;
+      leads = h.3;
+      is = subst (λ y. IsObject s h.1 y h.0) same h.4;
+      low = h.5;
+    }
+
+names_skip : (s : Value) (p : Parameter) (v : Value) (rest : List Name) (n : ℕ) → OneFits s p v → slice_get (one_name s v ++ rest) (named_one p + n) ≡ slice_get rest n
+names_skip s parameter.Value v rest n h = let e : 0 + n ≡ n = omega arith in ap (λ y. slice_get (one_name s y ++ rest) (0 + n)) h.1 ∙ ap (slice_get rest) e
+names_skip s (parameter.Place t) v rest n h = let e : 1 + n ≡ suc n = omega arith in ap (λ y. slice_get (one_name s y ++ rest) (1 + n)) h.1 ∙ ap (slice_get (one_name s (Named h.0) ++ rest)) e
+names_skip s (parameter.Open t) v rest n h = let e : 1 + n ≡ suc n = omega arith in ap (λ y. slice_get (one_name s y ++ rest) (1 + n)) h.2 ∙ ap (slice_get (one_name s (Open h.0 h.1) ++ rest)) e
+
+pub names_own : (s : Value) (ps : List Parameter) (ts : List Shape) (a : Value) (x : ℕ) (o : Object) → PassedFit s ps a → named_object (slice_get ps x) ≡ Some o → NamesAt s (own_of a ts) (names_passed s a) x (named_before ps x) o
+names_own s [] ts a x o h e = absurd (let n : None ≡ Some o = e in cc)
+names_own s (p ∷ ps) ts a zero o h e =
+    subst (λ y. NamesAt s (own_of y ts) (names_passed s y) 0 0 o) (sym h.2) (names_first s p h.0 (own_of h.1 ts) (names_passed s h.1) o h.3 e)
+names_own s (p ∷ ps) ts a (suc x) o h e =
+    let k = names_own s ps ts h.1 x o h.4 e in
+    subst (λ y. NamesAt s (own_of y ts) (names_passed s y) (suc x) (named_before (p ∷ ps) (suc x)) o) (sym h.2)
+    (record {
+      place = k.place;
+      many = k.many;
+      there = omega (arith, k.there);
+      called = k.called;
+      found = names_skip s p h.0 (names_passed s h.1) (named_before ps x) h.3 ∙ k.found;
+      leads = k.leads;
+      is = k.is;
+      low = k.low;
+    })
+
+-- ---- how much is passed
+
+pub passed_row : (s : Value) (ps : List Parameter) (a : Value) → PassedFit s ps a → IsRow a
+passed_row s [] a h = subst IsRow (sym h) tt
+passed_row s (p ∷ ps) a h = subst IsRow (sym h.2) (passed_row s ps h.1 h.4)
+
+one_named : (s : Value) (p : Parameter) (v : Value) → OneFits s p v → length (one_name s v) ≡ named_one p
+one_named s parameter.Value v h = ap (λ y. length (one_name s y)) h.1
+one_named s (parameter.Place t) v h = ap (λ y. length (one_name s y)) h.1
+one_named s (parameter.Open t) v h = ap (λ y. length (one_name s y)) h.2
+
+one_either : (s : Value) (p : Parameter) (v : Value) → OneFits s p v → length (image v) + named_one p ≡ 1
+one_either s parameter.Value v h = ap (λ y. length (image y) + 0) h.1
+one_either s (parameter.Place t) v h = ap (λ y. length (image y) + 1) h.1
+one_either s (parameter.Open t) v h = ap (λ y. length (image y) + 1) h.2
+
+pub passed_names : (s : Value) (ps : List Parameter) (a : Value) → PassedFit s ps a → length (names_passed s a) ≡ named_count ps
+passed_names s [] a h = ap (λ y. length (names_passed s y)) h
+passed_names s (p ∷ ps) a h =
+    ap (λ y. length (names_passed s y)) h.2
+    ∙ (let one = one_named s p h.0 h.3 in let others = passed_names s ps h.1 h.4 in omega (arith, length-append (one_name s h.0) (names_passed s h.1), one, others))
+
+pub passed_all : (s : Value) (ps : List Parameter) (a : Value) → PassedFit s ps a → length (image a) + named_count ps ≡ parameter_count ps
+passed_all s [] a h = ap (λ y. length (image y) + 0) h
+passed_all s (p ∷ ps) a h =
+    ap (λ y. length (image y) + named_count (p ∷ ps)) h.2
+    ∙ (let one = one_either s p h.0 h.3 in let others = passed_all s ps h.1 h.4 in omega (arith, length-append (image h.0) (image h.1), one, others))
+
+pub passed_size : (s : Value) (ps : List Parameter) (a : Value) → PassedFit s ps a → size (shape a) ≡ size (parameter_row ps)
+passed_size s [] a h = ap (λ y. size (shape y)) h
+passed_size s (p ∷ ps) a h =
+    ap (λ y. size (shape y)) h.2 ∙ (let one = one_size s p h.0 h.3 in let others = passed_size s ps h.1 h.4 in omega (arith, one, others))
+
+-- ---- a row of variables in the store
+
+-- its variables are places of the store
+pub variable_at : (s : Value) (i x base : ℕ) (u : Value) (t : Shape) (e : Extent) (name : Name) → i < count s → item s i ≡ u → before s i ≡ base → HeldAt u x t e → name.address ≡ base + e.from → name.cells ≡ e.cells
+    → PlaceFits s name (Of t) (Part (Part Whole i) x) × (offset s (Part (Part Whole i) x) ≡ name.address)
+variable_at s i x base u t e name lt is at h address cells =
+    let far : before (item s i) x ≡ e.from = ap (λ v. before v x) is ∙ h.from in
+    let many : size (item (item s i) x) ≡ e.cells = ap (λ v. size (item v x)) is ∙ h.cells in
+    let off : offset s (Part (Part Whole i) x) ≡ name.address = omega (arith, far, at, address) in (
+      record {
+        leads = ((tt, lt), omega (arith, h.there, ap count is));
+        from = omega (arith, off);
+        ends = omega (arith, off, many, cells);
+        is = ap (λ v. item v x) is ∙ h.is;
+      },
+      off,
+    )
+
+-- the modules stand first
+pub record StoreFits (program : Program) (s : Value) : Type 0 where
+  pub row : IsRow s
+  pub others : Value
+  pub has : s ≡ append (shape (opening_store program)) others
+
+pub record ModuleAt (s : Value) (i : ℕ) (u : Value) (base : ℕ) : Type 0 where
+  pub there : i < count s
+  pub is : item s i ≡ u
+  pub at : before s i ≡ base
+
+opening_at : (program : Program) (i : ℕ) (m : Loaded) → slice_get program i ≡ Some m → ModuleAt (shape (opening_store program)) i (declared_row m.tree.variables) (before (opening_store program) i)
+opening_at [] i m e = absurd (let n : None ≡ Some m = e in cc)
+opening_at (k ∷ ms) zero m e =
+    let same : k ≡ m = some_same k m e in
+    record { there = omega arith; is = shape-opening k.tree.variables ∙ ap (λ (y : Loaded). declared_row y.tree.variables) same; at = refl }
+opening_at (k ∷ ms) (suc i) m e =
+    let h = opening_at ms i m e in
+    record { there = omega (arith, h.there); is = h.is; at = omega (arith, h.at, size-shape (opening_row k.tree.variables)) }
+
+pub module_at : (program : Program) (s : Value) (i : ℕ) (m : Loaded) → StoreFits program s → slice_get program i ≡ Some m → ModuleAt s i (declared_row m.tree.variables) (before (opening_store program) i)
+module_at program s i m fit e =
+    let a = shape (opening_store program) in
+    let h = opening_at program i m e in
+    subst (λ y. ModuleAt y i (declared_row m.tree.variables) (before (opening_store program) i)) (sym fit.has)
+    (record {
+      there = omega (arith, h.there, count-append a fit.others);
+      is = item-front a fit.others i h.there ∙ h.is;
+      at = before-front a fit.others i h.there ∙ h.at;
+    })
+
+-- ---- a list of names
+
+pub get_left : {A : Type 0} (xs ys : List A) (n : ℕ) (x : A) → slice_get xs n ≡ Some x → slice_get (xs ++ ys) n ≡ Some x
+get_left [] ys n x e = absurd (let y : None ≡ Some x = e in cc)
+get_left (z ∷ xs) ys zero x e = e
+get_left (z ∷ xs) ys (suc n) x e = get_left xs ys n x e
+
+pub get_right : {A : Type 0} (xs ys : List A) (n : ℕ) → slice_get (xs ++ ys) (length xs + n) ≡ slice_get ys n
+get_right [] ys n = let e : 0 + n ≡ n = omega arith in ap (slice_get ys) e
+get_right (z ∷ xs) ys n = let e : suc (length xs) + n ≡ suc (length xs + n) = omega arith in ap (slice_get (z ∷ (xs ++ ys))) e ∙ get_right xs ys n

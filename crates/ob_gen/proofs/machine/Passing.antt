@@ -1,0 +1,71 @@
+-- What is passed to a procedure: operands for values, names for places.
+use Rattle.std.proofs.Common.{◌≡◌, ℕ, ◌+◌, ◌<◌, ℤ, List, [], ◌∷◌, ◌++◌, length, Bool, true, false, Some, refl, arith}
+use Rattle.std.specs.Prelude.{slice_get}
+use Rattle.ob_mean.specs.declared.whole.expression.Callee.{Callee}
+use Rattle.ob_mean.specs.declared.whole.module.Parameter.{Parameter}
+use Rattle.ob_mean.specs.declared.whole.module.Parameter.TheVariants as parameter
+use Rattle.ob_mean.specs.declared.whole.face.Heading.{Heading}
+use Rattle.ob_mean.specs.whole.Values.{Place, Value, Cell, Named, Open, Nothing, Beside, get, size, offset, image, row}
+use Rattle.ob_mean.specs.whole.Shapes.{zero_of}
+use Rattle.ob_mean.specs.whole.Runs.{World, Supply}
+use Rattle.ob_mean.specs.whole.Expressions.{Scope, only}
+use Rattle.ob_mean.specs.whole.WellFormed.{Names, called, cell_limit}
+use Rattle.ob_code.specs.declared.whole.instr.Instr.TheVariants.{Invoke}
+use Rattle.ob_code.specs.declared.whole.instr.Name.{Name}
+use Rattle.ob_code.specs.whole.Machine.{Code}
+use Rattle.ob_gen.specs.whole.Code.{line}
+use Rattle.ob_gen.proofs.machine.Reaches.{Running, lines_in, here, Good, Reaches, SoMany}
+use Rattle.ob_gen.proofs.machine.Store.{Inside}
+
+-- what is passed to one parameter
+abbrev pub OneFits : Value → Parameter → Value → Type 0
+OneFits s parameter.Value v = (z : ℤ) × (v ≡ Cell z)
+OneFits s (parameter.Place t) v = (q : Place) × (v ≡ Named q) × Inside s q × (get s q ≡ zero_of t) × (size (get s q) < cell_limit)
+OneFits s (parameter.Open t) v = (q : Place) × (k : ℕ) × (v ≡ Open q k) × Inside s q × (get s q ≡ row k (zero_of t)) × (size (get s q) < cell_limit)
+
+-- and to all
+abbrev pub PassedFit : Value → List Parameter → Value → Type 0
+PassedFit s [] a = a ≡ Nothing
+PassedFit s (p ∷ ps) a = (v : Value) × (rest : Value) × (a ≡ Beside v rest) × OneFits s p v × PassedFit s ps rest
+
+-- the names that are pending for it
+abbrev pub one_name : Value → Value → List Name
+one_name s (Cell z) = []
+one_name s (Named p) = record { address = offset s p; cells = size (get s p); length = 0 } ∷ []
+one_name s (Open p k) = record { address = offset s p; cells = size (get s p); length = k } ∷ []
+one_name s Nothing = []
+one_name s (Beside v rest) = []
+
+abbrev pub names_passed : Value → Value → List Name
+names_passed s (Cell z) = []
+names_passed s (Named p) = []
+names_passed s (Open p k) = []
+names_passed s Nothing = []
+names_passed s (Beside v rest) = one_name s v ++ names_passed s rest
+
+-- operands over those that lie there, the last on top
+abbrev pub pile : List ℤ → List ℤ → List ℤ
+pile [] stack = stack
+pile (v ∷ vs) stack = pile vs (v ∷ stack)
+
+pub pile-append : (a b stack : List ℤ) → pile (a ++ b) stack ≡ pile b (pile a stack)
+pile-append [] b stack = refl
+pile-append (v ∷ a) b stack = pile-append a b (v ∷ stack)
+
+-- how many numbers a call leaves
+abbrev pub results : Bool → ℕ
+results true = 1
+results false = 0
+
+pub one_result : (vs stack : List ℤ) → length vs ≡ 1 → vs ++ stack ≡ only vs ∷ stack
+one_result [] stack e = absurd (omega arith)
+one_result (v ∷ []) stack e = refl
+one_result (v ∷ (u ∷ vs)) stack e = absurd (omega arith)
+
+pub no_result : (vs stack : List ℤ) → length vs ≡ 0 → vs ++ stack ≡ stack
+no_result [] stack e = refl
+no_result (v ∷ vs) stack e = absurd (omega arith)
+
+-- the machine does what these calls do
+pub record CallsRun (code : Code) (r : Running) (s : Value) (names : Names) (scope : Scope) : Type 0 where
+  pub by : (f : Callee) (l h k pc : ℕ) (g : Heading) (a : Value) (stack : List ℤ) (pending : List Name) (n : Supply) (most : ℕ) (w : World) → Good most s n w → called names f ≡ Some g → PassedFit s g.parameters a → slice_get (lines_in code r) pc ≡ Some (line h k (Invoke f l)) → Reaches code most s (SoMany (results g.is_function)) (here r pc (pile (image a) stack) (pending ++ names_passed s a) n w) (λ vs n' w'. here r (pc + 1) (vs ++ stack) pending n' w') (scope.call f a l n w)

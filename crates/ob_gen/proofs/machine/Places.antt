@@ -1,0 +1,231 @@
+-- Where objects are: what is known of variables, elements and fields, and of the numbers that stand for places.
+use Rattle.std.proofs.Common.{◌≡◌, ℕ, zero, suc, ◌+◌, ◌-◌, ◌<◌, ◌≤◌, ℤ, pos, List, [], ◌∷◌, Option, Some, None, true, refl, sym, ap, ◌∙◌, arith}
+use Rattle.std.specs.Prelude.{slice_get, slice_index_or, nat_lt, nat_le, cond}
+use Rattle.std.specs.Int.{w32, int_wrap}
+use Rattle.std.proofs.lemmas.Int.{int_wrap_fits}
+use Rattle.std.proofs.lemmas.Bool.Decides.{nat_tests}
+use Rattle.ob_mean.specs.declared.whole.expression.Variable.{Variable}
+use Rattle.ob_mean.specs.declared.whole.expression.Variable.TheVariants as variable
+use Rattle.ob_mean.specs.declared.whole.expression.Designator.{Designator, end_of-Designator, more_of-Designator}
+use Rattle.ob_mean.specs.declared.whole.expression.Designator.TheVariants as designator
+use Rattle.ob_mean.specs.declared.whole.shape.Shape.{Shape, Row_of-Shape, end_of-Shape, more_of-Shape}
+use Rattle.ob_mean.specs.declared.whole.shape.Shape.TheVariants.{Basic, Array', Record'}
+use Rattle.ob_mean.specs.declared.whole.module.ModuleVariable.{ModuleVariable}
+use Rattle.ob_mean.specs.declared.whole.module.ModuleVariable.TheVariants.{Declared, Text}
+use Rattle.ob_mean.specs.declared.whole.module.Parameter.{Parameter}
+use Rattle.ob_mean.specs.declared.whole.module.Parameter.TheVariants as parameter
+use Rattle.ob_mean.specs.declared.whole.face.Face.{Face}
+use Rattle.ob_mean.specs.whole.Values.{Place, Part, Value, count, size, item, get, offset, shape, row}
+use Rattle.ob_mean.specs.whole.Shapes.{zero_of, zeros_in, at_least_one}
+use Rattle.ob_mean.specs.whole.Runs.{World}
+use Rattle.ob_mean.specs.whole.Expressions.{Scope, variable_place}
+use Rattle.ob_mean.specs.whole.WellFormed.{Object, Of, OpenOf, Names, module_object, shape_object, face_object, value_object, own_object, variable_object, elements_in, field_at, field_shape, field_in, object_of, cell_limit}
+use Rattle.ob_code.specs.declared.whole.instr.Root.{Root}
+use Rattle.ob_code.specs.declared.whole.instr.Root.TheVariants as root
+use Rattle.ob_code.specs.declared.whole.instr.Name.{Name}
+use Rattle.ob_code.specs.whole.Machine.{Code, import_number, cells_in, no_name, part_of, object, name_at, elements, within}
+use Rattle.ob_gen.specs.whole.Code.{root_of, root_in, name_number, length_in, length_of}
+use Rattle.ob_gen.proofs.machine.Reaches.{Running, conf}
+use Rattle.ob_gen.proofs.machine.Store.{Inside, inside-leads, count-row, before-within}
+
+-- ---- what is known of a variable
+
+-- the cells that a root stands for while a procedure runs
+abbrev pub rooted : Code → Running → Root → Name
+rooted code r (root.OfModule e) = part_of (cells_in (slice_get code r.home)) e
+rooted code r (root.OfImport i e) = part_of (cells_in (slice_get code (import_number code r.home i))) e
+rooted code r (root.OfCall e) = part_of r.cells e
+rooted code r (root.Named x) = slice_index_or r.below (r.names + x) no_name
+
+-- the machine finds them, whatever names are pending, and numbers of cells among them are no long ones
+pub record RootFits (code : Code) (r : Running) (t : Root) : Type 0 where
+  pub found : (pc : ℕ) (stack : List ℤ) (pending : List Name) (w : World) → object code (conf r pc stack pending w) t ≡ rooted code r t
+  pub low : (rooted code r t).cells < cell_limit
+
+-- what stands at a place
+abbrev pub IsObject : Value → ℕ → Object → Place → Type 0
+IsObject s many (Of t) p = get s p ≡ zero_of t
+IsObject s many (OpenOf t) p = get s p ≡ row many (zero_of t)
+
+-- an object at a place, which is within these cells
+pub record PlaceFits (s : Value) (name : Name) (o : Object) (p : Place) : Type 0 where
+  pub leads : Inside s p
+  pub from : name.address ≤ offset s p
+  pub ends : offset s p + size (get s p) ≤ name.address + name.cells
+  pub is : IsObject s name.length o p
+
+-- a variable is at one place as long as its procedure runs
+pub record VariableFits (code : Code) (r : Running) (s : Value) (names : Names) (scope : Scope) (v : Variable) (o : Object) : Type 0 where
+  pub place : Place
+  pub stands : (w : World) → shape w.store ≡ s → variable_place scope v w.store ≡ place
+  pub root : RootFits code r (root_of names v)
+  pub fits : PlaceFits s (rooted code r (root_of names v)) o place
+  pub at : offset s place ≡ (rooted code r (root_of names v)).address
+
+-- what a procedure can name is where its code looks for it
+pub record FrameFits (code : Code) (r : Running) (s : Value) (names : Names) (scope : Scope) : Type 0 where
+  pub home : scope.home ≡ r.home
+  pub variables : (v : Variable) (o : Object) → variable_object names v ≡ Some o → VariableFits code r s names scope v o
+
+-- ---- numbers
+
+pub le_true : (i n : ℕ) → i ≤ n → nat_le i n ≡ true
+le_true i n e = grind (arith, nat_tests)
+
+pub lt_true : (i n : ℕ) → nat_lt i n ≡ true → i < n
+lt_true i n e = grind (arith, nat_tests)
+
+-- a low number doesn't wrap
+pub wraps_low : (n : ℕ) → n < cell_limit → int_wrap w32 (pos n) ≡ pos n
+wraps_low n lt = int_wrap_fits w32 (pos n) (omega arith)
+
+pub within_by : (name : Name) (a m : ℕ) → name.address ≤ a → a + m ≤ name.address + name.cells → within name (pos (a - name.address)) m ≡ Some a
+within_by name a m from ends =
+    let low : a - name.address + m ≤ name.cells = omega arith in
+    let back : name.address + (a - name.address) ≡ a = omega arith in
+    ap (λ b. cond b (Some (name.address + (a - name.address))) None) (le_true (a - name.address + m) name.cells low) ∙ ap Some back
+
+-- ---- objects
+
+pub some_same : {A : Type 0} (x y : A) → Some x ≡ Some y → x ≡ y
+some_same x y e = cc
+
+pub shape_some : (x : Option Shape) (o : Object) → shape_object x ≡ Some o → (t : Shape) × (x ≡ Some t) × (o ≡ Of t)
+shape_some None o e = absurd (let n : None ≡ Some o = e in cc)
+shape_some (Some t) o e = (t, refl, sym (some_same (Of t) o e))
+
+pub elements_some : (x : Option Object) (t : Shape) → elements_in x ≡ Some t → (o : Object) × (x ≡ Some o)
+elements_some None t e = absurd (let n : None ≡ Some t = e in cc)
+elements_some (Some o) t e = (o, refl)
+
+pub field_some : (x : Option Object) (i : ℕ) (o : Object) → field_in x i ≡ Some o → (t : Shape) × (x ≡ Some (Of t)) × (field_shape t i ≡ Some o)
+field_some None i o e = absurd (let n : None ≡ Some o = e in cc)
+field_some (Some (Of t)) i o e = (t, refl, e)
+field_some (Some (OpenOf t)) i o e = absurd (let n : None ≡ Some o = e in cc)
+
+-- an array has equal elements
+pub array_at : (s : Value) (many : ℕ) (o : Object) (p : Place) (t : Shape) → IsObject s many o p → elements_in (Some o) ≡ Some t → get s p ≡ row (count (get s p)) (zero_of t)
+array_at s many (Of Basic) p t h e = absurd (let n : None ≡ Some t = e in cc)
+array_at s many (Of (Array' n q (more_of-Shape u end_of-Shape))) p t h e =
+    let same : u ≡ t = some_same u t e in
+    let c : count (get s p) ≡ n = ap count h ∙ count-row n (zero_of u) in
+    h ∙ ap (row n) (ap zero_of same) ∙ ap (λ m. row m (zero_of t)) (sym c)
+array_at s many (Of (Record' k fields)) p t h e = absurd (let n : None ≡ Some t = e in cc)
+array_at s many (OpenOf u) p t h e =
+    let same : u ≡ t = some_same u t e in
+    let c : count (get s p) ≡ many = ap count h ∙ count-row many (zero_of u) in
+    h ∙ ap (row many) (ap zero_of same) ∙ ap (λ m. row m (zero_of t)) (sym c)
+
+-- a field of a record
+pub record IsField (v : Value) (i : ℕ) (o : Object) : Type 0 where
+  pub kind : Shape
+  pub object : o ≡ Of kind
+  pub there : i < count v
+  pub is : item v i ≡ zero_of kind
+
+field_among : {k : _} (fields : Row_of-Shape k) (i : ℕ) (o : Object) → field_at fields i ≡ Some o → IsField (zeros_in fields) i o
+field_among end_of-Shape i o e = absurd (let n : None ≡ Some o = e in cc)
+field_among (more_of-Shape t rest) zero o e = record { kind = t; object = sym (some_same (Of t) o e); there = omega arith; is = refl }
+field_among (more_of-Shape t rest) (suc i) o e =
+    let f = field_among rest i o e in
+    record { kind = f.kind; object = f.object; there = omega (arith, f.there); is = f.is }
+
+in_record : {k : _} (fields : Row_of-Shape k) (i : ℕ) (o : Object) → field_at fields i ≡ Some o → IsField (at_least_one (zeros_in fields)) i o
+in_record end_of-Shape i o e = absurd (let n : None ≡ Some o = e in cc)
+in_record (more_of-Shape t rest) i o e = field_among (more_of-Shape t rest) i o e
+
+pub field_is : (t : Shape) (i : ℕ) (o : Object) → field_shape t i ≡ Some o → IsField (zero_of t) i o
+field_is Basic i o e = absurd (let n : None ≡ Some o = e in cc)
+field_is (Array' n q r) i o e = absurd (let n : None ≡ Some o = e in cc)
+field_is (Record' k fields) i o e = in_record fields i o e
+
+-- ---- parts of places
+
+pub part_fits : (s : Value) (name : Name) (o : Object) (p : Place) (i : ℕ) (t : Shape) → PlaceFits s name o p → i < count (get s p) → item (get s p) i ≡ zero_of t → PlaceFits s name (Of t) (Part p i)
+part_fits s name o p i t f lt e = record {
+  leads = (inside-leads s p f.leads, lt);
+  from = omega (arith, f.from);
+  ends = omega (arith, f.ends, before-within (get s p) i);
+  is = e;
+}
+
+-- ---- only a parameter is an array of a length that its caller knows
+
+not_open : (t u : Shape) → Of t ≡ OpenOf u → ⊥
+not_open t u e = cc
+
+closed_module : (x : Option ModuleVariable) (t : Shape) → module_object x ≡ Some (OpenOf t) → ⊥
+closed_module None t e = let n : None ≡ Some (OpenOf t) = e in cc
+closed_module (Some (Declared u)) t e = not_open u t (some_same _ _ e)
+closed_module (Some (Text cs n)) t e = not_open _ t (some_same _ _ e)
+
+closed_shape : (x : Option Shape) (t : Shape) → shape_object x ≡ Some (OpenOf t) → ⊥
+closed_shape None t e = let n : None ≡ Some (OpenOf t) = e in cc
+closed_shape (Some u) t e = not_open u t (some_same _ _ e)
+
+closed_face : (x : Option Face) (i : ℕ) (t : Shape) → face_object x i ≡ Some (OpenOf t) → ⊥
+closed_face None i t e = let n : None ≡ Some (OpenOf t) = e in cc
+closed_face (Some f) i t e = closed_shape (slice_get f.variables i) t e
+
+closed_value : (p : Parameter) (t : Shape) → value_object p ≡ Some (OpenOf t) → ⊥
+closed_value parameter.Value t e = not_open Basic t (some_same _ _ e)
+closed_value (parameter.Place u) t e = let n : None ≡ Some (OpenOf t) = e in cc
+closed_value (parameter.Open u) t e = let n : None ≡ Some (OpenOf t) = e in cc
+
+closed_own : (ps : List Parameter) (ts : List Shape) (x : ℕ) (t : Shape) → own_object ps ts x ≡ Some (OpenOf t) → ⊥
+closed_own [] ts x t e = closed_shape (slice_get ts x) t e
+closed_own (p ∷ ps) ts zero t e = closed_value p t e
+closed_own (p ∷ ps) ts (suc x) t e = closed_own ps ts x t e
+
+open_variable : (names : Names) (v : Variable) (t : Shape) → variable_object names v ≡ Some (OpenOf t) → (x : ℕ) × (root_of names v ≡ root.Named x)
+open_variable names (variable.OfModule x) t e = absurd (closed_module (slice_get names.variables x) t e)
+open_variable names (variable.OfImport i x) t e = absurd (closed_face (slice_get names.faces i) x t e)
+open_variable names (variable.OfProcedure x) t e = absurd (closed_own names.parameters names.own x t e)
+open_variable names (variable.ByParameter x) t e = (_, refl)
+
+pub open_named : (names : Names) (d : Designator) (t : Shape) → object_of names d ≡ Some (OpenOf t) → (x : ℕ) × (root_in names d ≡ root.Named x)
+open_named names (designator.Whole v) t e = open_variable names v t e
+open_named names (designator.Element' g (more_of-Designator d end_of-Designator) l h row) t e =
+    absurd (closed_shape (elements_in (object_of names d)) t e)
+open_named names (designator.Field' h (more_of-Designator d end_of-Designator) i) t e =
+    let f = field_some (object_of names d) i (OpenOf t) e in
+    let k = field_is f.0 i (OpenOf t) f.2 in
+    absurd (not_open k.kind t (sym k.object))
+
+-- ---- designators
+
+-- the number of a place's first cell in the object that it is in
+abbrev pub mark : Code → Running → Value → Root → Place → ℤ
+mark code r s t p = pos (offset s p - (rooted code r t).address)
+
+-- the cells of a place are found through its number
+pub finds_place : (code : Code) (r : Running) (s : Value) (t : Root) (o : Object) (p : Place) (m pc : ℕ) (stack : List ℤ) (pending : List Name) (w : World) → RootFits code r t → PlaceFits s (rooted code r t) o p → size (get s p) ≡ m → within (object code (conf r pc stack pending w) t) (mark code r s t p) m ≡ Some (offset s p)
+finds_place code r s t o p m pc stack pending w root f e =
+    ap (λ name. within name (mark code r s t p) m) (root.found pc stack pending w)
+    ∙ within_by (rooted code r t) (offset s p) m f.from (omega (arith, f.ends, e))
+
+module _ (code : Code) (r : Running) (s : Value) (names : Names) (scope : Scope) (frame : FrameFits code r s names scope) where
+  pub root_fits : (d : Designator) (o : Object) → object_of names d ≡ Some o → RootFits code r (root_in names d)
+  root_fits (designator.Whole v) o e = (frame.variables v o e).root
+  root_fits (designator.Element' g (more_of-Designator d end_of-Designator) l h row) o e =
+      let t = shape_some (elements_in (object_of names d)) o e in
+      let u = elements_some (object_of names d) t.0 t.1 in
+      root_fits d u.0 u.1
+  root_fits (designator.Field' h (more_of-Designator d end_of-Designator) i) o e =
+      let f = field_some (object_of names d) i o e in
+      root_fits d (Of f.0) f.1
+
+  -- a length is found likewise
+  pub finds_length : (d : Designator) (o : Object) (t : Shape) (p : Place) (pc : ℕ) (stack : List ℤ) (pending : List Name) (w : World) → object_of names d ≡ Some o → elements_in (Some o) ≡ Some t → IsObject s (rooted code r (root_in names d)).length o p → elements (conf r pc stack pending w) (length_of names d) ≡ count (get s p)
+  finds_length d (Of u) t p pc stack pending w e a is =
+      ap (λ x. elements (conf r pc stack pending w) (length_in x (root_in names d))) e ∙ ap count (sym is)
+  finds_length d (OpenOf u) t p pc stack pending w e a is =
+      let c = conf r pc stack pending w in
+      let x = open_named names d u e in
+      let known = root_fits d (OpenOf u) e in
+      let found : object code c (root.Named x.0) ≡ rooted code r (root_in names d) = ap (object code c) (sym x.1) ∙ known.found pc stack pending w in
+      ap (λ y. elements c (length_in y (root_in names d))) e
+      ∙ ap (λ y. (name_at c (name_number y)).length) x.1
+      ∙ ap (λ (y : Name). y.length) found
+      ∙ sym (count-row (rooted code r (root_in names d)).length (zero_of u))
+      ∙ ap count (sym is)

@@ -1,0 +1,30 @@
+use Rattle.std.proofs.Common.{◌+◌, ◌-◌, min, ap, subst, sym, ◌∙◌}
+use Rattle.ob_code.specs.whole.Machine.{Code}
+use Rattle.ob_vm.specs.whole.States.{config_of}
+use Rattle.ob_vm.specs.whole.Images.{ImageState, MachineState, machine_config, machine_of}
+use Rattle.ob_vm.specs.whole.Steps.{SliceDone}
+use Rattle.ob_vm.proofs.whole.machine.Machine.turns.Goals as goal
+
+pub returns-clause-does : goal.returns-clause-does
+returns-clause-does c =
+    let u = c.run-slice.result.used in
+    let t = c.run-slice.result.turned in
+    let image = c.args.image.now in
+    let before = machine_of c.self.inside.state c.self.inside.used in
+    let after = machine_of c.run-slice.new.state 0 in
+    let same = c.deref.ensures.value ∙ ap (λ (i : ImageState). i.code) c.image.view_is in
+    let cells = ap (λ v. v.items) c.swap.ensures.y_after ∙ ap (λ (i : ImageState). i.cells) c.image.view_is in
+    let old = ap (λ xs. machine_config (record { code = image.code; may_run = image.may_run; cells = xs }) before) cells ∙ ap (machine_config image) c.self.view_is in
+    let new = ap (λ v. machine_config (record { code = image.code; may_run = image.may_run; cells = v.items }) after) (sym c.swap-2.ensures.x_after) in
+    let most = c.min-most.ensures ∙ ap (λ (m : MachineState). min c.args.n (18446744073709551615 - m.used)) c.self.view_is in
+    let here = machine_config (record { code = image.code; may_run = image.may_run; cells = c.swap.new.y.items }) before in
+    let there = config_of c.run-slice.new.state in
+    let start = machine_config image c.args.self.now in
+    let end = machine_config (record { code = image.code; may_run = image.may_run; cells = c.swap-2.new.x.items }) after in (
+      u,
+      ap (λ (m : MachineState). m.used + u) c.self.view_is,
+      subst (λ n. SliceDone image.code start end n t u) most
+          (subst (λ d. SliceDone image.code start d c.min-most.result t u) new
+          (subst (λ d. SliceDone image.code d there c.min-most.result t u) old
+          (subst (λ (m : Code). SliceDone m here there c.min-most.result t u) same c.run-slice.ensures.does))),
+    )

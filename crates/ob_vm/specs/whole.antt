@@ -1,0 +1,6 @@
+pub mod States
+pub mod Rooms
+pub mod Needs
+pub mod Rows
+pub mod Steps
+pub mod Images
