@@ -1,21 +1,21 @@
--- The codes that a checker answers: those of the static rules, 10 to 21, and that of constructs which nest deeper than the grammar
--- lets them.
+-- The codes that a checker answers: those of the static rules, 10 to 21.
 use Rattle.std.specs.Prelude.{◌≡◌, Bool, true, false}
 use Rattle.ob_base.specs.declared.fault.Code.{Code}
 use Rattle.ob_base.specs.declared.fault.Code.TheVariants as code
 use Rattle.ob_base.specs.declared.fault.Refused.{Refused}
 use Rattle.ob_base.specs.declared.fault.Refused.TheVariants as refused
 
-abbrev pub is_of_checker : Code → Bool
-is_of_checker code.Character = false
-is_of_checker code.Comment = false
-is_of_checker code.String = false
-is_of_checker code.Number = false
-is_of_checker code.Token = false
-is_of_checker code.EndName = false
-is_of_checker c = true
+abbrev pub is_rule_code : Code → Bool
+is_rule_code code.Character = false
+is_rule_code code.Comment = false
+is_rule_code code.String = false
+is_rule_code code.Number = false
+is_rule_code code.Token = false
+is_rule_code code.Nesting = false
+is_rule_code code.EndName = false
+is_rule_code c = true
 
 -- a refusal for want of memory, or with such a code
-abbrev pub HasCheckCode : Refused → Type 0
-HasCheckCode refused.Memory = Unit {0}
-HasCheckCode (refused.Fault fault) = is_of_checker fault.code ≡ true
+abbrev pub HasRuleCode : Refused → Type 0
+HasRuleCode refused.Memory = Unit {0}
+HasRuleCode (refused.Fault fault) = is_rule_code fault.code ≡ true

@@ -95,6 +95,7 @@ unfoldable pub procedure_of : Modules → ℕ → (Checking → Procedure → Ru
 procedure_of ms n inner c p =
     Then (procedure_rule ms n (length c.1 + nested n p) c.0 p) (λ e. inside_of ms n inner e c.1 c.2 p)
 
+-- a procedure among so many constructs that may still nest: one that nests deeper has no size
 unfoldable pub procedure_at : Modules → ℕ → Checking → Procedure → Rule Checking
-procedure_at ms zero c p = Breaks code.Nesting
+procedure_at ms zero c p = Breaks code.Size
 procedure_at ms (suc n) c p = procedure_of ms n (procedure_at ms n) c p

@@ -73,13 +73,13 @@ without_actuals a variables None = Given (a, variables)
 without_actuals a variables (Some []) = Given (a, variables)
 without_actuals a variables (Some (e ∷ es)) = Breaks code.Parameters
 
--- what stands in parentheses
+-- what stands in parentheses, which is one construct more
 unfoldable pub number_inside : Modules → Scope → ℕ → Variables → Expr → Rule (TypedExpr × Variables)
-number_inside ms s zero variables e = Breaks code.Nesting
+number_inside ms s zero variables e = Breaks code.Size
 number_inside ms s (suc n) variables e = number_at ms s n variables e
 
 unfoldable pub truth_inside : Modules → Scope → ℕ → Variables → Expr → Rule (TypedExpr × Variables)
-truth_inside ms s zero variables e = Breaks code.Nesting
+truth_inside ms s zero variables e = Breaks code.Size
 truth_inside ms s (suc n) variables e = truth_at ms s n variables e
 
 module _ (ms : Modules) (s : Scope) (n : ℕ) where

@@ -175,7 +175,7 @@ module _ (ms : Modules) (s : Scope) (n : ℕ) (inner : Variables → List Statem
   unfoldable pub next_statement : (List TypedStatement × Variables) → Statement → Rule (List TypedStatement × Variables)
   next_statement before x = Then (statement_of before.1 x) (λ p. Given (chain before.0 p.0, p.1))
 
--- a sequence of statements that opens among so many constructs
+-- a sequence of statements that opens among so many constructs: one that nests deeper has no size
 unfoldable pub statements_at : Modules → Scope → ℕ → Variables → List Statement → Rule (List TypedStatement × Variables)
-statements_at ms s zero variables xs = Breaks code.Nesting
+statements_at ms s zero variables xs = Breaks code.Size
 statements_at ms s (suc n) variables xs = through (next_statement ms s n (statements_at ms s n)) ([], variables) xs

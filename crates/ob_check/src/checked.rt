@@ -40,7 +40,7 @@ impl Model for Checked {
 
 impl Checked {
     /// A checked module of these parts.
-    pub fn new(tree: TypedModule, interface: Interface, imports: Items<Imported>) -> Checked
+    pub(crate) fn new(tree: TypedModule, interface: Interface, imports: Items<Imported>) -> Checked
         ensures { result ≡ record { tree = tree; interface = interface; imports = imports } }
     {
         Checked {

@@ -4,7 +4,7 @@ ghost use Rattle.std.specs.Prelude.{◌≡◌, ◌++◌, [], option_copied, IfOk
 ghost use Rattle.ob_parse.specs.declared.tree.Declarations.{out-Declarations};
 ghost use Rattle.ob_declare.specs.Rule.{Judges, gives, AnswersTree, FaultsOnly};
 ghost use Rattle.ob_check.specs.CheckedTree.{CheckedTree};
-ghost use Rattle.ob_check.specs.Codes.{is_of_checker, HasCheckCode};
+ghost use Rattle.ob_check.specs.Codes.{is_rule_code, HasRuleCode};
 ghost use Rattle.ob_check.specs.Modules as spec;
 
 use crate::checked::{Checked, Imported};
@@ -225,9 +225,9 @@ fn module_of(alloc: Global, imports: &Imports, tree: &Module) -> Result<Checked,
     behind_declarations(alloc, imports, scope, tree)
 }
 
-/// Whether a code is one of a checker's.
-fn is_of_checker(code: Code) -> bool
-    ensures { result ≡ is_of_checker code }
+/// Whether a code is one of the static rules.
+fn is_rule_code(code: Code) -> bool
+    ensures { result ≡ is_rule_code code }
 {
     match code {
         Code::Character
@@ -235,21 +235,22 @@ fn is_of_checker(code: Code) -> bool
         | Code::String
         | Code::Number
         | Code::Token
+        | Code::Nesting
         | Code::EndName => false,
         _ => true,
     }
 }
 
-/// What the rules give, with a checker's code where they are broken.
+/// What the rules give, with a code of the rules where they are broken.
 fn judged(alloc: Global, imports: &Imports, tree: &Module) -> Result<Checked, Refused>
     ensures judged { Judges (spec.module_at imports.now tree.now) result }
-    ensures codes { IfErr result (λ e. HasCheckCode e) }
+    ensures codes { IfErr result (λ e. HasRuleCode e) }
 {
     match module_of(alloc, imports, tree) {
         Ok(checked) => Ok(checked),
         Err(Refused::Memory) => Err(Refused::Memory),
         Err(Refused::Fault(fault)) => {
-            if is_of_checker(fault.code) {
+            if is_rule_code(fault.code) {
                 Err(Refused::Fault(fault))
             } else {
                 Err(Refused::Memory)
@@ -269,8 +270,8 @@ pub fn check(alloc: Global, tree: &Module, imports: &Imports) -> Result<Checked,
     ensures only { (c : CheckedTree) → gives (spec.module_at imports.now tree.now) c → AnswersTree c result }
     // The code of a refusal is broken, and then the rules give none.
     ensures faults { FaultsOnly (spec.module_at imports.now tree.now) result }
-    // The code is one of the static rules, 10 to 21, or that of constructs which nest too deep.
-    ensures codes { IfErr result (λ e. HasCheckCode e) }
+    // The code is one of the static rules, 10 to 21.
+    ensures codes { IfErr result (λ e. HasRuleCode e) }
 {
     judged(alloc, imports, tree)
 }

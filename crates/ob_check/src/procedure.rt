@@ -12,8 +12,7 @@ use ob_declare::fault::{fault, open};
 use ob_declare::{
     Declared, Entered, Entry, Imports, Scope, Standing, declare_all, enter_procedure,
 };
-use ob_express::Variables;
-use ob_express::value::assigned_value;
+use ob_express::{Variables, assigned_value};
 use ob_mean::whole::{Shape, TypedExpr, TypedProcedure, TypedStatement};
 use ob_parse::tree::{Procedure, Returned};
 use ob_scan::Span;

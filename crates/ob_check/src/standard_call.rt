@@ -8,9 +8,7 @@ use ob_base::{Boxed, Code, Items, Refused};
 use ob_declare::fault::{fault, open};
 use ob_declare::predeclared::{InputName, OutputName, ProperProcedure};
 use ob_declare::{Imports, Scope};
-use ob_express::Variables;
-use ob_express::expression::actual;
-use ob_express::value::{number, truth};
+use ob_express::{Variables, actual, number, truth};
 use ob_mean::whole::{
     Action, Adjustment, Argument, Designator, InputCall, OutputCall, Reader, TypedExpr,
 };

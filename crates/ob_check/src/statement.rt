@@ -14,8 +14,7 @@ use crate::labels::Labels;
 use ob_base::{Code, Items, Refused};
 use ob_declare::fault::{fault, open};
 use ob_declare::{Imports, Scope};
-use ob_express::Variables;
-use ob_express::value::{guard, value};
+use ob_express::{Variables, basic_value, guard};
 use ob_mean::whole::{
     Branch as TypedBranch, CaseArm, LabelRange as TypedRange, TypedExpr, TypedStatement,
 };
@@ -302,7 +301,7 @@ fn case_statement(
 ) -> Result<(TypedStatement, Variables), Refused>
     ensures { Judges (spec.case_rule imports.now scope.now levels (spec.statements_at imports.now scope.now levels) variables span.line e.now cases.now) result }
 {
-    let (basic, value, variables) = value(alloc, imports, scope, levels, variables, e)?;
+    let (basic, value, variables) = basic_value(alloc, imports, scope, levels, variables, e)?;
     arms_of(
         alloc, imports, scope, levels, span, basic, value, variables, cases,
     )

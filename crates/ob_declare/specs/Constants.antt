@@ -171,14 +171,14 @@ module _ (inner : Expr → Rule Folded) (deeper : Factor → Rule Folded) (ms : 
   unfoldable pub expr_rule : Expr → Rule Folded
   expr_rule e = Then (simple_rule (out-Expr e).left) (λ v. related v (out-Expr e).right)
 
--- what nests in an expression
+-- what nests in an expression: one that nests deeper has no size
 unfoldable mutual
   pub inner_at : Modules → Scope → ℕ → Expr → Rule Folded
-  inner_at ms s zero e = Breaks code.Nesting
+  inner_at ms s zero e = Breaks code.Size
   inner_at ms s (suc n) e = expr_rule (inner_at ms s n) (deeper_at ms s n) ms s e
 
   pub deeper_at : Modules → Scope → ℕ → Factor → Rule Folded
-  deeper_at ms s zero f = Breaks code.Nesting
+  deeper_at ms s zero f = Breaks code.Size
   deeper_at ms s (suc n) f = factor_rule (inner_at ms s n) (deeper_at ms s n) ms s f
 
 unfoldable pub expr_at : Modules → Scope → ℕ → Expr → Rule Folded

@@ -42,9 +42,9 @@ module _ (inner : FormalType → Rule ObType) (ms : Modules) (s : Scope) where
   unfoldable pub formal_rule : FormalType → Rule ObType
   formal_rule f = formal_layer (out-FormalType f)
 
--- each open array is a construct, of which so many more may nest
+-- each open array is a construct, of which so many more may nest: a heading that nests deeper has no size
 unfoldable pub inner_formal : Modules → Scope → ℕ → FormalType → Rule ObType
-inner_formal ms s zero f = Breaks code.Nesting
+inner_formal ms s zero f = Breaks code.Size
 inner_formal ms s (suc n) f = formal_rule (inner_formal ms s n) ms s f
 
 unfoldable pub formal_at : Modules → Scope → ℕ → FormalType → Rule ObType

@@ -170,13 +170,13 @@ module _ (constant : Expr → Rule Constant) (inner : ℕ → TypeExpr → Rule 
   unfoldable pub type_rule : ℕ → TypeExpr → Rule Written
   type_rule k t = type_layer k (out-TypeExpr t)
 
--- what nests in a type
+-- what nests in a type: one that nests deeper has no size
 unfoldable pub inner_constant : Modules → Scope → ℕ → Expr → Rule Constant
-inner_constant ms s zero e = Breaks code.Nesting
+inner_constant ms s zero e = Breaks code.Size
 inner_constant ms s (suc n) e = constant_at ms s n e
 
 unfoldable pub inner_type : Modules → Scope → RecordName → ℕ → ℕ → TypeExpr → Rule Written
-inner_type ms s naming zero k t = Breaks code.Nesting
+inner_type ms s naming zero k t = Breaks code.Size
 inner_type ms s naming (suc n) k t = type_rule (inner_constant ms s n) (inner_type ms s naming n) ms s naming k t
 
 unfoldable pub type_at : Modules → Scope → RecordName → ℕ → ℕ → TypeExpr → Rule Written

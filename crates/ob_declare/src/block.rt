@@ -74,7 +74,7 @@ impl Model for Block {
 
 impl Block {
     /// No declaration.
-    pub fn new(alloc: Global) -> Block
+    pub(crate) fn new(alloc: Global) -> Block
         ensures { result ≡ [] }
     {
         Block {
@@ -102,7 +102,7 @@ impl Block {
 
     /// One declaration more, of a name that the block does not have. Where memory is refused the
     /// block is to be dropped.
-    pub fn declare(
+    pub(crate) fn declare(
         &mut self,
         alloc: Global,
         name: &Text,

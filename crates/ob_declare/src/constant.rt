@@ -206,7 +206,7 @@ fn signed(sign: Option<(Sign, Span)>, value: Folded) -> Result<Folded, Refused>
 /// Two sums with a relation between them, or one alone.
 #[cycle(constant)]
 #[tactic(auto, unfolding(crate::specs::Constants::expr_rule, crate::specs::Constants::expr_at))]
-pub fn expr(
+fn expr(
     alloc: Global,
     modules: &Imports,
     scope: &Scope,

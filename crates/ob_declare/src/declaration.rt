@@ -21,7 +21,7 @@ use ob_scan::Span;
 use ob_types::{ObType, zero_size};
 use std::alloc::Global;
 
-/// How many constructs nest.
+/// How many constructs nest. A tree that was read from a text has no more; of another it is a size.
 pub const MAX_NESTING: u32 = 200;
 
 /// How many cells the variables of a module take.
@@ -464,8 +464,8 @@ fn all_variables(
 ///
 /// `Refused::Fault`: `DeclaredTwice` where the block has a name, or a record a field's; `NotConstant` for a constant or a
 /// length that is none or would trap; `Types` where types don't fit; `UnknownName`, `LeftOut` and `NotExported` for a name
-/// that stands for nothing; `Size` for a length, a type or variables of too many cells, or a type of too many levels;
-/// `Nesting` where more constructs nest than may. `Refused::Memory` where memory was refused. The scope is gone then.
+/// that stands for nothing; `Size` for a length, a type or variables of too many cells, a type of too many levels, or
+/// where more constructs nest than may. `Refused::Memory` where memory was refused. The scope is gone then.
 #[tactic(auto, unfolding(crate::specs::Declarations::declarations_rule))]
 pub fn declare_all(
     alloc: Global,

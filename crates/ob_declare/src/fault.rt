@@ -23,10 +23,10 @@ pub fn fault(code: Code, span: Span) -> Fault
 pub fn open(levels: u32, span: Span) -> Result<u32, Refused>
     ensures opened { IfOk result (λ inside. levels ≡ suc inside) }
     ensures full { OnErr result (levels ≡ 0) }
-    ensures code { IfErr result (λ e. IsFault code.Nesting e) }
+    ensures code { IfErr result (λ e. IsFault code.Size e) }
 {
     if levels == 0 {
-        return Err(Refused::Fault(fault(Code::Nesting, span)));
+        return Err(Refused::Fault(fault(Code::Size, span)));
     }
     Ok(levels - 1)
 }

@@ -294,8 +294,8 @@ fn new_procedure(
 ///
 /// `Refused::Fault`: `DeclaredTwice` where the block has the name, or the heading a parameter's name twice; `UnknownName`,
 /// `LeftOut`, `Types` and `NotExported` for what is no type's name; `Parameters` where the result is of no basic type; `Size`
-/// where an open array has more than 200 levels; `Nesting` where more open arrays nest than may. `Refused::Memory` where
-/// memory was refused. The scope is gone then.
+/// where an open array has more than 200 levels, or more open arrays nest than may. `Refused::Memory` where memory was
+/// refused. The scope is gone then.
 #[tactic(auto, unfolding(crate::specs::Headings::procedure_rule))]
 pub fn enter_procedure(
     alloc: Global,

@@ -307,14 +307,14 @@ impl Imports {
 
     /// The place of the loaded module of this name.
     #[tactic(auto, unfolding(crate::specs::Imports::module_place))]
-    pub fn place_of(&self, name: &Text) -> Option<usize>
+    pub(crate) fn place_of(&self, name: &Text) -> Option<usize>
         ensures { result ≡ spec.module_place self.now name.now }
     {
         self.names.place_of(name)
     }
 
     /// Whether the loaded module at this place reaches a module by its imports and theirs.
-    pub fn reaches_at(&self, place: usize, name: &Text) -> bool
+    pub(crate) fn reaches_at(&self, place: usize, name: &Text) -> bool
         ensures { result ≡ reaches (slice_get self.now place) name.now }
     {
         match self.modules.get(place) {

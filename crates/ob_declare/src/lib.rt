@@ -6,7 +6,7 @@ mod block;
 pub mod constant;
 mod declaration;
 pub mod fault;
-pub mod folding;
+mod folding;
 mod heading;
 mod imports;
 mod interface;
@@ -17,13 +17,12 @@ mod stack;
 #[cfg(test)]
 mod tests;
 mod texts;
-pub mod written_type;
+mod written_type;
 
 pub use block::{Block, Declared, Entry, Standing};
 pub use declaration::{MAX_NESTING, declare_all, declare_module, declared_by};
-pub use heading::{Entered, Heading, Parameters, enter_procedure};
-pub use imports::{Imports, LoadedModule, StandardName, standard_named};
+pub use heading::{Entered, enter_procedure};
+pub use imports::{Imports, LoadedModule};
 pub use interface::{exported_procedures, interface_of};
-pub use names::Names;
 pub use scope::{Scope, is_writable};
 pub use stack::Stack;

@@ -94,7 +94,7 @@ fn seen_inside(entry: Option<&Entry>) -> Option<&Entry>
 
 impl Scope {
     /// Before the first declaration of a module of this name.
-    pub fn opening(alloc: Global, module_name: Text) -> Scope
+    pub(crate) fn opening(alloc: Global, module_name: Text) -> Scope
         ensures { result ≡ spec.opening module_name }
     {
         Scope {
@@ -145,7 +145,7 @@ impl Scope {
     }
 
     /// Whether the place is in the declarations or the body of the module.
-    pub fn is_outermost(&self) -> bool
+    pub(crate) fn is_outermost(&self) -> bool
         ensures { result ≡ is_empty self.now.around }
     {
         self.around.is_empty()
@@ -153,7 +153,7 @@ impl Scope {
 
     /// One declaration more in the innermost block, of a name that it doesn't have. In a procedure the mark has no effect.
     /// Or want of memory, and then the scope is to be dropped.
-    pub fn declare(
+    pub(crate) fn declare(
         &mut self,
         alloc: Global,
         name: &Text,
@@ -168,7 +168,12 @@ impl Scope {
     }
 
     /// Inside a procedure of this name, behind its parameters. Or want of memory.
-    pub fn enter(self, alloc: Global, name: &Text, parameters: Block) -> Result<Scope, AllocError>
+    pub(crate) fn enter(
+        self,
+        alloc: Global,
+        name: &Text,
+        parameters: Block,
+    ) -> Result<Scope, AllocError>
         ensures { IfOk result (λ s. s ≡ spec.entered self name.now parameters) }
     {
         let mut inside = self;
@@ -201,7 +206,7 @@ impl Scope {
     }
 
     /// The name of the first record type in the declaration of a name, or want of memory.
-    pub fn naming(&self, alloc: Global, declared: &[u8]) -> Result<RecordName, AllocError>
+    pub(crate) fn naming(&self, alloc: Global, declared: &[u8]) -> Result<RecordName, AllocError>
         ensures { IfOk result (λ n. n ≡ spec.naming self.now declared.now) }
     {
         Ok(RecordName {

@@ -22,7 +22,7 @@ impl<T> Model for Stack<T> {
 }
 
 impl<T> Stack<T> {
-    pub fn new(alloc: Global) -> Stack<T>
+    pub(crate) fn new(alloc: Global) -> Stack<T>
         ensures { result ≡ [] }
     {
         Stack {
@@ -46,7 +46,7 @@ impl<T> Stack<T> {
 
 impl<T: Drop> Stack<T> {
     /// One more on top, or want of memory.
-    pub fn push(&mut self, item: T) -> Result<(), AllocError>
+    pub(crate) fn push(&mut self, item: T) -> Result<(), AllocError>
         ensures ok { OnOk result (self.new ≡ item ∷ self.old) }
     {
         self.items.push(item)?;
@@ -54,7 +54,7 @@ impl<T: Drop> Stack<T> {
     }
 
     /// Takes off what is on top, if anything is there.
-    pub fn pop(&mut self) -> Option<T>
+    pub(crate) fn pop(&mut self) -> Option<T>
         ensures value { result ≡ top self.old }
         ensures rest { self.new ≡ below self.old }
     {

@@ -209,18 +209,18 @@ module _ (expr : Variables → Expr → Rule Typed) (target : Variables → Writ
   actual_rule kind.Variable formal vs e = variable_actual target formal vs (alone e)
   actual_rule kind.Value formal vs e = value_actual expr formal vs e
 
--- ---- what nests: indexes and parentheses, `~`, and lists of actual parameters
+-- ---- what nests: indexes and parentheses, `~`, and lists of actual parameters. What nests deeper has no size
 unfoldable mutual
   pub inner_at : Modules → Scope → ℕ → Variables → Expr → Rule Typed
-  inner_at ms s zero vs e = Breaks code.Nesting
+  inner_at ms s zero vs e = Breaks code.Size
   inner_at ms s (suc n) vs e = expr_rule (inner_at ms s n) (deeper_at ms s n) (passed_at ms s n) ms s vs e
 
   pub deeper_at : Modules → Scope → ℕ → Variables → Factor → Rule Typed
-  deeper_at ms s zero vs f = Breaks code.Nesting
+  deeper_at ms s zero vs f = Breaks code.Size
   deeper_at ms s (suc n) vs f = factor_rule (inner_at ms s n) (deeper_at ms s n) (passed_at ms s n) ms s vs f
 
   pub passed_at : Modules → Scope → ℕ → Formal → Variables → Expr → Rule (Argument × Variables)
-  passed_at ms s zero f vs e = Breaks code.Nesting
+  passed_at ms s zero f vs e = Breaks code.Size
   passed_at ms s (suc n) f vs e =
       actual_rule (expr_rule (inner_at ms s n) (deeper_at ms s n) (passed_at ms s n) ms s) (target_rule (inner_at ms s n) s ms)
       f.kind f.of vs e

@@ -1,14 +1,20 @@
 //! The static rules of expressions, of variables that are written, and of actual parameters: from syntax trees to typed ones.
 #![tactic(auto)]
 
-pub mod expression;
-pub mod functions;
-pub mod joining;
-pub mod names;
-pub mod operand;
-pub mod passing;
-pub mod relations;
-pub mod selecting;
-pub mod value;
+mod expression;
+mod functions;
+mod joining;
+mod names;
+mod operand;
+mod passing;
+mod relations;
+mod selecting;
+mod value;
 
+pub use expression::{actual, expr};
+pub use names::{Called, procedure};
 pub use operand::{Operand, Variables};
+pub use value::{actuals, assigned_value, basic_value, guard, number, target, truth};
+
+#[cfg(test)]
+mod tests;

@@ -57,7 +57,7 @@ fn is_value(operand: Operand) -> Option<(Basic, TypedExpr)>
 
 /// A value of basic type.
 #[tactic(auto, unfolding(crate::specs::Expressions::value_at))]
-pub fn value(
+pub fn basic_value(
     alloc: Global,
     imports: &Imports,
     scope: &Scope,

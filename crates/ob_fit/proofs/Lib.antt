@@ -1,0 +1,15 @@
+pub mod Forms
+pub mod Suiting
+pub mod Rules
+pub mod Operands
+pub mod Read
+pub mod Expressions
+pub mod Actions
+pub mod Statements
+pub mod Grows
+pub mod Blocks
+pub mod Locals
+pub mod Procedures
+pub mod Modules
+pub mod Solid
+pub mod Forming

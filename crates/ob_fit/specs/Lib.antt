@@ -1,0 +1,2 @@
+pub mod Solid
+pub mod Fitting
