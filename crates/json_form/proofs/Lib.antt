@@ -3,3 +3,4 @@ pub mod Present
 pub mod Binds
 pub mod Fields
 pub mod Lists
+pub mod Crossing

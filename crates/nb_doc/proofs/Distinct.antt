@@ -1,8 +1,12 @@
 -- Going over ids with a set of those before.
 use Rattle.std.proofs.Common.{◌≡◌, ◌<◌, ℕ, suc, ◌+◌, List, [], ◌∷◌, length, drop, get_or, drop-cons, Bool, true, false, not, ◌&&◌, ◌||◌, Some, refl, sym, ap, ap₂, ◌∙◌, subst, arith}
+use Rattle.std.proofs.lemmas.Bool.{true≢false}
+use Rattle.std.specs.Prelude.{if◌then◌else◌}
 use Rattle.std.specs.List.{list_all}
 use Rattle.std.specs.Str.{bytes_eq}
 use Rattle.nb_doc.specs.declared.draft.Draft.{Draft}
+use Rattle.nb_doc.specs.declared.notebook.Cell.{Cell}
+use Rattle.nb_doc.specs.Documents.{ids}
 use Rattle.nb_doc.specs.Ids.{is_among, are_distinct, IsSetOf, with_id, standing}
 use Rattle.nb_doc.proofs.Among.{swapped}
 
@@ -86,3 +90,20 @@ more_ids names now id ds i d r h is some new members more =
     let here : standing (drop i ds) ≡ id ∷ standing (drop (i + 1) ds) = standing_step ds i d h is ∙ ap (λ o. with_id o (standing (drop (i + 1) ds))) some in
     let P : List (List ℕ) → Type 0 = λ rest. IsReading names (standing ds) rest in
     one_more names now (standing ds) (standing (drop (i + 1) ds)) id (subst P here r) new members more
+
+-- ---- the ids of cells
+
+-- the id of a cell is new, where no id stands twice
+pub more_cells : (names now : List (List ℕ)) (cs : List Cell) (i : ℕ) (c : Cell) → are_distinct (ids cs) ≡ true → IsReading names (ids cs) (ids (drop i cs)) → i < length cs → c ≡ get_or cs i c
+    → ((q : List ℕ) → is_among now q ≡ (bytes_eq q c.id || is_among names q)) → length now ≡ length names + (if not (is_among names c.id) then 1 else 0) → IsReading now (ids cs) (ids (drop (i + 1) cs))
+more_cells names now cs i c once r h is members more =
+    let next : suc i ≡ i + 1 = omega arith in
+    let here : ids (drop i cs) ≡ c.id ∷ ids (drop (i + 1) cs) = ap ids (drop-cons cs i c h) ∙ ap₂ (λ x n. x.id ∷ ids (drop n cs)) (sym is) next in
+    let P : List (List ℕ) → Type 0 = λ rest. IsReading names (ids cs) rest in
+    let reading = subst P here r in
+    let new : is_among names c.id ≡ false = go (is_among names c.id) refl reading in
+    one_more names now (ids cs) (ids (drop (i + 1) cs)) c.id reading new members (more ∙ ap (λ b. length names + (if not b then 1 else 0)) new)
+  where
+    go : (b : Bool) → is_among names c.id ≡ b → IsReading names (ids cs) (c.id ∷ ids (drop (i + 1) cs)) → b ≡ false
+    go true e reading = absurd (true≢false (sym once ∙ repeated names (ids cs) (ids (drop (i + 1) cs)) c.id reading e))
+    go false e reading = refl

@@ -21,7 +21,7 @@ name_once : (j k : ℕ) → j < 2 ^ 66 → k < 2 ^ 66 → name_of j ≡ name_of 
 unfolding name_of
 name_once j k hj hk e = let d : decimal j ≡ decimal k = cc in decimal_once j k hj hk d
 
-names_apart : (j k : ℕ) → j < k → k < 2 ^ 66 → bytes_eq (name_of k) (name_of j) ≡ false
+pub names_apart : (j k : ℕ) → j < k → k < 2 ^ 66 → bytes_eq (name_of k) (name_of j) ≡ false
 names_apart j k h hk = apart (name_of k) (name_of j) (λ e. let same : k ≡ j = name_once k j hk (omega arith) e in omega arith)
 
 searched : (b : Bool) (n m x : ℕ) → (b ≡ true → x ≡ m) → (b ≡ false → n ≡ m) → cond b x n ≡ m

@@ -8,3 +8,7 @@ pub mod Joining
 pub mod Trailing
 pub mod Again
 pub mod Law
+pub mod Raised
+pub mod Documents
+pub mod Shallow
+pub mod Removed

@@ -9,37 +9,41 @@ ghost use Rattle.nb_doc.specs.Fields.{count_at, count_of, execution_of, attachme
 use crate::draft::{Age, Draft, Drafts};
 use crate::listed::Listed;
 use crate::notebook::{Content, Execution};
-use crate::output_fields::{kept_object, list_field, read_outputs};
+use crate::output_fields::{kept_object, read_outputs};
+use crate::taken::taken_list;
 use json_form::{Bad, Fault, Json, Text, Whole, joined_field, part, text_field};
 use serde_json::Value;
 use std::alloc::Global;
 
-/// All fields of a notebook, in the order of the definition.
+/// All fields of a notebook, in the order of the definition. What was read of a cell goes before the next one is.
 #[tactic(auto, unfolding(crate::specs::Fields::drafts_of))]
-pub(crate) fn read_drafts(alloc: Global, age: Age, value: &Value) -> Result<Drafts, Bad>
-    requires { has_float (view value.now) ≡ false }
-    ensures { Gives result (drafts_of age (view value.now)) }
+pub(crate) fn read_drafts(alloc: Global, age: Age, value: Value) -> Result<Drafts, Bad>
+    requires { has_float (view value) ≡ false }
+    ensures { Gives result (drafts_of age (view value)) }
 {
+    let metadata = kept_object(alloc, &value, "metadata");
     let cells = cells_field(alloc, age, value)?;
-    let metadata = kept_object(alloc, value, "metadata")?;
-    Ok(Drafts { cells, metadata })
+    Ok(Drafts {
+        cells,
+        metadata: metadata?,
+    })
 }
 
 #[tactic(auto, unfolding(crate::specs::Fields::cells_at))]
-fn cells_field(alloc: Global, age: Age, value: &Value) -> Result<Listed<Draft>, Bad>
-    requires { has_float (view value.now) ≡ false }
-    ensures { Gives result (cells_at age (view value.now)) }
+fn cells_field(alloc: Global, age: Age, value: Value) -> Result<Listed<Draft>, Bad>
+    requires { has_float (view value) ≡ false }
+    ensures { Gives result (cells_at age (view value)) }
 {
-    cells(alloc, age, list_field(value, "cells")?)
+    cells(alloc, age, taken_list(value, "cells")?)
 }
 
-fn cells(alloc: Global, age: Age, items: &Vec<Value>) -> Result<Listed<Draft>, Bad>
-    requires { items_have_float (items_view items.now.items) ≡ false }
-    ensures { Gives result (each (draft_of age) (items_view items.now.items)) }
+fn cells(alloc: Global, age: Age, items: Vec<Value>) -> Result<Listed<Draft>, Bad>
+    requires { items_have_float (items_view items.items) ≡ false }
+    ensures { Gives result (each (draft_of age) (items_view items.items)) }
 {
-    let mut found = Vec::new(alloc);
+    let mut found = Vec::with_capacity(alloc, items.len())?;
     for item in items {
-        let draft = draft(alloc, age, item)?;
+        let draft = draft(alloc, age, &item)?;
         found.push(draft)?;
     }
     Ok(Listed::new(found))

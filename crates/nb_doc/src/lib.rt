@@ -2,6 +2,7 @@
 #![tactic(auto)]
 
 mod building;
+mod copying;
 mod draft;
 mod fault;
 mod fields;
@@ -15,6 +16,7 @@ mod output_row;
 mod raising;
 mod reading;
 mod row;
+mod taken;
 mod version;
 mod writing;
 
@@ -23,6 +25,7 @@ pub use ids::is_allowed_id;
 pub use listed::Listed;
 pub use names::Names;
 pub use notebook::{Cell, Content, Execution, Notebook, Output};
+pub use raising::free_name;
 pub use reading::read_notebook;
 pub use writing::write_notebook;
 

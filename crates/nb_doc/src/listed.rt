@@ -1,9 +1,10 @@
 //! A `Vec` that contracts see as a list.
 
-ghost use Rattle.std.specs.Prelude.{◌≡◌, [], ◌∷◌, ◌++◌, OnOk, OnErr, IfErr};
+ghost use Rattle.std.specs.Prelude.{◌≡◌, ◌<◌, [], ◌∷◌, ◌++◌, length, slice_get, slice_set, IfSome, IfNone, OnOk, OnErr, IfErr};
 
 use std::alloc::{AllocFailed, Global};
 use std::marker::Model;
+use std::mem;
 
 /// Things in order.
 #[derive(Debug)]
@@ -59,6 +60,23 @@ impl<T: Drop> Listed<T> {
         ensures { result.now ≡ self.now }
     {
         self.items.as_slice()
+    }
+
+    /// Another thing in the place of one, which comes back.
+    pub fn replace(&mut self, place: usize, item: T) -> T
+        requires { place < length self.old }
+        ensures new { self.new ≡ slice_set self.old place item }
+        ensures old { slice_get self.old place ≡ Some result }
+    {
+        mem::replace(&mut self.items[place], item)
+    }
+
+    /// The last one, taken away.
+    pub fn pop(&mut self) -> Option<T>
+        ensures some { IfSome result (λ x. self.old ≡ self.new ++ x ∷ []) }
+        ensures none { IfNone result ((self.old ≡ []) × (self.new ≡ [])) }
+    {
+        self.items.pop()
     }
 
     /// One more at the end. Where there is no memory for it, it comes back and nothing has changed.

@@ -46,6 +46,13 @@ impl Names {
         self.names.len()
     }
 
+    /// Whether a text is among them.
+    pub fn contains(&self, name: &str) -> bool
+        ensures { result ≡ is_among self.now name.now }
+    {
+        self.names.contains(name)
+    }
+
     /// Adds a text, and says whether it is new.
     pub fn add(&mut self, alloc: Global, name: &str) -> Result<bool, AllocError>
         ensures new { IfOk result (λ new. new ≡ not (is_among self.old name.now)) }

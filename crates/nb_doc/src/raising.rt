@@ -1,7 +1,8 @@
 //! Giving ids to the cells that have none.
 
-ghost use Rattle.std.specs.Prelude.{◌≡◌, ℕ, ◌+◌, ◌^◌, ◌≤◌, ◌<◌, List, length, IfOk};
-ghost use Rattle.nb_doc.specs.Ids.{standing, name_of, id_in, taken_after, cell_with, raise, IsSetOf};
+ghost use Rattle.std.specs.Prelude.{◌≡◌, ℕ, ◌+◌, ◌^◌, ◌≤◌, ◌<◌, true, List, length, IfOk};
+ghost use Rattle.nb_doc.specs.Documents.{ids};
+ghost use Rattle.nb_doc.specs.Ids.{standing, name_of, id_in, taken_after, cell_with, raise, least_free, are_distinct, IsSetOf};
 ghost use Rattle.nb_doc.specs.Names.{IsNamer};
 
 use crate::draft::Draft;
@@ -27,19 +28,21 @@ pub(crate) fn raise_cells(
     ids: Names,
 ) -> Result<Listed<Cell>, AllocError>
     requires { IsSetOf ids (standing drafts) }
-    ensures { IfOk result (λ cells. cells ≡ raise drafts) }
+    ensures cells { IfOk result (λ cells. cells ≡ raise drafts) }
+    ensures few { IfOk result (λ cells. length cells < 2 ^ 64) }
 {
     let _known = ids.len();
     let mut namer = Namer {
         taken: ids,
         last: 0,
     };
-    let mut cells = Vec::new(alloc);
+    let mut cells = Vec::with_capacity(alloc, drafts.as_slice().len())?;
     for draft in drafts.into_vec() {
         let (now, cell) = raise_cell(alloc, namer, draft)?;
         namer = now;
         cells.push(cell)?;
     }
+    let _count = cells.len();
     Ok(Listed::new(cells))
 }
 
@@ -109,4 +112,26 @@ fn numbered(alloc: Global, number: u128) -> Result<Text, AllocError>
     ensures { IfOk result (λ t. t ≡ name_of number) }
 {
     Ok(Text::from_string(format!(in alloc; "run-{number}")?))
+}
+
+/// `run-` and the least number from 1 with which it is the id of no cell.
+pub fn free_name(alloc: Global, cells: &[Cell]) -> Result<Text, AllocError>
+    requires { are_distinct (ids cells.now) ≡ true }
+    ensures { IfOk result (λ t. t ≡ name_of (least_free (ids cells.now))) }
+{
+    let taken = ids_of(alloc, cells)?;
+    let _known = taken.len();
+    let (_namer, name) = next_name(alloc, Namer { taken, last: 0 })?;
+    Ok(name)
+}
+
+fn ids_of(alloc: Global, cells: &[Cell]) -> Result<Names, AllocError>
+    requires { are_distinct (ids cells.now) ≡ true }
+    ensures { IfOk result (λ names. IsSetOf names (ids cells.now)) }
+{
+    let mut names = Names::empty(alloc);
+    for cell in cells {
+        names.add(alloc, cell.id.as_str())?;
+    }
+    Ok(names)
 }

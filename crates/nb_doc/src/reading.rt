@@ -1,13 +1,17 @@
 //! Reading notebooks.
 
-ghost use Rattle.std.specs.Prelude.{◌≡◌, false, Ok, IfOk};
+ghost use Rattle.std.specs.Prelude.{◌≡◌, ◌<◌, ◌≤◌, ◌^◌, false, length, Ok, IfOk};
+ghost use Rattle.serde_json.specs.Data.{depth};
+ghost use Rattle.serde_json.specs.Read.{max_depth};
 ghost use Rattle.serde_json.specs.View.{view};
 ghost use Rattle.serde_json.specs.Written.{has_float};
 ghost use Rattle.json_form.specs.Forms.{Gives};
 ghost use Rattle.nb_doc.specs.Steps.{Answers};
 ghost use Rattle.nb_doc.specs.declared.notebook.Notebook.{Notebook};
+ghost use Rattle.nb_doc.specs.Documents.{IsDocument};
 ghost use Rattle.nb_doc.specs.TextForms.{IsNotebookText};
 ghost use Rattle.nb_doc.specs.Reading.{json_at, notebook_of, notebook_at};
+ghost use Rattle.nb_doc.specs.Writing.{notebook_form};
 
 use crate::fault::NbBad;
 use crate::fields::read_drafts;
@@ -29,16 +33,21 @@ pub fn read_notebook(alloc: Global, text: &[u8]) -> Result<Notebook, NbBad>
     ensures only { (n : Notebook) → IsNotebookText text.now n → Answers result (Ok n) }
     // Which fault it is.
     ensures exact { Answers result (notebook_at text.now) }
+    // It is a document of 4.5: all ids are allowed and distinct, those too that were given.
+    ensures document { IfOk result IsDocument }
+    // Once it is written it nests no deeper than JSON is read, so that what is written reads back.
+    ensures shallow { IfOk result (λ n. depth (notebook_form n) ≤ max_depth) }
 {
     notebook_in(alloc, text)
 }
 
 #[tactic(auto, using(crate::proofs::Passes::passes_fault), unfolding(crate::specs::Reading::notebook_at))]
 fn notebook_in(alloc: Global, text: &[u8]) -> Result<Notebook, NbBad>
-    ensures { Answers result (notebook_at text.now) }
+    ensures exact { Answers result (notebook_at text.now) }
+    ensures few { IfOk result (λ n. length n.cells < 2 ^ 64) }
 {
     let json = read_json(alloc, text)?;
-    notebook(alloc, json.value())
+    notebook(alloc, json.into_value())
 }
 
 #[tactic(auto, unfolding(crate::specs::Reading::json_at))]
@@ -49,11 +58,12 @@ fn read_json(alloc: Global, text: &[u8]) -> Result<Json, Bad>
 }
 
 #[tactic(auto, using(crate::proofs::Passes::passes_fault, crate::proofs::Passes::refuses_later), unfolding(crate::specs::Reading::notebook_of))]
-fn notebook(alloc: Global, value: &Value) -> Result<Notebook, NbBad>
-    requires { has_float (view value.now) ≡ false }
-    ensures { Answers result (notebook_of (view value.now)) }
+fn notebook(alloc: Global, value: Value) -> Result<Notebook, NbBad>
+    requires { has_float (view value) ≡ false }
+    ensures exact { Answers result (notebook_of (view value)) }
+    ensures few { IfOk result (λ n. length n.cells < 2 ^ 64) }
 {
-    let age = read_version(value)?;
+    let age = read_version(&value)?;
     let drafts = read_drafts(alloc, age, value)?;
     let ids = read_ids(alloc, drafts.cells.as_slice())?;
     Ok(Notebook {

@@ -1,5 +1,5 @@
 use crate::{
-    Cell, Content, Listed, NbBad, NbFault, Notebook, Output, is_allowed_id, number_of,
+    Cell, Content, Listed, Names, NbBad, NbFault, Notebook, Output, is_allowed_id, number_of,
     read_notebook, write_notebook,
 };
 use json_form::{Json, Text, Whole};
@@ -267,6 +267,37 @@ fn keeps_what_has_a_name(rt: HostRuntime) -> Result<(), Fail> {
 }
 
 #[test]
+fn copies_what_a_run_left(rt: HostRuntime) -> Result<(), Fail> {
+    let mut cell = Cell::code(rt.alloc(), "a", "x", Some(Whole::from_u64(7)))?;
+    if let Content::Code(execution) = &mut cell.content {
+        execution
+            .outputs
+            .push(Output::stream(rt.alloc(), "stdout", "42")?)?;
+        execution
+            .outputs
+            .push(Output::error(rt.alloc(), "Trap", "v", "Trap: v")?)?;
+        let copy = execution.copy(rt.alloc())?;
+        assert!(rt; copy.execution_count.is_some());
+        let outputs = copy.outputs.as_slice();
+        assert_eq!(rt; outputs.len(), 2);
+        assert!(rt; matches!(&outputs[0], Output::Stream { .. }));
+        assert!(rt; matches!(outputs[1].copy(rt.alloc())?, Output::Error { .. }));
+    } else {
+        assert!(rt; false);
+    }
+    Ok(())
+}
+
+#[test]
+fn finds_names(rt: HostRuntime) -> Result<(), Fail> {
+    let mut names = Names::empty(rt.alloc());
+    assert!(rt; names.add(rt.alloc(), "a")?);
+    assert!(rt; names.contains("a"));
+    assert!(rt; !names.contains("b"));
+    Ok(())
+}
+
+#[test]
 fn tells_allowed_ids(rt: HostRuntime) -> Result<(), Fail> {
     assert!(rt; is_allowed_id("aZ09-_"));
     assert!(rt; !is_allowed_id(""));
@@ -285,7 +316,11 @@ fn tells_allowed_ids(rt: HostRuntime) -> Result<(), Fail> {
 fn lists_give_back_their_things(rt: HostRuntime) -> Result<(), Fail> {
     let mut texts = Vec::new(rt.alloc());
     texts.push(Text::from_str(rt.alloc(), "a")?)?;
-    let listed = Listed::new(texts);
+    let mut listed = Listed::new(texts);
+    let before = listed.as_slice().len();
+    assert_eq!(rt; before, 1);
+    let other = Text::from_str(rt.alloc(), "b")?;
+    assert_eq!(rt; listed.replace(0, other).as_str(), "a");
     assert_eq!(rt; listed.into_vec().len(), 1);
     let error = Output::error(rt.alloc(), "Trap", "v", "Trap: v")?;
     if let Output::Error { traceback, .. } = &error {

@@ -16,3 +16,4 @@ pub mod Procedures
 pub mod Cells
 pub mod Texts
 pub mod FirstTokens
+pub mod Crossing

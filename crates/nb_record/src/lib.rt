@@ -1,0 +1,14 @@
+//! The recorder of a notebook: what a kernel shows goes into the cells that asked for it.
+#![tactic(auto)]
+
+mod cells;
+mod event;
+mod pages;
+mod recorder;
+
+pub use event::Event;
+pub use pages::Pages;
+pub use recorder::Recorder;
+
+#[cfg(test)]
+mod tests;

@@ -1,0 +1,100 @@
+//! What links.
+
+ghost use Rattle.std.specs.Prelude.{◌≡◌, IfOk, None, slice_index_or};
+ghost use Rattle.ob_session.specs.Session as session;
+ghost use Rattle.ob_link.specs.Faults as spec;
+
+use crate::module::KeyedImport;
+use crate::modules::Modules;
+use ob_base::Text;
+use std::alloc::{AllocError, Global};
+
+// What is behind the module of this number.
+fn fault_at(
+    alloc: Global,
+    behind: &[Option<Text>],
+    number: usize,
+) -> Result<Option<Text>, AllocError>
+    ensures { IfOk result (λ f. f ≡ slice_index_or behind.now number None) }
+{
+    match behind.get(number) {
+        Some(Some(name)) => Ok(Some(name.copy(alloc)?)),
+        _ => Ok(None),
+    }
+}
+
+impl Modules {
+    // The fault of an import, where these are the faults behind each module.
+    fn fault_of(
+        &self,
+        behind: &[Option<Text>],
+        import: &KeyedImport,
+    ) -> Result<Option<Text>, AllocError>
+        ensures { IfOk result (λ f. f ≡ spec.fault_in self.now behind.now import.now) }
+    {
+        match self.find(import.name()) {
+            Some(found) => {
+                if found.interface().key().as_bytes() == import.key().as_slice() {
+                    fault_at(self.alloc(), behind, self.place_of(import.name()))
+                } else {
+                    Ok(Some(import.name().copy(self.alloc())?))
+                }
+            }
+            None => Ok(Some(import.name().copy(self.alloc())?)),
+        }
+    }
+
+    // The first that one of these imports has.
+    fn first_fault(
+        &self,
+        behind: &[Option<Text>],
+        imports: &[KeyedImport],
+    ) -> Result<Option<Text>, AllocError>
+        ensures { IfOk result (λ f. f ≡ session.first_fault (spec.fault_in self.now behind.now) imports.now) }
+    {
+        for import in imports {
+            if let Some(name) = self.fault_of(behind, import)? {
+                return Ok(Some(name));
+            }
+        }
+        Ok(None)
+    }
+
+    // No fault behind any module.
+    fn no_faults(&self) -> Result<Vec<Option<Text>>, AllocError>
+        ensures { IfOk result (λ row. row.items ≡ spec.fault_row self.now 0) }
+    {
+        let mut so_far = Vec::new(self.alloc());
+        for _module in self.as_slice() {
+            so_far.push(None)?;
+        }
+        Ok(so_far)
+    }
+
+    // The faults behind each module, through chains that are longer by an import.
+    fn next_faults(&self, behind: &[Option<Text>]) -> Result<Vec<Option<Text>>, AllocError>
+        ensures { IfOk result (λ row. row.items ≡ spec.next_row self.now behind.now) }
+    {
+        let mut so_far = Vec::new(self.alloc());
+        for each in self.as_slice() {
+            so_far.push(self.first_fault(behind, each.imports())?)?;
+        }
+        Ok(so_far)
+    }
+
+    /// Whether imports link: the name of the first module that is reached through them, in their order, depth first, and is
+    /// not loaded with the key that its client recorded; or none, where each is.
+    ///
+    /// # Errors
+    ///
+    /// Want of memory.
+    pub fn link_fault(&self, imports: &[KeyedImport]) -> Result<Option<Text>, AllocError>
+        ensures { IfOk result (λ f. f ≡ session.link_fault self.now imports.now) }
+    {
+        let mut behind = self.no_faults()?;
+        for _length in 0..self.as_slice().len() {
+            behind = self.next_faults(behind.as_slice())?;
+        }
+        self.first_fault(behind.as_slice(), imports)
+    }
+}

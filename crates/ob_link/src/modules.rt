@@ -1,0 +1,162 @@
+//! The modules that are loaded.
+
+ghost use Rattle.std.specs.Prelude.{◌≡◌, [], OnOk, OnErr, IfOk, Some, None, option_copied, slice_get};
+ghost use Rattle.ob_session.specs.Session as session;
+ghost use Rattle.ob_link.specs.Places as spec;
+
+use crate::module::{KeyedImport, SessionModule};
+use ob_base::Text;
+use std::alloc::{AllocError, Global};
+use std::collections::HashMap;
+use std::marker::Model;
+
+/// The modules that are loaded, in the order in which their names came. Contracts see the list of them. A look-up by name
+/// goes through a map.
+#[derive(Drop)]
+pub struct Modules {
+    modules: Vec<SessionModule>,
+    places: HashMap<Vec<u8>, usize>,
+    alloc: Global,
+}
+
+impl Model for Modules {
+    ghost use Rattle.std.specs.Prelude.{◌≡◌, List};
+    ghost use Rattle.std.specs.Coded.{codes};
+    ghost use Rattle.ob_types.specs.contracts.structure.ObType as structure;
+    ghost use Rattle.ob_mean.specs.contracts.whole.expression.TypedExpr as expression;
+    ghost use Rattle.ob_mean.specs.contracts.whole.shape.Shape as shape;
+    ghost use Rattle.ob_mean.specs.contracts.whole.statement.TypedStatement as statement;
+    ghost use Rattle.ob_session.specs.Session.{Module};
+    ghost use Rattle.ob_link.specs.Places.{ArePlaces};
+
+    ghost Value = { List Module };
+
+    ghost coded = { Prim.hlevel (codes, structure.the_row.coded, expression.the_row.coded, shape.the_row.coded, statement.the_row.coded) };
+
+    ghost view = { λ m. m.modules.items };
+
+    ghost invariant = { λ m. ArePlaces m.places m.modules.items };
+}
+
+impl Modules {
+    /// No module.
+    pub fn new(alloc: Global) -> Modules
+        ensures { result ≡ [] }
+    {
+        Modules {
+            modules: Vec::new(alloc),
+            places: HashMap::new(alloc),
+            alloc,
+        }
+    }
+
+    /// The modules, by their numbers.
+    pub fn as_slice(&self) -> &[SessionModule]
+        ensures { result.now ≡ self.now }
+    {
+        self.modules.as_slice()
+    }
+
+    // The number of the module of this name.
+    fn number_of(&self, name: &Text) -> Option<usize>
+        ensures { result ≡ spec.number_in self.now name.now }
+    {
+        match self.places.get(name.as_slice()) {
+            Some(number) => Some(*number),
+            None => None,
+        }
+    }
+
+    /// The number of the module of this name; where there is none, how many modules there are.
+    pub fn place_of(&self, name: &Text) -> usize
+        ensures { result ≡ session.place_of self.now name.now }
+    {
+        match self.number_of(name) {
+            Some(number) => number,
+            None => self.modules.len(),
+        }
+    }
+
+    /// The module of this name.
+    pub fn find(&self, name: &Text) -> Option<&SessionModule>
+        ensures { option_copied result ≡ session.find_module self.now name.now }
+    {
+        match self.number_of(name) {
+            Some(number) => self.module_at(number),
+            None => None,
+        }
+    }
+
+    // The module of this number.
+    fn module_at(&self, number: usize) -> Option<&SessionModule>
+        ensures { option_copied result ≡ slice_get self.now number }
+    {
+        match self.modules.get(number) {
+            Some(found) => Some(found),
+            None => None,
+        }
+    }
+
+    /// Where what this allocates comes from.
+    pub fn alloc(&self) -> Global {
+        self.alloc
+    }
+
+    // In the place of the one that has its name.
+    fn replace(&mut self, number: usize, loaded: SessionModule)
+        requires { spec.number_in self.old loaded.interface.name ≡ Some number }
+        ensures { self.new ≡ session.with_module self.old loaded }
+    {
+        self.modules[number] = loaded;
+    }
+
+    // Behind the others.
+    fn append(&mut self, loaded: SessionModule) -> Result<(), AllocError>
+        requires { spec.number_in self.old loaded.interface.name ≡ None }
+        ensures ok { OnOk result (self.new ≡ session.with_module self.old loaded) }
+        ensures err { OnErr result (self.new ≡ self.old) }
+    {
+        let name = Vec::from_slice(self.alloc, loaded.interface().name().as_slice())?;
+        self.modules.reserve(1)?;
+        let number = self.modules.len();
+        self.places.insert(name, number)?;
+        match self.modules.push(loaded) {
+            Ok(()) => Ok(()),
+            Err(_) => unreachable!(),
+        }
+    }
+
+    /// Loads a module: it takes the place of the one that has its name, or comes behind the others.
+    ///
+    /// # Errors
+    ///
+    /// Want of memory, which leaves the modules as they were.
+    pub fn install(&mut self, loaded: SessionModule) -> Result<(), AllocError>
+        ensures ok { OnOk result (self.new ≡ session.with_module self.old loaded) }
+        ensures err { OnErr result (self.new ≡ self.old) }
+    {
+        match self.number_of(loaded.interface().name()) {
+            Some(number) => {
+                self.replace(number, loaded);
+                Ok(())
+            }
+            None => self.append(loaded),
+        }
+    }
+
+    /// The number of each imported module, in the order of the imports; where there is none of that name, how many modules
+    /// there are.
+    ///
+    /// # Errors
+    ///
+    /// Want of memory.
+    pub fn numbers(&self, imports: &[KeyedImport]) -> Result<Vec<usize>, AllocError>
+        ensures { IfOk result (λ ns. ns.items ≡ session.import_places self.now imports.now) }
+    {
+        let mut so_far = Vec::new(self.alloc);
+        for import in imports {
+            so_far.push(self.place_of(import.name()))?;
+        }
+        Ok(so_far)
+    }
+}
