@@ -8,6 +8,3 @@ mod show;
 mod step;
 
 pub use replay::{End, ReplayFault, replay_lines};
-
-#[cfg(test)]
-mod tests;

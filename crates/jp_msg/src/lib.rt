@@ -16,6 +16,3 @@ pub use message::{
 };
 pub use reading::{MAX_MESSAGE, message_of_value, number_of, read_message, read_value};
 pub use writing::{output_json, write_message};
-
-#[cfg(test)]
-mod tests;

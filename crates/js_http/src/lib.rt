@@ -27,6 +27,3 @@ pub use serve::{Served, Stream, serve_one};
 pub use target::{Segments, path_segments, query_value};
 pub use values::{Bytes, Text};
 pub use write::write_response;
-
-#[cfg(test)]
-mod tests;

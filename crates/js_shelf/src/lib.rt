@@ -14,6 +14,3 @@ pub use item::{Bytes, Item, Name, Names, ShelfRefusal};
 pub use memory::MemoryShelf;
 pub use path::is_path;
 pub use shelf::Shelf;
-
-#[cfg(test)]
-mod tests;

@@ -4,6 +4,3 @@
 mod accept;
 
 pub use accept::accept_value;
-
-#[cfg(test)]
-mod tests;

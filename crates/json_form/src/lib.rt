@@ -25,6 +25,3 @@ pub use parts::{
 };
 pub use shared::Shared;
 pub use text::Text;
-
-#[cfg(test)]
-mod tests;

@@ -28,6 +28,3 @@ pub use notebook::{Cell, Content, Execution, Notebook, Output};
 pub use raising::free_name;
 pub use reading::read_notebook;
 pub use writing::write_notebook;
-
-#[cfg(test)]
-mod tests;

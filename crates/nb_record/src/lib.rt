@@ -9,6 +9,3 @@ mod recorder;
 pub use event::Event;
 pub use pages::Pages;
 pub use recorder::Recorder;
-
-#[cfg(test)]
-mod tests;

@@ -5,8 +5,6 @@
 mod boxed;
 mod fault;
 mod items;
-#[cfg(test)]
-mod tests;
 mod text;
 
 pub use boxed::Boxed;

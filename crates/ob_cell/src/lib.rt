@@ -6,8 +6,6 @@ mod machine;
 mod outcome;
 mod program;
 mod session;
-#[cfg(test)]
-mod tests;
 
 pub use cell::parse_text;
 pub use machine::{Begun, Machine};

@@ -15,6 +15,3 @@ mod statement;
 
 pub use checked::{Checked, Imported};
 pub use module::check;
-
-#[cfg(test)]
-mod tests;

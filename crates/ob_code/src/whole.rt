@@ -3,5 +3,3 @@
 pub mod checked;
 pub mod instr;
 pub mod linked;
-#[cfg(test)]
-mod tests;

@@ -14,8 +14,6 @@ mod names;
 pub mod predeclared;
 mod scope;
 mod stack;
-#[cfg(test)]
-mod tests;
 mod texts;
 mod written_type;
 

@@ -15,6 +15,3 @@ pub use expression::{actual, expr};
 pub use names::{Called, procedure};
 pub use operand::{Operand, Variables};
 pub use value::{actuals, assigned_value, basic_value, guard, number, target, truth};
-
-#[cfg(test)]
-mod tests;

@@ -12,6 +12,3 @@ pub use answer::Answer;
 pub use law::one_more_line_law;
 pub use line_buffer::LineBuffer;
 pub use output::{put_char, put_int, put_line_end, put_string};
-
-#[cfg(test)]
-mod tests;

@@ -5,8 +5,6 @@
 mod linking;
 mod module;
 mod modules;
-#[cfg(test)]
-mod tests;
 
 pub use module::{KeyedImport, SessionModule};
 pub use modules::Modules;

@@ -14,8 +14,6 @@ mod parser;
 mod procedure;
 mod statement;
 mod structure;
-#[cfg(test)]
-mod tests;
 mod text;
 pub mod tree;
 

@@ -6,6 +6,3 @@ mod module;
 mod statement;
 
 pub use module::first_part;
-
-#[cfg(test)]
-mod tests;

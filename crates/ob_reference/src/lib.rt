@@ -20,6 +20,3 @@ mod zero;
 pub use reference::{Command, Ran, Reference};
 pub use state::GivenLine;
 pub use stop::NoAnswer;
-
-#[cfg(test)]
-mod tests;

@@ -10,8 +10,6 @@ mod scanner;
 mod sign;
 mod spelling;
 mod string;
-#[cfg(test)]
-mod tests;
 mod token;
 mod word;
 

@@ -9,8 +9,6 @@ mod keyed;
 mod laws;
 mod size;
 mod structure;
-#[cfg(test)]
-mod tests;
 mod type_writing;
 
 pub use compatible::{assignable, same, string_assignable};

@@ -1,0 +1,15 @@
+//! Tests of JSON forms, messages, notebooks, requests and responses of HTTP, handshakes of channels, and shelves.
+#![tactic(auto)]
+
+#[cfg(test)]
+mod handshakes;
+#[cfg(test)]
+mod json_forms;
+#[cfg(test)]
+mod messages;
+#[cfg(test)]
+mod notebooks;
+#[cfg(test)]
+mod requests;
+#[cfg(test)]
+mod shelves;

@@ -1,0 +1,333 @@
+use json_form::{Json, Text, Whole};
+use nb_doc::{
+    Cell, Content, Listed, Names, NbBad, NbFault, Notebook, Output, is_allowed_id, number_of,
+    read_notebook, write_notebook,
+};
+use std::test::Fail;
+
+/// A notebook with one cell that has run.
+const ANSWER: &str = "{
+  \"cells\": [
+    {
+      \"cell_type\": \"code\",
+      \"execution_count\": 1,
+      \"id\": \"c1\",
+      \"metadata\": {},
+      \"outputs\": [
+        {
+          \"name\": \"stdout\",
+          \"output_type\": \"stream\",
+          \"text\": [
+            \"42\\n\"
+          ]
+        }
+      ],
+      \"source\": [
+        \"MODULE A; IMPORT Out; BEGIN Out.Int(6*7, 0); Out.Ln END A.\"
+      ]
+    }
+  ],
+  \"metadata\": {},
+  \"nbformat\": 4,
+  \"nbformat_minor\": 5
+}
+";
+
+fn refused(rt: &HostRuntime, text: &str) -> Option<NbFault> {
+    match read_notebook(rt.alloc(), text.as_bytes()) {
+        Err(NbBad::Fault(fault)) => Some(fault),
+        _ => None,
+    }
+}
+
+/// What is written of the notebook that is read.
+fn again(rt: &HostRuntime, text: &str) -> Result<String, Fail> {
+    let notebook = read_notebook(rt.alloc(), text.as_bytes())?;
+    let bytes = write_notebook(rt.alloc(), &notebook)?;
+    let written = std::str::from_utf8(bytes.as_slice())?;
+    Ok(String::from_str(rt.alloc(), written)?)
+}
+
+/// A notebook of a minor version with these cells.
+fn notebook_text(rt: &HostRuntime, minor: u32, cells: &str) -> Result<String, Fail> {
+    Ok(format!(in rt.alloc();
+        "{{\"cells\":[{cells}],\"metadata\":{{}},\"nbformat\":4,\"nbformat_minor\":{minor}}}"
+    )?)
+}
+
+/// The fault of a notebook of 4.5 with these cells.
+fn refused_cells(rt: &HostRuntime, cells: &str) -> Result<Option<NbFault>, Fail> {
+    let text = notebook_text(rt, 5, cells)?;
+    Ok(refused(rt, text.as_str()))
+}
+
+#[test]
+fn writes_a_cell_that_has_run(rt: HostRuntime) -> Result<(), Fail> {
+    let source = "MODULE A; IMPORT Out; BEGIN Out.Int(6*7, 0); Out.Ln END A.";
+    let mut cell = Cell::code(rt.alloc(), "c1", source, Some(Whole::from_u64(1)))?;
+    if let Content::Code(execution) = &mut cell.content {
+        execution
+            .outputs
+            .push(Output::stream(rt.alloc(), "stdout", "4")?)?;
+        execution
+            .outputs
+            .push(Output::stream(rt.alloc(), "stdout", "2\n")?)?;
+    }
+    let mut notebook = Notebook::empty(rt.alloc());
+    notebook.cells.push(cell)?;
+    let bytes = write_notebook(rt.alloc(), &notebook)?;
+    assert_eq!(rt; std::str::from_utf8(bytes.as_slice())?, ANSWER);
+    assert_eq!(rt; again(&rt, ANSWER)?.as_str(), ANSWER);
+    Ok(())
+}
+
+#[test]
+fn joins_streams_of_one_name(rt: HostRuntime) -> Result<(), Fail> {
+    let stream = |name: &str, text: &str| -> Result<String, Fail> {
+        Ok(format!(in rt.alloc();
+            "{{\"name\":\"{name}\",\"output_type\":\"stream\",\"text\":\"{text}\"}}"
+        )?)
+    };
+    let outputs = format!(in rt.alloc();
+        "{},{},{},{}",
+        stream("stdout", "4")?,
+        stream("stdout", "2\\n3")?,
+        stream("stderr", "")?,
+        stream("stdout", "x")?
+    )?;
+    let cell = format!(in rt.alloc();
+        "{{\"cell_type\":\"code\",\"id\":\"a\",\"metadata\":{{}},\"source\":[\"a\\n\",\"b\"],\"execution_count\":null,\"outputs\":[{outputs}]}}"
+    )?;
+    let text = notebook_text(&rt, 5, cell.as_str())?;
+    let written = again(&rt, text.as_str())?;
+    assert!(rt;
+        written.as_str().contains(
+            "\"text\": [\n            \"42\\n\",\n            \"3\"\n          ]"
+        )
+    );
+    assert!(rt;
+        written.as_str().contains(
+            "\"name\": \"stderr\",\n          \"output_type\": \"stream\",\n          \"text\": []"
+        )
+    );
+    assert!(rt;
+        written
+            .as_str()
+            .contains("\"source\": [\n        \"a\\n\",\n        \"b\"\n      ]")
+    );
+    assert!(rt; written.as_str().contains("\"execution_count\": null"));
+    assert_eq!(rt; again(&rt, written.as_str())?.as_str(), written.as_str());
+    Ok(())
+}
+
+#[test]
+fn refuses_by_number(rt: HostRuntime) -> Result<(), Fail> {
+    assert_eq!(rt; refused(&rt, "{"), Some(NbFault::NotJson));
+    assert_eq!(rt; refused(&rt, "[1.5]"), Some(NbFault::NotWhole));
+    assert_eq!(rt; refused(&rt, "7"), Some(NbFault::OtherVersion));
+    assert_eq!(rt;
+        refused(&rt, "{\"nbformat\":4}"),
+        Some(NbFault::OtherVersion)
+    );
+    assert_eq!(rt;
+        refused(&rt, "{\"nbformat\":4,\"nbformat_minor\":\"5\"}"),
+        Some(NbFault::OtherVersion)
+    );
+    assert_eq!(rt;
+        refused(&rt, "{\"nbformat\":3,\"nbformat_minor\":5}"),
+        Some(NbFault::OtherVersion)
+    );
+    assert_eq!(rt;
+        refused(&rt, "{\"nbformat\":4,\"nbformat_minor\":-1}"),
+        Some(NbFault::OtherVersion)
+    );
+    assert_eq!(rt;
+        refused(&rt, "{\"nbformat\":4,\"nbformat_minor\":5}"),
+        Some(NbFault::BadField)
+    );
+    let minor_six = notebook_text(&rt, 6, "")?;
+    assert_eq!(rt;
+        refused(&rt, minor_six.as_str()),
+        Some(NbFault::OtherVersion)
+    );
+    assert_eq!(rt; refused_cells(&rt, "7")?, Some(NbFault::BadField));
+    let not_utf8 = [34, 255, 34];
+    let bytes = read_notebook(rt.alloc(), &not_utf8);
+    assert!(rt; matches!(&bytes, Err(NbBad::Fault(NbFault::NotJson))));
+    assert_eq!(rt; number_of(NbFault::NotJson), 1);
+    assert_eq!(rt; number_of(NbFault::BadField), 2);
+    assert_eq!(rt; number_of(NbFault::BadId), 3);
+    assert_eq!(rt; number_of(NbFault::RepeatedId), 4);
+    assert_eq!(rt; number_of(NbFault::OtherVersion), 5);
+    assert_eq!(rt; number_of(NbFault::NotWhole), 6);
+    Ok(())
+}
+
+#[test]
+fn a_bad_field_comes_before_a_bad_id(rt: HostRuntime) -> Result<(), Fail> {
+    let bad_id = "{\"cell_type\":\"raw\",\"id\":\"a b\",\"metadata\":{},\"source\":\"\"}";
+    let good = "{\"cell_type\":\"raw\",\"id\":\"a\",\"metadata\":{},\"source\":\"\"}";
+    let no_source = "{\"cell_type\":\"raw\",\"id\":\"b\",\"metadata\":{}}";
+    let no_id = "{\"cell_type\":\"raw\",\"metadata\":{},\"source\":\"\"}";
+    let fraction = "{\"cell_type\":\"raw\",\"id\":\"c\",\"metadata\":{\"n\":1.5},\"source\":\"\"}";
+    assert_eq!(rt; refused_cells(&rt, good)?, None);
+    assert_eq!(rt; refused_cells(&rt, bad_id)?, Some(NbFault::BadId));
+    let twice = format!(in rt.alloc(); "{good},{good}")?;
+    assert_eq!(rt;
+        refused_cells(&rt, twice.as_str())?,
+        Some(NbFault::RepeatedId)
+    );
+    let both = format!(in rt.alloc(); "{good},{good},{bad_id}")?;
+    assert_eq!(rt; refused_cells(&rt, both.as_str())?, Some(NbFault::BadId));
+    let all = format!(in rt.alloc(); "{both},{no_source}")?;
+    assert_eq!(rt; refused_cells(&rt, all.as_str())?, Some(NbFault::BadField));
+    let missing = format!(in rt.alloc(); "{both},{no_id}")?;
+    assert_eq!(rt;
+        refused_cells(&rt, missing.as_str())?,
+        Some(NbFault::BadField)
+    );
+    let older = format!(in rt.alloc(); "{all},{fraction}")?;
+    let text = notebook_text(&rt, 6, older.as_str())?;
+    assert_eq!(rt; refused(&rt, text.as_str()), Some(NbFault::NotWhole));
+    Ok(())
+}
+
+#[test]
+fn raises_older_notebooks(rt: HostRuntime) -> Result<(), Fail> {
+    let none = "{\"cell_type\":\"markdown\",\"metadata\":{},\"source\":\"\"}";
+    let first = "{\"cell_type\":\"markdown\",\"id\":\"run-1\",\"metadata\":{},\"source\":\"\"}";
+    let cells = format!(in rt.alloc(); "{none},{first},{none}")?;
+    let text = notebook_text(&rt, 4, cells.as_str())?;
+    let notebook = read_notebook(rt.alloc(), text.as_bytes())?;
+    let cells = notebook.cells.as_slice();
+    assert_eq!(rt; cells.len(), 3);
+    assert_eq!(rt; cells[0].id.as_str(), "run-2");
+    assert_eq!(rt; cells[1].id.as_str(), "run-1");
+    assert_eq!(rt; cells[2].id.as_str(), "run-3");
+    let other = "{\"cell_type\":\"markdown\",\"id\":7,\"metadata\":{},\"source\":\"\"}";
+    let text = notebook_text(&rt, 0, other)?;
+    assert_eq!(rt; refused(&rt, text.as_str()), Some(NbFault::BadField));
+    Ok(())
+}
+
+#[test]
+fn keeps_what_has_a_name(rt: HostRuntime) -> Result<(), Fail> {
+    let shown =
+        "{\"data\":{\"text/plain\":\"x\"},\"metadata\":{},\"output_type\":\"display_data\",\"z\":[1,{}]}";
+    let failed =
+        "{\"ename\":\"Trap\",\"evalue\":\"v\",\"output_type\":\"error\",\"traceback\":[\"Trap\",\"v\"],\"more\":1}";
+    let code = format!(in rt.alloc();
+        "{{\"cell_type\":\"code\",\"id\":\"a\",\"metadata\":{{\"k\":-1}},\"source\":\"\",\"execution_count\":7,\"outputs\":[{shown},{failed}]}}"
+    )?;
+    let raw =
+        "{\"attachments\":{\"p.png\":{\"image/png\":\"AA==\"}},\"cell_type\":\"raw\",\"id\":\"b\",\"metadata\":{},\"source\":\"x\",\"more\":2}";
+    let cells = format!(in rt.alloc(); "{code},{raw}")?;
+    let text = notebook_text(&rt, 5, cells.as_str())?;
+    let notebook = read_notebook(rt.alloc(), text.as_bytes())?;
+    let cells = notebook.cells.as_slice();
+    assert_eq!(rt; cells.len(), 2);
+    assert_eq!(rt; cells[0].metadata.write(rt.alloc())?.as_str(), "{\"k\":-1}");
+    if let Content::Code(execution) = &cells[0].content {
+        let outputs = execution.outputs.as_slice();
+        assert_eq!(rt; outputs.len(), 2);
+        if let Output::Kept(json) = &outputs[0] {
+            assert_eq!(rt; json.write(rt.alloc())?.as_str(), shown);
+        } else {
+            assert!(rt; false);
+        }
+        if let Output::Error {
+            ename,
+            traceback,
+            ..
+        } = &outputs[1]
+        {
+            assert_eq!(rt; ename.as_str(), "Trap");
+            assert_eq!(rt; traceback.as_slice().len(), 2);
+        } else {
+            assert!(rt; false);
+        }
+    } else {
+        assert!(rt; false);
+    }
+    if let Content::Raw {
+        attachments: Some(kept),
+    } = &cells[1].content
+    {
+        assert_eq!(rt;
+            kept.write(rt.alloc())?.as_str(),
+            "{\"p.png\":{\"image/png\":\"AA==\"}}"
+        );
+    } else {
+        assert!(rt; false);
+    }
+    let written = again(&rt, text.as_str())?;
+    assert!(rt; !written.as_str().contains("more"));
+    assert_eq!(rt; again(&rt, written.as_str())?.as_str(), written.as_str());
+    Ok(())
+}
+
+#[test]
+fn copies_what_a_run_left(rt: HostRuntime) -> Result<(), Fail> {
+    let mut cell = Cell::code(rt.alloc(), "a", "x", Some(Whole::from_u64(7)))?;
+    if let Content::Code(execution) = &mut cell.content {
+        execution
+            .outputs
+            .push(Output::stream(rt.alloc(), "stdout", "42")?)?;
+        execution
+            .outputs
+            .push(Output::error(rt.alloc(), "Trap", "v", "Trap: v")?)?;
+        let copy = execution.copy(rt.alloc())?;
+        assert!(rt; copy.execution_count.is_some());
+        let outputs = copy.outputs.as_slice();
+        assert_eq!(rt; outputs.len(), 2);
+        assert!(rt; matches!(&outputs[0], Output::Stream { .. }));
+        assert!(rt; matches!(outputs[1].copy(rt.alloc())?, Output::Error { .. }));
+    } else {
+        assert!(rt; false);
+    }
+    Ok(())
+}
+
+#[test]
+fn finds_names(rt: HostRuntime) -> Result<(), Fail> {
+    let mut names = Names::empty(rt.alloc());
+    assert!(rt; names.add(rt.alloc(), "a")?);
+    assert!(rt; names.contains("a"));
+    assert!(rt; !names.contains("b"));
+    Ok(())
+}
+
+#[test]
+fn tells_allowed_ids(rt: HostRuntime) -> Result<(), Fail> {
+    assert!(rt; is_allowed_id("aZ09-_"));
+    assert!(rt; !is_allowed_id(""));
+    assert!(rt; !is_allowed_id("a.b"));
+    let mut long = String::new(rt.alloc());
+    for _ in 0..64 {
+        long.push('a')?;
+    }
+    assert!(rt; is_allowed_id(long.as_str()));
+    long.push('a')?;
+    assert!(rt; !is_allowed_id(long.as_str()));
+    Ok(())
+}
+
+#[test]
+fn lists_give_back_their_things(rt: HostRuntime) -> Result<(), Fail> {
+    let mut texts = Vec::new(rt.alloc());
+    texts.push(Text::from_str(rt.alloc(), "a")?)?;
+    let mut listed = Listed::new(texts);
+    let before = listed.as_slice().len();
+    assert_eq!(rt; before, 1);
+    let other = Text::from_str(rt.alloc(), "b")?;
+    assert_eq!(rt; listed.replace(0, other).as_str(), "a");
+    assert_eq!(rt; listed.into_vec().len(), 1);
+    let error = Output::error(rt.alloc(), "Trap", "v", "Trap: v")?;
+    if let Output::Error { traceback, .. } = &error {
+        assert_eq!(rt; traceback.as_slice().len(), 1);
+    } else {
+        assert!(rt; false);
+    }
+    assert_eq!(rt; Json::empty(rt.alloc()).write(rt.alloc())?.as_str(), "{}");
+    Ok(())
+}
