@@ -6,6 +6,8 @@ mod base;
 #[cfg(test)]
 mod checker;
 #[cfg(test)]
+mod checker_limits;
+#[cfg(test)]
 mod declare;
 #[cfg(test)]
 mod express;

@@ -1,0 +1,20 @@
+-- A follower may go to another thread.
+use denote.Param.Send.{IsSend, IsSync, sendable}
+use Rattle.std.proofs.Crossing.{crosses}
+use Rattle.left_right.proofs.reader.Reader.TheSendSync as reader
+use Rattle.jk_core.proofs.Crossing.{entry_send, entry_sync}
+use Rattle.jk_board.specs.contracts.posted.Part as Part
+use Rattle.jk_board.specs.contracts.posted.Posted as Posted
+use Rattle.jk_board.specs.contracts.follower.Follower as Follower
+
+part_send : IsSend Part.the_row
+part_send = search (entry_send, entry_sync, crosses, sendable) depth 60 fits 20000
+
+part_sync : IsSync Part.the_row
+part_sync = search (entry_send, entry_sync, crosses, sendable) depth 60 fits 20000
+
+posted_sync : IsSync Posted.the_row
+posted_sync = search (part_send, part_sync, crosses, sendable) depth 60 fits 20000
+
+pub follower_send : IsSend Follower.the_row
+follower_send = search (posted_sync, reader.the_field_send, crosses, sendable) depth 60 fits 20000

@@ -1,0 +1,76 @@
+//! Followers that read joins, in threads of their own or not.
+
+use jk_board::Follower;
+use jk_core::{Entry, Told};
+use std::alloc::{AllocError, Global};
+use std::sync::Wait;
+use std::thread;
+use std::thread::{JoinHandle, Threads};
+
+/// Whether the entry is the join of this number.
+fn is_join(entry: &Entry, number: u64) -> bool {
+    match &entry.content {
+        Told::Joined {
+            seat: _,
+            number: known,
+        } => *known == number,
+        Told::Output(_) => false,
+    }
+}
+
+/// How many entries in order are the joins that follow the join of this number, from the first on.
+fn in_order(entries: &[Entry], before: u64) -> u64 {
+    let mut count = 0u64;
+    for entry in entries {
+        count = count.wrapping_add(1);
+        if !is_join(entry, before.wrapping_add(count)) {
+            return count.wrapping_sub(1);
+        }
+    }
+    count
+}
+
+/// Reads so many times. The answer is the number of the last join, where all joins come from the first on and in order.
+pub fn read_times(alloc: Global, follower: &mut Follower, times: u64) -> Result<u64, AllocError> {
+    let mut last = 0u64;
+    for _ in 0..times {
+        let entries = follower.read(alloc, 64)?;
+        last = last.wrapping_add(in_order(entries.as_slice(), last));
+    }
+    Ok(last)
+}
+
+/// Reads until so many entries were read, and answers as `read_times` does.
+pub fn read_all<R: Wait>(
+    rt: &R,
+    alloc: Global,
+    follower: Follower,
+    all: u64,
+) -> Result<u64, AllocError> {
+    let mut follower = follower;
+    let mut last = 0u64;
+    let mut count = 0u64;
+    for _ in rt.forever() {
+        if count >= all {
+            return Ok(last);
+        }
+        let entries = follower.read(alloc, 64)?;
+        count = count.wrapping_add(entries.len() as u64);
+        last = last.wrapping_add(in_order(entries.as_slice(), last));
+        thread::yield_now();
+    }
+    unreachable!()
+}
+
+/// Starts a thread that does as `read_all`.
+pub fn begin<R>(
+    rt: R,
+    alloc: Global,
+    follower: Follower,
+    all: u64,
+) -> Result<JoinHandle<Result<u64, AllocError>>, AllocError>
+where
+    R: Threads + Wait + Copy + Send + 'static,
+{
+    Ok(thread::spawn(&rt, move || read_all(&rt, alloc, follower, all))?)
+}

@@ -1,0 +1,11 @@
+//! Threads at the ends that a kernel's threads share: arrivals sent and taken, texts parsed, entries published and read.
+#![tactic(auto)]
+
+#[cfg(test)]
+mod board_tests;
+pub mod following;
+#[cfg(test)]
+mod inbox_tests;
+pub mod joins;
+#[cfg(test)]
+mod pool_tests;
