@@ -1,8 +1,9 @@
 use jk_core::{Entry, To, Told};
 use jp_msg::{Channel, Message, Output, read_message};
 use json_form::{Shared, Text};
-use nb_doc::{Notebook, read_notebook, write_notebook};
+use nb_doc::{Cell, Notebook, read_notebook, write_notebook};
 use nb_record::Recorder;
+use std::process::Abort;
 use std::test::Fail;
 
 const CODE: &str = "MODULE A; IMPORT Out; BEGIN Out.Int(6*7, 0); Out.Ln END A.";
@@ -63,63 +64,93 @@ fn put_text(rt: &HostRuntime, count: &str) -> Result<String, Fail> {
     Ok(text)
 }
 
+/// Whether the notebook as it is written has this text in it.
+fn shows(rt: &HostRuntime, recorder: &Recorder, text: &str) -> Result<bool, Fail> {
+    Ok(text_of(rt, recorder)?.as_str().contains(text))
+}
+
+/// Puts a notebook of a cell of text and the code cell c1 with this count.
+fn put(rt: &HostRuntime, recorder: &mut Recorder, count: &str) -> Result<(), Fail> {
+    let text = put_text(rt, count)?;
+    recorder.put(read_notebook(rt.alloc(), text.as_bytes())?)?;
+    Ok(())
+}
+
+/// Runs a cell with this metadata.
+fn run_cell(
+    rt: &HostRuntime,
+    recorder: &mut Recorder,
+    metadata: &str,
+    count: u64,
+    text: &str,
+) -> Result<(), Fail> {
+    let request = request(rt, "", metadata)?;
+    run(rt, recorder, &request, count, text)
+}
+
+fn expect_cells_of_put(rt: &impl Abort, cells: &[Cell]) {
+    assert_eq!(rt; cells.len(), 2);
+    assert_eq!(rt; cells[0].id.as_str(), "m");
+    assert_eq!(rt; cells[1].source.as_str(), "x");
+}
+
+fn expect_named_cells(rt: &impl Abort, cells: &[Cell]) {
+    assert_eq!(rt; cells.len(), 2);
+    assert_eq!(rt; cells[0].id.as_str(), "run-1");
+    assert_eq!(rt; cells[1].id.as_str(), "run-2");
+}
+
 #[test]
 fn records_a_cell(rt: HostRuntime) -> Result<(), Fail> {
-    let request = request(&rt, "", "{\"cellId\":\"c1\"}")?;
     let mut recorder = recorder(&rt)?;
-    run(&rt, &mut recorder, &request, 1, "42\n")?;
+    run_cell(&rt, &mut recorder, "{\"cellId\":\"c1\"}", 1, "42\n")?;
     assert_eq!(rt; text_of(&rt, &recorder)?.as_str(), RECORDED);
-    run(&rt, &mut recorder, &request, 2, "42\n")?;
-    let again = text_of(&rt, &recorder)?;
-    assert!(rt; again.as_str().contains("\"execution_count\": 2"));
-    assert_eq!(rt; again.as_str().len(), RECORDED.len());
+    run_cell(&rt, &mut recorder, "{\"cellId\":\"c1\"}", 2, "42\n")?;
+    assert!(rt; shows(&rt, &recorder, "\"execution_count\": 2")?);
+    assert_eq!(rt; text_of(&rt, &recorder)?.as_str().len(), RECORDED.len());
     Ok(())
 }
 
 #[test]
 fn keeps_what_ran_at_a_put(rt: HostRuntime) -> Result<(), Fail> {
-    let request = request(&rt, "", "{\"cellId\":\"c1\"}")?;
     let mut recorder = recorder(&rt)?;
-    run(&rt, &mut recorder, &request, 1, "42\n")?;
-    let seven = read_notebook(rt.alloc(), put_text(&rt, "7")?.as_bytes())?;
-    recorder.put(seven)?;
-    let cells = recorder.notebook().cells.as_slice();
-    assert_eq!(rt; cells.len(), 2);
-    assert_eq!(rt; cells[0].id.as_str(), "m");
-    assert_eq!(rt; cells[1].source.as_str(), "x");
-    let kept = text_of(&rt, &recorder)?;
-    assert!(rt; kept.as_str().contains("\"execution_count\": 1"));
-    assert!(rt; kept.as_str().contains("42"));
-    let null = read_notebook(rt.alloc(), put_text(&rt, "null")?.as_bytes())?;
-    recorder.put(null)?;
-    let cleared = text_of(&rt, &recorder)?;
-    assert!(rt; cleared.as_str().contains("\"execution_count\": null"));
-    assert!(rt; !cleared.as_str().contains("42"));
+    run_cell(&rt, &mut recorder, "{\"cellId\":\"c1\"}", 1, "42\n")?;
+    put(&rt, &mut recorder, "7")?;
+    expect_cells_of_put(&rt, recorder.notebook().cells.as_slice());
+    assert!(rt; shows(&rt, &recorder, "\"execution_count\": 1")?);
+    assert!(rt; shows(&rt, &recorder, "42")?);
+    put(&rt, &mut recorder, "null")?;
+    assert!(rt; shows(&rt, &recorder, "\"execution_count\": null")?);
+    assert!(rt; !shows(&rt, &recorder, "42")?);
     Ok(())
+}
+
+/// A cell without a name that writes `4` and then, in another stream, `2`.
+fn run_in_two_streams(rt: &HostRuntime, recorder: &mut Recorder) -> Result<(), Fail> {
+    let request = request(rt, "", "{}")?;
+    run(rt, recorder, &request, 1, "4")?;
+    show(recorder, &request, Output::stream(rt.alloc(), "2\n")?)
+}
+
+/// A cell without a name that writes `4` and traps.
+fn run_to_a_trap(rt: &HostRuntime, recorder: &mut Recorder) -> Result<(), Fail> {
+    let request = request(rt, "", "{}")?;
+    run(rt, recorder, &request, 2, "4")?;
+    show(
+        recorder,
+        &request,
+        Output::error(rt.alloc(), "Trap", "trap 1")?,
+    )
 }
 
 #[test]
 fn names_cells_and_joins_streams(rt: HostRuntime) -> Result<(), Fail> {
-    let request = request(&rt, "", "{}")?;
     let mut recorder = recorder(&rt)?;
-    run(&rt, &mut recorder, &request, 1, "4")?;
-    show(&mut recorder, &request, Output::stream(rt.alloc(), "2\n")?)?;
-    assert!(rt; text_of(&rt, &recorder)?.as_str().contains("\"42\\n\""));
-    run(&rt, &mut recorder, &request, 2, "4")?;
-    show(
-        &mut recorder,
-        &request,
-        Output::error(rt.alloc(), "Trap", "trap 1")?,
-    )?;
-    let cells = recorder.notebook().cells.as_slice();
-    assert_eq!(rt; cells.len(), 2);
-    assert_eq!(rt; cells[0].id.as_str(), "run-1");
-    assert_eq!(rt; cells[1].id.as_str(), "run-2");
-    assert!(rt;
-        text_of(&rt, &recorder)?
-            .as_str()
-            .contains("\"Trap: trap 1\"")
-    );
+    run_in_two_streams(&rt, &mut recorder)?;
+    assert!(rt; shows(&rt, &recorder, "\"42\\n\"")?);
+    run_to_a_trap(&rt, &mut recorder)?;
+    expect_named_cells(&rt, recorder.notebook().cells.as_slice());
+    assert!(rt; shows(&rt, &recorder, "\"Trap: trap 1\"")?);
     Ok(())
 }
 
