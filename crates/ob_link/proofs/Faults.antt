@@ -1,9 +1,9 @@
 -- The rows of faults are those that linking asks for.
-use Rattle.std.proofs.Common.{◌≡◌, ℕ, zero, suc, ◌+◌, ◌<◌, ◌≤◌, Bool, true, false, cond, List, [], ◌∷◌, length, map, drop, get_or, Option, Some, None, refl, sym, ◌∙◌, ap, inl, inr, arith}
+use Rattle.std.proofs.Common.{◌≡◌, ℕ, zero, suc, ◌+◌, ◌-◌, ◌≤◌, cond, List, [], ◌∷◌, length, map, Option, Some, None, refl, sym, ◌∙◌, ap, arith}
 use Rattle.std.specs.Prelude.{slice_index_or}
 use Rattle.std.specs.Str.{bytes_eq}
-use Rattle.std.proofs.lemmas.Bool.{cases_Bool}
-use Rattle.ob_session.specs.Session.{Import, Module, name_of, key_of, find_module, place_of, first_some, first_fault, fault_of, import_fault, link_fault}
+use Rattle.ob_session.specs.Session.{Import, Module, key_of, find_module, place_of, first_fault, fault_of, import_fault, link_fault}
+use Rattle.ob_link.proofs.Rows.{at_place}
 use Rattle.ob_link.specs.Faults.{fault_row, fault_by, fault_in, next_row}
 
 none_first : (is : List Import) → first_fault (λ i. None) is ≡ None
@@ -22,21 +22,10 @@ first_same : (f g : Import → Option (List ℕ)) (is : List Import) → ((i : I
 first_same f g [] h = refl
 first_same f g (i ∷ is) h = let a = h i in let b = first_same f g is h in cc
 
--- what the row has at the place of a module
-at_place : (F : Module → Option (List ℕ)) (ms : List Module) (q : List ℕ) (m : Module) → find_module ms q ≡ Some m → slice_index_or (map F ms) (place_of ms q) None ≡ F m
-at_place F [] q m e = absurd (let k : None ≡ Some m = e in cc)
-at_place F (n ∷ ms) q m e =
-    elim (cases_Bool (bytes_eq (name_of n) q)) as (λ _. slice_index_or (map F (n ∷ ms)) (place_of (n ∷ ms) q) None ≡ F m) [
-      | inl y ↦ ap (λ b. slice_index_or (map F (n ∷ ms)) (cond b 0 (suc (place_of ms q))) None) y
-          ∙ ap F (let same : Some n ≡ Some m = sym (ap (λ b. cond b (Some n) (find_module ms q)) y) ∙ e in cc)
-      | inr f ↦ ap (λ b. slice_index_or (map F (n ∷ ms)) (cond b 0 (suc (place_of ms q))) None) f
-          ∙ at_place F ms q m (sym (ap (λ b. cond b (Some n) (find_module ms q)) f) ∙ e)
-    ]
-
 by_found : (modules : List Module) (k : ℕ) (i : Import) (o : Option Module) → find_module modules i.name ≡ o → fault_by o i (slice_index_or (fault_row modules k) (place_of modules i.name) None) ≡ fault_of o i (import_fault modules k)
 by_found modules k i None e = refl
 by_found modules k i (Some m) e =
-    ap (λ x. cond (bytes_eq (key_of m) i.key) x (Some i.name)) (at_place (λ (n : Module). first_fault (import_fault modules k) n.imports) modules i.name m e)
+    ap (λ x. cond (bytes_eq (key_of m) i.key) x (Some i.name)) (at_place (λ (n : Module). first_fault (import_fault modules k) n.imports) None modules i.name m e)
 
 pub fault_same : (modules : List Module) (k : ℕ) (i : Import) → fault_in modules (fault_row modules k) i ≡ import_fault modules (suc k) i
 fault_same modules k i = by_found modules k i (find_module modules i.name) refl
@@ -60,6 +49,19 @@ row_after modules row k e =
     let n : suc k ≡ k + 1 = omega arith in
     ap (next_row modules) e ∙ row_next modules k ∙ ap (fault_row modules) n
 
-pub row_ended : (modules : List Module) (row : List (Option (List ℕ))) (k : ℕ) (imports : List Import) → row ≡ fault_row modules k → k ≡ length modules → first_fault (fault_in modules row) imports ≡ link_fault modules imports
-row_ended modules row k imports e n =
-    ap (λ r. first_fault (fault_in modules r) imports) (e ∙ ap (fault_row modules) n) ∙ row_links modules imports
+-- a row that gives itself gives no other
+row_stays : (modules : List Module) (k j : ℕ) → fault_row modules k ≡ fault_row modules (suc k) → fault_row modules (k + j) ≡ fault_row modules k
+row_stays modules k zero e = ap (fault_row modules) (let n : k + 0 ≡ k = omega arith in n)
+row_stays modules k (suc j) e =
+    let n : k + suc j ≡ suc (k + j) = omega arith in
+    ap (fault_row modules) n
+    ∙ sym (row_next modules (k + j))
+    ∙ ap (next_row modules) (row_stays modules k j e)
+    ∙ row_next modules k
+    ∙ sym e
+
+pub row_settled : (modules : List Module) (row next : List (Option (List ℕ))) (k : ℕ) → row ≡ fault_row modules k → next ≡ next_row modules row → row ≡ next → k ≤ length modules → next ≡ fault_row modules (length modules)
+row_settled modules row next k e n same le =
+    let there : next ≡ fault_row modules (suc k) = n ∙ ap (next_row modules) e ∙ row_next modules k in
+    let m : k + (length modules - k) ≡ length modules = omega (arith, le) in
+    sym same ∙ e ∙ sym (row_stays modules k (length modules - k) (sym e ∙ same ∙ there)) ∙ ap (fault_row modules) m

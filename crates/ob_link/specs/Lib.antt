@@ -1,2 +1,6 @@
 pub mod Places
 pub mod Faults
+pub mod Runs
+pub mod Looking
+pub mod Reaching
+pub mod Exchange

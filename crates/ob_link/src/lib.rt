@@ -2,9 +2,16 @@
 //! name, and what links. It is what the definitions of sessions say of a session's modules.
 #![tactic(auto)]
 
+mod command;
+mod exchange;
+mod laws;
 mod linking;
+mod looking;
 mod module;
 mod modules;
+mod reaching;
 
+pub use command::{Command, CommandName, LinkFault, Looked, Ready};
+pub use laws::{exchange_law, imports_run_law, reaching_law};
 pub use module::{KeyedImport, SessionModule};
 pub use modules::Modules;

@@ -1,8 +1,10 @@
 //! What links.
 
-ghost use Rattle.std.specs.Prelude.{◌≡◌, IfOk, None, slice_index_or};
+ghost use Rattle.std.specs.Prelude.{◌≡◌, ◌↔◌, IfOk, IsTrue, None, length, map, slice_index_or};
+ghost use Rattle.ob_session.specs.Session.{Module};
 ghost use Rattle.ob_session.specs.Session as session;
 ghost use Rattle.ob_link.specs.Faults as spec;
+ghost use Rattle.ob_link.specs.Runs.{may_run};
 
 use crate::module::KeyedImport;
 use crate::modules::Modules;
@@ -10,7 +12,7 @@ use ob_base::Text;
 use std::alloc::{AllocError, Global};
 
 // What is behind the module of this number.
-fn fault_at(
+pub(crate) fn fault_at(
     alloc: Global,
     behind: &[Option<Text>],
     number: usize,
@@ -21,6 +23,32 @@ fn fault_at(
         Some(Some(name)) => Ok(Some(name.copy(alloc)?)),
         _ => Ok(None),
     }
+}
+
+// Whether two faults are one.
+fn same_fault(one: &Option<Text>, other: &Option<Text>) -> bool
+    ensures { IsTrue result ↔ (one.now ≡ other.now) }
+{
+    match (one, other) {
+        (None, None) => true,
+        (Some(one), Some(other)) => one.same(other),
+        _ => false,
+    }
+}
+
+// Whether each of two rows has the other's faults.
+fn same_faults(row: &[Option<Text>], other: &[Option<Text>]) -> bool
+    ensures { IsTrue result → row.now ≡ other.now }
+{
+    if row.len() != other.len() {
+        return false;
+    }
+    for number in 0..row.len() {
+        if !same_fault(&row[number], &other[number]) {
+            return false;
+        }
+    }
+    true
 }
 
 impl Modules {
@@ -82,6 +110,22 @@ impl Modules {
         Ok(so_far)
     }
 
+    // The faults behind each module, through chains of as many imports as there are modules. A row that gives itself gives no
+    // other.
+    fn last_faults(&self) -> Result<Vec<Option<Text>>, AllocError>
+        ensures { IfOk result (λ row. row.items ≡ spec.fault_row self.now (length self.now)) }
+    {
+        let mut behind = self.no_faults()?;
+        for _length in 0..self.as_slice().len() {
+            let next = self.next_faults(behind.as_slice())?;
+            if same_faults(behind.as_slice(), next.as_slice()) {
+                return Ok(next);
+            }
+            behind = next;
+        }
+        Ok(behind)
+    }
+
     /// Whether imports link: the name of the first module that is reached through them, in their order, depth first, and is
     /// not loaded with the key that its client recorded; or none, where each is.
     ///
@@ -91,10 +135,35 @@ impl Modules {
     pub fn link_fault(&self, imports: &[KeyedImport]) -> Result<Option<Text>, AllocError>
         ensures { IfOk result (λ f. f ≡ session.link_fault self.now imports.now) }
     {
-        let mut behind = self.no_faults()?;
-        for _length in 0..self.as_slice().len() {
-            behind = self.next_faults(behind.as_slice())?;
-        }
+        let behind = self.last_faults()?;
         self.first_fault(behind.as_slice(), imports)
+    }
+
+    /// What `link_fault` answers for the imports of each module, by the module's number. It costs no more than one such call.
+    ///
+    /// # Errors
+    ///
+    /// Want of memory.
+    pub fn faults(&self) -> Result<Vec<Option<Text>>, AllocError>
+        ensures { IfOk result (λ row. row.items ≡ map (λ (m : Module). session.link_fault self.now m.imports) self.now) }
+    {
+        let behind = self.last_faults()?;
+        self.next_faults(behind.as_slice())
+    }
+
+    /// Whether the imports of each module link, by the module's number.
+    ///
+    /// # Errors
+    ///
+    /// Want of memory.
+    pub fn may_run(&self) -> Result<Vec<bool>, AllocError>
+        ensures { IfOk result (λ row. row.items ≡ may_run self.now) }
+    {
+        let faults = self.faults()?;
+        let mut so_far = Vec::new(self.alloc());
+        for fault in faults.as_slice() {
+            so_far.push(fault.is_none())?;
+        }
+        Ok(so_far)
     }
 }

@@ -1,7 +1,8 @@
 //! The modules that are loaded.
 
-ghost use Rattle.std.specs.Prelude.{◌≡◌, [], OnOk, OnErr, IfOk, Some, None, option_copied, slice_get};
+ghost use Rattle.std.specs.Prelude.{◌≡◌, [], OnOk, OnErr, IfOk, Some, None, map, option_copied, slice_get};
 ghost use Rattle.ob_session.specs.Session as session;
+ghost use Rattle.ob_link.specs.Exchange.{EndsNew, without_last};
 ghost use Rattle.ob_link.specs.Places as spec;
 
 use crate::module::{KeyedImport, SessionModule};
@@ -9,6 +10,7 @@ use ob_base::Text;
 use std::alloc::{AllocError, Global};
 use std::collections::HashMap;
 use std::marker::Model;
+use std::mem;
 
 /// The modules that are loaded, in the order in which their names came. Contracts see the list of them. A look-up by name
 /// goes through a map.
@@ -58,7 +60,7 @@ impl Modules {
     }
 
     // The number of the module of this name.
-    fn number_of(&self, name: &Text) -> Option<usize>
+    pub(crate) fn number_of(&self, name: &Text) -> Option<usize>
         ensures { result ≡ spec.number_in self.now name.now }
     {
         match self.places.get(name.as_slice()) {
@@ -102,16 +104,17 @@ impl Modules {
         self.alloc
     }
 
-    // In the place of the one that has its name.
-    fn replace(&mut self, number: usize, loaded: SessionModule)
+    // In the place of the one that has its name, which comes back.
+    pub(crate) fn replace(&mut self, number: usize, loaded: SessionModule) -> SessionModule
         requires { spec.number_in self.old loaded.interface.name ≡ Some number }
-        ensures { self.new ≡ session.with_module self.old loaded }
+        ensures new { self.new ≡ session.with_module self.old loaded }
+        ensures back { session.find_module self.old loaded.interface.name ≡ Some result }
     {
-        self.modules[number] = loaded;
+        mem::replace(&mut self.modules[number], loaded)
     }
 
     // Behind the others.
-    fn append(&mut self, loaded: SessionModule) -> Result<(), AllocError>
+    pub(crate) fn append(&mut self, loaded: SessionModule) -> Result<(), AllocError>
         requires { spec.number_in self.old loaded.interface.name ≡ None }
         ensures ok { OnOk result (self.new ≡ session.with_module self.old loaded) }
         ensures err { OnErr result (self.new ≡ self.old) }
@@ -126,22 +129,29 @@ impl Modules {
         }
     }
 
-    /// Loads a module: it takes the place of the one that has its name, or comes behind the others.
+    // The last one goes, and its name.
+    pub(crate) fn drop_last(&mut self)
+        requires { EndsNew self.old }
+        ensures { self.new ≡ without_last self.old }
+    {
+        if let Some(last) = self.modules.pop() {
+            self.places.remove(last.interface().name().as_slice());
+        }
+    }
+
+    /// The names of the modules, in their order.
     ///
     /// # Errors
     ///
-    /// Want of memory, which leaves the modules as they were.
-    pub fn install(&mut self, loaded: SessionModule) -> Result<(), AllocError>
-        ensures ok { OnOk result (self.new ≡ session.with_module self.old loaded) }
-        ensures err { OnErr result (self.new ≡ self.old) }
+    /// Want of memory.
+    pub fn names(&self) -> Result<Vec<Text>, AllocError>
+        ensures { IfOk result (λ ns. ns.items ≡ map session.name_of self.now) }
     {
-        match self.number_of(loaded.interface().name()) {
-            Some(number) => {
-                self.replace(number, loaded);
-                Ok(())
-            }
-            None => self.append(loaded),
+        let mut so_far = Vec::new(self.alloc);
+        for each in self.as_slice() {
+            so_far.push(each.interface().name().copy(self.alloc)?)?;
         }
+        Ok(so_far)
     }
 
     /// The number of each imported module, in the order of the imports; where there is none of that name, how many modules

@@ -1,4 +1,4 @@
-use Rattle.std.proofs.Common.{rules, ◌≡◌, Some, None, sym, ◌∙◌, ap, ◌∷◌, [], ◌++◌, cond, length, List, ℕ}
+use Rattle.std.proofs.Common.{rules, ◌≡◌, Some, None, sym, ◌∙◌, ap, ◌∷◌, [], ◌++◌, cond, length, List}
 use Rattle.std.specs.Str.{bytes_eq}
 use Rattle.std.specs.HashMap.{get_by}
 use Rattle.ob_session.specs.Session.{Module, with_module}

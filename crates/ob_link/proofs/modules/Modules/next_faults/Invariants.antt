@@ -1,5 +1,5 @@
 use Rattle.std.proofs.Common.{◌≡◌, take}
-use Rattle.ob_link.specs.Faults.{next_row, fault_in}
+use Rattle.ob_link.specs.Faults.{fault_in}
 use Rattle.std.specs.Prelude.{map}
 use Rattle.ob_session.specs.Session.{Module, first_fault}
 use Rattle.ob_link.proofs.modules.Modules.next_faults.Given as goal

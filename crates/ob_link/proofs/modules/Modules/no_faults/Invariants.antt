@@ -1,4 +1,4 @@
-use Rattle.std.proofs.Common.{◌≡◌, ℕ, List, Option, None, take, map}
+use Rattle.std.proofs.Common.{◌≡◌, None, take, map}
 use Rattle.ob_session.specs.Session.{Module}
 use Rattle.ob_link.proofs.modules.Modules.no_faults.Given as goal
 

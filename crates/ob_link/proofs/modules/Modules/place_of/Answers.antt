@@ -1,5 +1,4 @@
-use Rattle.std.proofs.Common.{rules, ◌≡◌, ℕ, List, length, Option, Some, None, sym, ◌∙◌, ap}
-use Rattle.ob_session.specs.Session.{Module}
+use Rattle.std.proofs.Common.{rules, ◌≡◌, length, Some, None, sym, ◌∙◌}
 use Rattle.ob_link.specs.Places.{number_in}
 use Rattle.ob_link.proofs.Places.{placed, unplaced}
 use Rattle.ob_link.proofs.modules.Modules.place_of.Goals as goal

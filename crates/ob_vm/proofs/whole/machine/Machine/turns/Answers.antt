@@ -3,6 +3,7 @@ use Rattle.ob_code.specs.whole.Machine.{Code}
 use Rattle.ob_vm.specs.whole.States.{config_of}
 use Rattle.ob_vm.specs.whole.Images.{ImageState, MachineState, machine_config, machine_of}
 use Rattle.ob_vm.specs.whole.Steps.{SliceDone}
+use Rattle.ob_vm.proofs.Asks.{where_asked}
 use Rattle.ob_vm.proofs.whole.machine.Machine.turns.Goals as goal
 
 pub returns-clause-does : goal.returns-clause-does
@@ -28,3 +29,19 @@ returns-clause-does c =
           (subst (λ d. SliceDone image.code d there c.min-most.result t u) old
           (subst (λ (m : Code). SliceDone m here there c.min-most.result t u) same c.run-slice.ensures.does))),
     )
+
+pub returns-clause-asks : goal.returns-clause-asks
+returns-clause-asks c =
+    let u = c.run-slice.result.used in
+    let t = c.run-slice.result.turned in
+    let modules = c.image.inside.modules.items in
+    let flags = c.image.inside.may_run.items in
+    let before = machine_of c.self.inside.state c.self.inside.used in
+    let after = machine_of c.run-slice.new.state (c.self.inside.used + u) in
+    let here = machine_config (record { code = modules; may_run = flags; cells = c.swap.new.y.items }) before in
+    let there = config_of c.run-slice.new.state in
+    let image : ImageState = record { code = modules; may_run = flags; cells = c.swap-2.new.x.items } in
+    let new = ap (λ v. machine_config (record { code = modules; may_run = flags; cells = v.items }) after) (sym c.swap-2.ensures.x_after) in
+    where_asked image after here c.min-most.result u t
+    (subst (λ d. SliceDone modules here d c.min-most.result t u) new
+    (subst (λ (m : Code). SliceDone m here there c.min-most.result t u) c.deref.ensures.value c.run-slice.ensures.does))

@@ -1,0 +1,95 @@
+-- Modules put among others, and laid one behind the other.
+use Rattle.std.proofs.Common.{◌≡◌, ℕ, zero, suc, ◌+◌, ◌<◌, ◌≤◌, List, [], ◌∷◌, ◌++◌, length, get_or, take, drop, refl, sym, ap, ◌∙◌, add-one, append-nil, arith}
+use Rattle.std.proofs.Math.ListN.{set}
+use Rattle.std.proofs.lemmas.List.{drop_all, take_all}
+use Rattle.ob_code.specs.declared.whole.instr.LinkedModule.{LinkedModule}
+use Rattle.ob_code.specs.whole.Linked.{all_cells, AreLaid}
+use Rattle.ob_code.specs.whole.Machine.{Code}
+use Rattle.ob_linked.specs.Compiled.{laid, put_at}
+
+-- in the place of another
+pub put_within : {A : Type 0} (xs : List A) (i : ℕ) (x : A) → i < length xs → set xs i x ≡ put_at xs i x
+put_within [] i x h = absurd (omega (arith, h))
+put_within (y ∷ xs) zero x h = refl
+put_within (y ∷ xs) (suc i) x h = ap (λ l. y ∷ l) (put_within xs i x (omega (arith, h)))
+
+-- behind the others
+pub put_behind : {A : Type 0} (xs : List A) (i : ℕ) (x : A) → i ≡ length xs → xs ++ x ∷ [] ≡ put_at xs i x
+put_behind [] i x h = refl
+put_behind (y ∷ xs) zero x h = absurd (omega (arith, h))
+put_behind (y ∷ xs) (suc i) x h = ap (λ l. y ∷ l) (put_behind xs i x (omega (arith, h)))
+
+-- ---- modules laid one behind the other
+
+laid_length : (from : ℕ) (code : Code) (i : ℕ) → length (laid from (take i code) ++ drop i code) ≡ length code
+laid_length from code zero = refl
+laid_length from [] (suc i) = refl
+laid_length from (l ∷ ls) (suc i) = ap suc (laid_length (from + l.code.cells) ls i)
+
+-- those behind are as they were
+pub laid_next : (from : ℕ) (code : Code) (i : ℕ) (d : LinkedModule) → get_or (laid from (take i code) ++ drop i code) i d ≡ get_or code i d
+laid_next from code zero d = refl
+laid_next from [] (suc i) d = refl
+laid_next from (l ∷ ls) (suc i) d = laid_next (from + l.code.cells) ls i d
+
+abbrev pub at_cell : LinkedModule → ℕ → LinkedModule
+at_cell l from = record { code = l.code; imports = l.imports; cells = from }
+
+laid_by : (from : ℕ) (code : Code) (i : ℕ) (d : LinkedModule) → i < length code → set (laid from (take i code) ++ drop i code) i (at_cell (get_or code i d) (from + all_cells (take i code))) ≡ laid from (take (suc i) code) ++ drop (suc i) code
+laid_by from [] i d lt = absurd (omega (arith, lt))
+laid_by from (l ∷ ls) zero d lt = ap (λ n. at_cell l n ∷ ls) (omega arith)
+laid_by from (l ∷ ls) (suc i) d lt =
+    let sum : from + (l.code.cells + all_cells (take i ls)) ≡ from + l.code.cells + all_cells (take i ls) = omega arith in
+    ap (λ n. at_cell l from ∷ set (laid (from + l.code.cells) (take i ls) ++ drop i ls) i (at_cell (get_or ls i d) n)) sum
+    ∙ ap (λ (xs : Code). at_cell l from ∷ xs) (laid_by (from + l.code.cells) ls i d (omega (arith, lt)))
+
+-- one module more
+pub laid_more : (old code : Code) (i from : ℕ) (l : LinkedModule) → i < length old → from ≡ all_cells (take i old) → code ≡ laid 0 (take i old) ++ drop i old → l ≡ get_or code i l → set code i (at_cell l from) ≡ laid 0 (take (i + 1) old) ++ drop (i + 1) old
+laid_more old code i from l lt ef ec el =
+    let same : l ≡ get_or old i l = el ∙ ap (λ (xs : Code). get_or xs i l) ec ∙ laid_next 0 old i l in
+    let sum : from ≡ 0 + all_cells (take i old) = omega (arith, ef) in
+    ap (λ (xs : Code). set xs i (at_cell l from)) ec
+    ∙ ap (λ (x : LinkedModule). set (laid 0 (take i old) ++ drop i old) i (at_cell x from)) same
+    ∙ ap (λ n. set (laid 0 (take i old) ++ drop i old) i (at_cell (get_or old i l) n)) sum
+    ∙ laid_by 0 old i l lt
+    ∙ ap (λ k. laid 0 (take k old) ++ drop k old) (sym (add-one i))
+
+cells_by : (code : Code) (i : ℕ) (d : LinkedModule) → i < length code → all_cells (take (suc i) code) ≡ all_cells (take i code) + (get_or code i d).code.cells
+cells_by [] i d lt = absurd (omega (arith, lt))
+cells_by (l ∷ ls) zero d lt = omega arith
+cells_by (l ∷ ls) (suc i) d lt = let e = cells_by ls i d (omega (arith, lt)) in omega (arith, e)
+
+-- the next one's first cell
+pub cells_more : (old code : Code) (i from : ℕ) (l : LinkedModule) → i < length old → from ≡ all_cells (take i old) → code ≡ laid 0 (take i old) ++ drop i old → l ≡ get_or code i l → from + l.code.cells ≡ all_cells (take (i + 1) old)
+cells_more old code i from l lt ef ec el =
+    let same : l ≡ get_or old i l = el ∙ ap (λ (xs : Code). get_or xs i l) ec ∙ laid_next 0 old i l in
+    let e = cells_by old i l lt in
+    let k = ap (λ n. all_cells (take n old)) (add-one i) in
+    let s = ap (λ (x : LinkedModule). x.code.cells) same in
+    omega (arith, e, k, s, ef)
+
+pub cells_most : (code : Code) (i : ℕ) → all_cells (take i code) ≤ all_cells code
+cells_most code zero = omega arith
+cells_most [] (suc i) = omega arith
+cells_most (l ∷ ls) (suc i) = let e = cells_most ls i in omega (arith, e)
+
+-- as many as there were
+pub laid_count : (old code : Code) (i : ℕ) → code ≡ laid 0 (take i old) ++ drop i old → length code ≡ length old
+laid_count old code i e = ap (λ (xs : Code). length xs) e ∙ laid_length 0 old i
+
+-- all modules
+pub laid_all : (old : Code) (i : ℕ) → length old ≤ i → laid 0 (take i old) ++ drop i old ≡ laid 0 old
+laid_all old i le =
+    ap (λ (xs : Code). laid 0 xs ++ drop i old) (take_all i old le)
+    ∙ ap (λ (xs : Code). laid 0 old ++ xs) (drop_all i old le)
+    ∙ append-nil (laid 0 old)
+
+-- ---- what is so of modules that are laid
+
+pub laid_lies : (from : ℕ) (code : Code) → AreLaid from (laid from code)
+laid_lies from [] = tt
+laid_lies from (l ∷ ls) = (refl, laid_lies (from + l.code.cells) ls)
+
+pub laid_cells : (from : ℕ) (code : Code) → all_cells (laid from code) ≡ all_cells code
+laid_cells from [] = refl
+laid_cells from (l ∷ ls) = ap (λ n. l.code.cells + n) (laid_cells (from + l.code.cells) ls)

@@ -1,0 +1,5 @@
+pub mod Begins
+pub mod Laid
+pub mod Faces
+pub mod Counted
+pub mod Flags

@@ -1,0 +1,17 @@
+//! What the image of a session is made of: the cells that its variables begin with, the code of its modules one behind the other,
+//! what is known of them, and where each module's cells lie.
+#![tactic(auto)]
+
+mod agreement;
+mod known;
+mod laying;
+mod module_cells;
+mod opening;
+mod same;
+
+pub use agreement::agree;
+pub use known::KnownFaces;
+pub use laying::{lay, put_at};
+pub use module_cells::bounds;
+pub use opening::{loaded_cells, push_opening};
+pub use same::same_face;

@@ -1,0 +1,42 @@
+-- Which modules reach a module of a name, by their imports and theirs.
+use Rattle.std.specs.Prelude.{◌≡◌, ◌↔◌, ℕ, zero, suc, List, length, map, Bool, true, false, ◌||◌, Option, Some, None, slice_get, slice_index_or}
+use Rattle.std.specs.List.{list_any}
+use Rattle.std.specs.Str.{bytes_eq}
+use Rattle.ob_session.specs.Session.{Import, Module, find_module, place_of}
+use Rattle.ob_session.specs.Links.{Reached}
+
+-- one of the imports of what is found
+abbrev pub any_behind : Option Module → (Import → Bool) → Bool
+any_behind None reaches = false
+any_behind (Some m) reaches = list_any reaches m.imports
+
+-- An import reaches a name if it is of that name, or if what is found under its own name has an import that reaches it,
+-- through chains of so many imports more.
+abbrev pub reaches : List Module → ℕ → List ℕ → Import → Bool
+reaches modules zero name i = bytes_eq i.name name
+reaches modules (suc most) name i = bytes_eq i.name name || any_behind (find_module modules i.name) (reaches modules most name)
+
+-- A module does if one of its imports does. A chain that goes through no module twice has no more imports than there are
+-- modules.
+abbrev pub reached_by : List Module → List ℕ → Module → Bool
+reached_by modules name m = list_any (reaches modules (length modules) name) m.imports
+
+-- for each module, by its number
+abbrev pub reaching : List Module → List ℕ → List Bool
+reaching modules name = map (reached_by modules name) modules
+
+-- A module does exactly where an import of that name is reached through its imports, by a chain of any length.
+abbrev pub EachReachesExactly : Type 0
+EachReachesExactly = (modules : List Module) (number : ℕ) (m : Module) (name : List ℕ) → slice_get modules number ≡ Some m → (slice_index_or (reaching modules name) number false ≡ true) ↔ ((i : Import) × Reached modules i m.imports × (i.name ≡ name))
+
+-- ---- found in rows, through chains that grow by one import from each row to the next
+
+abbrev pub reach_row : List Module → ℕ → List ℕ → List Bool
+reach_row modules most name = map (λ (m : Module). list_any (reaches modules most name) m.imports) modules
+
+-- an import, by which modules do
+abbrev pub reaches_in : List Module → List Bool → List ℕ → Import → Bool
+reaches_in modules row name i = bytes_eq i.name name || slice_index_or row (place_of modules i.name) false
+
+abbrev pub next_reach_row : List Module → List Bool → List ℕ → List Bool
+next_reach_row modules row name = map (λ (m : Module). list_any (reaches_in modules row name) m.imports) modules

@@ -1,0 +1,223 @@
+-- The code of commands, behind that of a session's modules, may run and does what they mean.
+use Rattle.std.proofs.Common.{◌≡◌, ◌⊎◌, ℕ, zero, suc, ◌+◌, ◌<◌, true, false, List, [], ◌∷◌, ◌++◌, length, Some, None, refl, sym, ap, subst, ◌∙◌, inl, inr, arith, append-nil}
+use Rattle.std.specs.Prelude.{◌||◌, nat_eq, slice_get, slice_index}
+use Rattle.std.proofs.lemmas.Option.{slice_get_within}
+use Rattle.ob_mean.specs.declared.whole.expression.Callee.{Callee}
+use Rattle.ob_mean.specs.declared.whole.expression.Callee.TheVariants.{OfImport}
+use Rattle.ob_mean.specs.declared.whole.face.Face.{Face}
+use Rattle.ob_mean.specs.declared.whole.face.Heading.{Heading}
+use Rattle.ob_mean.specs.declared.whole.module.TypedProcedure.{TypedProcedure}
+use Rattle.ob_mean.specs.whole.Values.{size}
+use Rattle.ob_mean.specs.whole.Shapes.{zeros}
+use Rattle.ob_mean.specs.whole.Programs.{Command, procedure_in}
+use Rattle.ob_mean.specs.whole.WellFormed.{Names, own_heading, face_heading, names_in, ListFits, cell_limit, FacesFit, AreHeadings, IsFaceOf, IsWellFormed}
+use Rattle.ob_code.specs.declared.whole.instr.Entries.{Entries}
+use Rattle.ob_code.specs.declared.whole.instr.LinkedModule.{LinkedModule}
+use Rattle.ob_code.specs.whole.Linked.{Imports, IsLinked}
+use Rattle.ob_code.specs.whole.Machine.{Code, imports_in, import_number, exported_number}
+use Rattle.ob_code.specs.whole.Valid.{IsValid}
+use Rattle.ob_gen.specs.whole.Code.{list_code}
+use Rattle.ob_gen.specs.whole.Commands.{commands_code, LeadsTo, AllLead, IsCodeOfCommands}
+use Rattle.ob_gen.specs.whole.Correct.{AllRun}
+use Rattle.ob_gen.proofs.machine.Commands.{commands_behave}
+use Rattle.ob_gen.proofs.machine.Fitting.{generated_valid}
+use Rattle.ob_gen.proofs.machine.Linked.{body_compiled}
+use Rattle.ob_gen.proofs.machine.Places.{some_same}
+use Rattle.ob_session.specs.Session.{Module, program_of}
+use Rattle.ob_linked.specs.Compiled.{Known, runs_in, face_in, AreKnown, AreCompiled, faces_at, MayRunAll}
+use Rattle.ob_linked.specs.CommandsCode.{IsCallable, AllCallable, homes, AreCallable, calls_from, commands_tree, IsBehind, EachCommandsForm, runs_with, EachCommandsMayRun}
+use Rattle.ob_linked.proofs.Sides.{imported_at, as_long}
+use Rattle.ob_linked.proofs.Entries.{face_cells, numbered_at}
+use Rattle.ob_linked.proofs.MayRun.{whole_at, face_is, loaded_there, as_known, each_may_run}
+use Rattle.ob_linked.proofs.Behind.{kept_at, last_at, kept_or_last, index_at, as_known_alike, linked_behind, program_behind}
+
+-- what callers know of a command
+abbrev pub plain : Heading
+plain = record { parameters = []; is_function = false }
+
+-- the procedures that are called
+abbrev callees_from : ℕ → List ℕ → List Callee
+callees_from i [] = []
+callees_from i (place ∷ places) = OfImport i place ∷ callees_from (suc i) places
+
+-- the code of calls is a line for each
+calls_code : (names : Names) (i : ℕ) (places : List ℕ) → list_code names (calls_from i places) ≡ commands_code (callees_from i places)
+calls_code names i [] = refl
+calls_code names i (place ∷ places) = ap (λ ls. commands_code (OfImport i place ∷ []) ++ ls) (calls_code names (suc i) places)
+
+-- the heading of an exported procedure is in the face
+heading_there : (hs : List Heading) (fs : List TypedProcedure) (ps : List ℕ) (x p : ℕ) (h : Heading) → AreHeadings hs fs ps → slice_get ps x ≡ Some p → own_heading (slice_get fs p) ≡ Some h → slice_get hs x ≡ Some h
+heading_there hs fs [] x p h a at e = absurd (let n : None ≡ Some p = at in cc)
+heading_there [] fs (q ∷ ps) x p h a at e = absurd a
+heading_there (g ∷ hs) fs (q ∷ ps) zero p h a at e = sym a.0 ∙ ap (λ k. own_heading (slice_get fs k)) (some_same q p at) ∙ e
+heading_there (g ∷ hs) fs (q ∷ ps) (suc x) p h a at e = heading_there hs fs ps x p h a.1 at e
+
+-- a number behind others
+next : (i n : ℕ) → i + suc n ≡ suc i + n
+next i n = omega arith
+
+module _ (modules : List Module) (known : List Known) (code : Code) (all : AreCompiled modules known code) where
+  homes_run : (cs : List Command) (places : List ℕ) → AllCallable modules cs places → AllRun (runs_in modules) (homes cs)
+  homes_run [] [] h = tt
+  homes_run [] (place ∷ places) h = absurd h
+  homes_run (c ∷ cs) [] h = absurd h
+  homes_run (c ∷ cs) (place ∷ places) h = (h.0.may_run, homes_run cs places h.1)
+
+  -- a command that its module's face shows can be called
+  pub shown_callable : (c : Command) (place : ℕ) (m : Module) (face : Face) → slice_get modules c.home ≡ Some m → runs_in modules c.home ≡ true → face_in (slice_get known c.home) ≡ Some face → slice_get m.tree.exported place ≡ Some c.procedure → slice_get face.procedures place ≡ Some plain → IsCallable modules c place
+  shown_callable c place m face there ok at exported shown =
+      let w = whole_at modules known code all c.home ok in
+      let same : w.m ≡ m = some_same w.m m (sym w.there ∙ there) in
+      let is_face : IsFaceOf face m.tree = subst (λ (x : Module). IsFaceOf face x.tree) same (face_is modules known code all c.home face w at) in
+      let n = numbered_at face.procedures m.tree.procedures m.tree.exported place plain is_face.procedures shown in
+      let number : n.number ≡ c.procedure = some_same n.number c.procedure (sym n.at ∙ exported) in
+      record {
+        m = m;
+        there = there;
+        may_run = ok;
+        exported = exported;
+        plain = ap (λ p. own_heading (slice_get m.tree.procedures p)) (sym number) ∙ n.heading;
+      }
+
+  -- ---- the module's tree
+
+  face_low : (i : ℕ) (face : Face) → runs_in modules i ≡ true → face_in (slice_get known i) ≡ Some face → size (zeros face.variables) < cell_limit
+  face_low i face ok at =
+      let w = whole_at modules known code all i ok in
+      let is_face = face_is modules known code all i face w at in
+      let cells = face_cells face.variables w.m.tree.variables is_face.variables in
+      let low = w.compiled.ready.formed.cells in
+      omega (arith, cells, low)
+
+  faces_fit : (is : List ℕ) (faces : List Face) → AreKnown known is faces → AllRun (runs_in modules) is → FacesFit faces
+  faces_fit [] [] a r = tt
+  faces_fit [] (face ∷ faces) a r = absurd a
+  faces_fit (i ∷ is) [] a r = absurd a
+  faces_fit (i ∷ is) (face ∷ faces) a r = (face_low i face r.0 a.0, faces_fit is faces a.1 r.1)
+
+  -- the command is what the face says
+  called_in : (c : Command) (place : ℕ) (face : Face) → IsCallable modules c place → face_in (slice_get known c.home) ≡ Some face → face_heading (Some face) place ≡ Some plain
+  called_in c place face h at =
+      let w = whole_at modules known code all c.home h.may_run in
+      let is_face = face_is modules known code all c.home face w at in
+      let same : h.m ≡ w.m = some_same h.m w.m (sym h.there ∙ w.there) in
+      heading_there face.procedures w.m.tree.procedures w.m.tree.exported place c.procedure plain is_face.procedures
+      (ap (λ (m : Module). slice_get m.tree.exported place) (sym same) ∙ h.exported)
+      (ap (λ (m : Module). own_heading (slice_get m.tree.procedures c.procedure)) (sym same) ∙ h.plain)
+
+  calls_fit : (names : Names) (i : ℕ) (cs : List Command) (places : List ℕ) (faces : List Face) → AllCallable modules cs places → AreKnown known (homes cs) faces → ((n : ℕ) → slice_get names.faces (i + n) ≡ slice_get faces n) → ListFits names (calls_from i places)
+  calls_fit names i [] [] faces h a at = tt
+  calls_fit names i [] (place ∷ places) faces h a at = absurd h
+  calls_fit names i (c ∷ cs) [] faces h a at = absurd h
+  calls_fit names i (c ∷ cs) (place ∷ places) [] h a at = absurd a
+  calls_fit names i (c ∷ cs) (place ∷ places) (face ∷ faces) h a at =
+      let zero_on : i ≡ i + 0 = omega arith in
+      let there : slice_get names.faces i ≡ Some face = ap (slice_get names.faces) zero_on ∙ at 0 in
+      let called : face_heading (slice_get names.faces i) place ≡ Some plain = ap (λ o. face_heading o place) there ∙ called_in c place face h.0 a.0 in
+      ((plain, called, refl, tt), calls_fit names (suc i) cs places faces h.1 a.1 (λ n. ap (slice_get names.faces) (sym (next i n)) ∙ at (suc n)))
+
+  formed : (cs : List Command) (places : List ℕ) (faces : List Face) → AreCallable modules known cs places faces → IsWellFormed faces (commands_tree places)
+  formed cs places faces h = record {
+    known = faces_fit (homes cs) faces h.agree (homes_run cs places h.each);
+    cells = omega arith;
+    exported = tt;
+    procedures = tt;
+    body = calls_fit (names_in faces (commands_tree places)) 0 cs places faces h.each h.agree (λ n. ap (slice_get faces) (let e : 0 + n ≡ n = omega arith in e));
+  }
+
+  -- ---- its code
+
+  module _ (cs : List Command) (places : List ℕ) (faces : List Face) (l : LinkedModule) (callable : AreCallable modules known cs places faces) (is_behind : IsBehind code cs places faces l) where
+    abbrev longer : Code
+    longer = code ++ l ∷ []
+
+    may_run : MayRunAll modules known code
+    may_run = each_may_run modules known code all
+
+    count : length code ≡ length modules
+    count = as_long modules modules known code 0 all.each
+
+    l_there : slice_get longer (length modules) ≡ Some l
+    l_there = ap (slice_get longer) (sym count) ∙ last_at code l
+
+    -- the module behind others changes nothing of them
+    alike : (n : ℕ) → n < length code → runs_in modules n ≡ runs_with modules n
+    alike n lt = ap (λ b. b || runs_in modules n) (sym other)
+      where
+        other : nat_eq n (length modules) ≡ false
+        other = grind (arith, lt, count)
+
+    import_of : (i : ℕ) (e : Entries) → slice_get l.code.imports.items i ≡ Some e → Imports longer (runs_with modules) l i e
+    import_of i e at =
+        let n = imported_at known (runs_in modules) (homes cs) faces l.code.imports.items i e callable.agree (homes_run cs places callable.each) is_behind.generated.imports at in
+        record {
+          number = n.number;
+          found = ap (λ is. slice_get is i) is_behind.imports ∙ n.found;
+          as_known = as_known_alike code longer (runs_in modules) (runs_with modules) n.number e (kept_at code (l ∷ [])) alike (as_known modules known code all n.number n.k e n.may_run n.at n.of_face);
+        }
+
+    valid : (home : ℕ) (x : LinkedModule) → slice_get longer home ≡ Some x → runs_with modules home ≡ true → IsValid x.code
+    valid home x at ok = by (kept_or_last code l x home at)
+      where
+        by : (slice_get code home ≡ Some x) ⊎ ((home ≡ length code) × (l ≡ x)) → IsValid x.code
+        by (inl h) = may_run.valid home x h (alike home (slice_get_within code home x h) ∙ ok)
+        by (inr h) = subst (λ (y : LinkedModule). IsValid y.code) h.1 (generated_valid faces (commands_tree places) l.code (formed cs places faces callable) is_behind.generated)
+
+    linked : IsLinked longer (runs_with modules)
+    linked = linked_behind code l (runs_in modules) (runs_with modules) alike may_run.linked is_behind.cells import_of
+
+    -- ---- what it does
+
+    import_is : (i : ℕ) → import_number longer (length modules) i ≡ slice_index (homes cs) i
+    import_is i = ap (λ o. slice_index (imports_in o) i) l_there ∙ ap (λ is. slice_index is i) is_behind.imports
+
+    leads : (i place : ℕ) (c : Command) → IsCallable modules c place → slice_index (homes cs) i ≡ c.home → LeadsTo (program_of modules) longer (runs_in modules) (length modules) (OfImport i place) c
+    leads i place c h at =
+        let w = whole_at modules known code all c.home h.may_run in
+        let same : h.m ≡ w.m = some_same h.m w.m (sym h.there ∙ w.there) in
+        let target : import_number longer (length modules) i ≡ c.home = import_is i ∙ at in
+        let exported : slice_get w.l.code.exported.items place ≡ Some c.procedure =
+        ap (λ ps. slice_get ps place) w.compiled.ready.generated.exported ∙ ap (λ (m : Module). slice_get m.tree.exported place) (sym same) ∙ h.exported in
+        record {
+          target = target;
+          number = ap (λ n. exported_number (slice_get longer n) place) target ∙ ap (λ o. exported_number o place) (kept_at code (l ∷ []) c.home w.l w.found) ∙ index_at w.l.code.exported.items place c.procedure exported;
+          may_run = h.may_run;
+          plain = ap (λ o. own_heading (procedure_in o c.procedure)) (loaded_there modules known code all c.home w) ∙ ap (λ (m : Module). own_heading (slice_get m.tree.procedures c.procedure)) (sym same) ∙ h.plain;
+        }
+
+    all_lead : (i : ℕ) (ds : List Command) (qs : List ℕ) → AllCallable modules ds qs → ((n : ℕ) → slice_index (homes cs) (i + n) ≡ slice_index (homes ds) n) → AllLead (program_of modules) longer (runs_in modules) (length modules) (callees_from i qs) ds
+    all_lead i [] [] h at = tt
+    all_lead i [] (q ∷ qs) h at = absurd h
+    all_lead i (d ∷ ds) [] h at = absurd h
+    all_lead i (d ∷ ds) (q ∷ qs) h at =
+        let zero_on : i ≡ i + 0 = omega arith in
+        (leads i q d h.0 (ap (slice_index (homes cs)) zero_on ∙ at 0), all_lead (suc i) ds qs h.1 (λ n. ap (slice_index (homes cs)) (sym (next i n)) ∙ at (suc n)))
+
+    commands_mean : IsCodeOfCommands (program_of modules) longer (runs_in modules) (length modules) cs
+    commands_mean =
+        let names = names_in faces (commands_tree places) in
+        let body = body_compiled faces (commands_tree places) [] l.code.procedures.items is_behind.generated.procedures in
+        record {
+          module_of = l;
+          found = l_there;
+          body = body.0;
+          last = body.1;
+          calls = callees_from 0 places;
+          lines = body.2.lines ∙ append-nil (list_code names (calls_from 0 places)) ∙ calls_code names 0 places;
+          lead = all_lead 0 cs places callable.each (λ n. ap (slice_index (homes cs)) (let e : 0 + n ≡ n = omega arith in e));
+        }
+
+pub commands_form : EachCommandsForm
+commands_form modules known code cs places faces all callable = formed modules known code all cs places faces callable
+
+pub commands_run : EachCommandsMayRun
+commands_run modules known code cs places faces l all callable is_behind =
+    let means = program_behind (program_of modules) code (l ∷ []) (faces_at known) (runs_in modules) (each_may_run modules known code all).means in
+    let is_code = commands_mean modules known code all cs places faces l callable is_behind in
+    record {
+      linked = linked modules known code all cs places faces l callable is_behind;
+      valid = valid modules known code all cs places faces l callable is_behind;
+      modules_mean = means;
+      commands_mean = is_code;
+      does = commands_behave (program_of modules) (code ++ l ∷ []) (faces_at known) (runs_in modules) means (length modules) cs is_code;
+    }

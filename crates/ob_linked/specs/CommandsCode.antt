@@ -1,0 +1,87 @@
+-- Commands as code: a module behind those of a session, whose body calls one after the other.
+use Rattle.std.specs.Prelude.{◌≡◌, ℕ, suc, List, [], ◌∷◌, ◌++◌, length, map, Bool, true, false, ◌||◌, nat_eq, Some, slice_get}
+use Rattle.ob_mean.specs.declared.whole.expression.Callee.TheVariants.{OfImport}
+use Rattle.ob_mean.specs.declared.whole.statement.Action.TheVariants.{Call}
+use Rattle.ob_mean.specs.declared.whole.statement.TypedStatement.{TypedStatement}
+use Rattle.ob_mean.specs.declared.whole.statement.TypedStatement.TheVariants.{Simple}
+use Rattle.ob_mean.specs.declared.whole.face.Face.{Face}
+use Rattle.ob_mean.specs.declared.whole.module.TypedModule.{TypedModule}
+use Rattle.ob_mean.specs.whole.Programs.{Command}
+use Rattle.ob_mean.specs.whole.WellFormed.{IsWellFormed, own_heading}
+use Rattle.ob_code.specs.declared.whole.instr.LinkedModule.{LinkedModule}
+use Rattle.ob_code.specs.whole.Linked.{IsLinked, all_cells}
+use Rattle.ob_code.specs.whole.Machine.{Code}
+use Rattle.ob_code.specs.whole.Valid.{IsValid}
+use Rattle.ob_gen.specs.whole.Commands.{IsCodeOfCommands, CommandsBehave}
+use Rattle.ob_gen.specs.whole.Correct.{IsCodeOfProgram}
+use Rattle.ob_gen.specs.whole.Generated.{IsGenerated}
+use Rattle.ob_session.specs.Session.{Module, program_of}
+use Rattle.ob_linked.specs.Compiled.{Known, runs_in, AreKnown, AreCompiled, faces_at}
+
+-- ---- commands that can be called
+
+-- A module that may run exports the command's procedure at this place. It takes and leaves nothing.
+pub record IsCallable (modules : List Module) (c : Command) (place : ℕ) : Type 0 where
+  pub m : Module
+  pub there : slice_get modules c.home ≡ Some m
+  pub may_run : runs_in modules c.home ≡ true
+  pub exported : slice_get m.tree.exported place ≡ Some c.procedure
+  pub plain : own_heading (slice_get m.tree.procedures c.procedure) ≡ Some (record { parameters = []; is_function = false })
+
+abbrev pub AllCallable : List Module → List Command → List ℕ → Type 0
+AllCallable modules [] [] = Unit {0}
+AllCallable modules [] (place ∷ places) = ⊥
+AllCallable modules (c ∷ cs) [] = ⊥
+AllCallable modules (c ∷ cs) (place ∷ places) = IsCallable modules c place × AllCallable modules cs places
+
+abbrev pub homes : List Command → List ℕ
+homes cs = map (λ (c : Command). c.home) cs
+
+-- commands, the places of their procedures, and what is known of their modules
+pub record AreCallable (modules : List Module) (known : List Known) (cs : List Command) (places : List ℕ) (faces : List Face) : Type 0 where
+  pub each : AllCallable modules cs places
+  pub agree : AreKnown known (homes cs) faces
+
+-- ---- their module
+
+-- a call of each, in an import of its own, from this one on
+abbrev pub calls_from : ℕ → List ℕ → List TypedStatement
+calls_from i [] = []
+calls_from i (place ∷ places) = Simple (Call (OfImport i place) 0 []) ∷ calls_from (suc i) places
+
+-- a module that has nothing but them
+abbrev pub commands_tree : List ℕ → TypedModule
+commands_tree places = record { name = []; variables = []; procedures = []; exported = []; body = calls_from 0 places }
+
+-- its code, over what is known of the commands' modules, behind that of the session's
+pub record IsBehind (code : Code) (cs : List Command) (places : List ℕ) (faces : List Face) (l : LinkedModule) : Type 0 where
+  pub generated : IsGenerated faces (commands_tree places) l.code
+  pub imports : l.imports.items ≡ homes cs
+  pub cells : l.cells ≡ all_cells code
+
+-- ---- what is so of them
+
+-- the compiler takes the module of such commands
+abbrev pub EachCommandsForm : Type 0
+EachCommandsForm =
+    (modules : List Module) (known : List Known) (code : Code) (cs : List Command) (places : List ℕ) (faces : List Face)
+    → AreCompiled modules known code → AreCallable modules known cs places faces → IsWellFormed faces (commands_tree places)
+
+-- modules that may run, and what stands behind them
+abbrev pub runs_with : List Module → ℕ → Bool
+runs_with modules i = nat_eq i (length modules) || runs_in modules i
+
+-- behind the modules' code: all is linked, valid where it may run, that of the modules is still the program's, and this does what
+-- the commands mean
+pub record CommandsMayRun (modules : List Module) (known : List Known) (code : Code) (cs : List Command) (l : LinkedModule) : Type 0 where
+  pub linked : IsLinked (code ++ l ∷ []) (runs_with modules)
+  pub valid : (home : ℕ) (x : LinkedModule) → slice_get (code ++ l ∷ []) home ≡ Some x → runs_with modules home ≡ true → IsValid x.code
+  pub modules_mean : IsCodeOfProgram (program_of modules) (code ++ l ∷ []) (faces_at known) (runs_in modules)
+  pub commands_mean : IsCodeOfCommands (program_of modules) (code ++ l ∷ []) (runs_in modules) (length modules) cs
+  pub does : CommandsBehave (program_of modules) (code ++ l ∷ []) (length modules) cs
+
+abbrev pub EachCommandsMayRun : Type 0
+EachCommandsMayRun =
+    (modules : List Module) (known : List Known) (code : Code) (cs : List Command) (places : List ℕ) (faces : List Face) (l : LinkedModule)
+    → AreCompiled modules known code → AreCallable modules known cs places faces → IsBehind code cs places faces l
+    → CommandsMayRun modules known code cs l
