@@ -1,0 +1,37 @@
+-- What the compiler of a checked module rests on.
+use Rattle.std.specs.Prelude.{◌≡◌, List, [], ◌∷◌, Some}
+use Rattle.ob_parse.specs.declared.tree.Module.{Module}
+use Rattle.ob_mean.specs.declared.whole.face.Face.{Face}
+use Rattle.ob_mean.specs.whole.WellFormed.{IsFaceOf}
+use Rattle.ob_declare.specs.Exports.{Modules}
+use Rattle.ob_declare.specs.Imports.{added}
+use Rattle.ob_declare.specs.LoadedTree.{LoadedTree}
+use Rattle.ob_declare.specs.Rule.{gives}
+use Rattle.ob_check.specs.declared.checked.Imported.{Imported}
+use Rattle.ob_check.specs.CheckedTree.{CheckedTree}
+use Rattle.ob_check.specs.Modules.{module_at}
+use Rattle.ob_fit.specs.Fitting.{face_named, face_of_interface, faces_of, IsFitting}
+use Rattle.ob_fit.specs.Solid.{EachSolid, ExportsSolid}
+
+-- each import has its face: what is known of the loaded module of its name
+abbrev pub AreFacesOf : Modules → List Imported → List Face → Type 0
+AreFacesOf ms [] [] = Unit {0}
+AreFacesOf ms [] (face ∷ faces) = ⊥
+AreFacesOf ms (i ∷ is) [] = ⊥
+AreFacesOf ms (i ∷ is) (face ∷ faces) = (face_named ms i.name ≡ Some face) × AreFacesOf ms is faces
+
+-- A module that can be compiled over what the interfaces of its imports say, and be imported in its turn: each import is loaded,
+-- the tree fits what is known of them, what its own interface says is so of it, and the types that it exports have cells.
+pub record IsCompilable (ms : Modules) (c : CheckedTree) : Type 0 where
+  pub known : AreFacesOf ms c.imports (faces_of ms c.imports)
+  pub fits : IsFitting (faces_of ms c.imports) c.tree
+  pub face : IsFaceOf (face_of_interface c.interface) c.tree
+  pub solid : ExportsSolid c.interface.exports
+
+-- what the static rules give is so, where the types that the loaded modules export have cells
+abbrev pub EachCheckedIsCompilable : Type 0
+EachCheckedIsCompilable = (ms : Modules) (m : Module) (c : CheckedTree) → EachSolid ms → gives (module_at ms m) c → IsCompilable ms c
+
+-- and they have cells after each load of a module whose exported types have
+abbrev pub EachLoadStaysSolid : Type 0
+EachLoadStaysSolid = (ms : Modules) (m : LoadedTree) → EachSolid ms → ExportsSolid m.interface.exports → EachSolid (added ms m)

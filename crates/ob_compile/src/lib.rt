@@ -1,0 +1,20 @@
+//! From a checked module to checked code: what is known of a module by its interface, and the code of a module over what is
+//! known of its imports.
+#![tactic(auto)]
+
+mod copies;
+mod face;
+mod imports;
+mod laws;
+mod module;
+mod room;
+mod same;
+mod shapes;
+
+pub use copies::copy_face;
+pub use face::face_of;
+pub use imports::faces_of;
+pub use laws::{checked_law, load_law};
+pub use module::compile;
+pub use room::has_room;
+pub use same::same_face;

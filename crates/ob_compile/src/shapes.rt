@@ -1,0 +1,74 @@
+//! Types and formal parameters as their values have them. The checker makes them so for its trees, and keeps that to itself.
+
+ghost use Rattle.std.specs.Prelude.{◌≡◌, IfOk};
+ghost use Rattle.ob_check.specs.Shapes as spec;
+
+use ob_base::{Boxed, Items};
+use ob_mean::whole::{Parameter, Shape};
+use ob_types::{Field, Formal, FormalKind, ObType};
+use std::alloc::{AllocError, Global};
+
+/// How a type is made of basic ones, or want of memory.
+#[cycle(shapes)]
+#[tactic(auto, using(ob_check::proofs::ShapeForms::shape_array, ob_check::proofs::ShapeForms::shape_open, ob_check::proofs::ShapeForms::shape_record))]
+pub fn shape_of(alloc: Global, of: &ObType) -> Result<Shape, AllocError>
+    ensures { IfOk result (λ s. s ≡ spec.shape_of of.now) }
+{
+    match of {
+        ObType::Basic(_) => Ok(Shape::Basic),
+        ObType::Array(length, element) => {
+            let element = shape_of(alloc, element.get())?;
+            Ok(Shape::Array(*length, Boxed::new(alloc, element)?))
+        }
+        ObType::Open(element) => {
+            let element = shape_of(alloc, element.get())?;
+            Ok(Shape::Array(1, Boxed::new(alloc, element)?))
+        }
+        ObType::Record(record) => {
+            let fields = shapes_in(alloc, record.fields.as_slice())?;
+            Ok(Shape::Record(fields))
+        }
+    }
+}
+
+#[cycle(shapes)]
+fn shapes_in(alloc: Global, fields: &[Field]) -> Result<Items<Shape>, AllocError>
+    ensures { IfOk result (λ ss. ss ≡ spec.shapes_in fields.now) }
+{
+    let mut shapes = Items::new(alloc);
+    for field in fields {
+        shapes.push(shape_of(alloc, &field.of)?)?;
+    }
+    Ok(shapes)
+}
+
+fn basic_parameter(kind: FormalKind) -> Parameter
+    ensures { result ≡ spec.basic_parameter kind }
+{
+    match kind {
+        FormalKind::Value => Parameter::Value,
+        FormalKind::Variable => Parameter::Place(Shape::Basic),
+    }
+}
+
+#[tactic(auto, using(ob_check::proofs::ShapeForms::parameter_open))]
+fn parameter_of(alloc: Global, kind: FormalKind, of: &ObType) -> Result<Parameter, AllocError>
+    ensures { IfOk result (λ p. p ≡ spec.parameter_of kind of.now) }
+{
+    match of {
+        ObType::Basic(_) => Ok(basic_parameter(kind)),
+        ObType::Open(element) => Ok(Parameter::Open(shape_of(alloc, element.get())?)),
+        _ => Ok(Parameter::Place(shape_of(alloc, of)?)),
+    }
+}
+
+/// What formal parameters are to their procedure, or want of memory.
+pub fn parameters_of(alloc: Global, formals: &[Formal]) -> Result<Items<Parameter>, AllocError>
+    ensures { IfOk result (λ ps. ps ≡ spec.parameters_of formals.now) }
+{
+    let mut parameters = Items::new(alloc);
+    for formal in formals {
+        parameters.push(parameter_of(alloc, formal.kind, &formal.of)?)?;
+    }
+    Ok(parameters)
+}
