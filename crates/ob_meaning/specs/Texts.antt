@@ -1,8 +1,9 @@
 -- The meaning of a cell of the whole language, from its text: it is read by the tokens and the grammar, judged by the static
 -- rules over the modules that are loaded, linked, and run by what its typed tree means (Wirth, The Programming Language Oberon,
 -- Oberon-07; In and Out after the Oakwood Guidelines).
-use Rattle.std.specs.Prelude.{◌≡◌, ℕ, zero, suc, List, [], ◌∷◌, ◌++◌, length, map, Option, Some, None, Result, Ok, Err}
-use Rattle.std.specs.List.{flat_map}
+use Rattle.std.specs.Prelude.{◌≡◌, ℕ, zero, suc, Bool, false, ◌||◌, List, [], ◌∷◌, ◌++◌, length, map, Option, Some, None, Result, Ok, Err, if◌then◌else◌}
+use Rattle.std.specs.List.{list_any}
+use Rattle.std.specs.Str.{bytes_eq}
 use Rattle.ob_base.specs.declared.fault.Code.{Code}
 use Rattle.ob_inout.specs.Reading.{Line}
 use Rattle.ob_parse.specs.declared.tree.Cell.{Cell}
@@ -20,21 +21,26 @@ use Rattle.ob_session.specs.Laws.{IsLawful, IsFed}
 
 -- ---- the modules that are loaded, as the static rules see them
 
-abbrev pub behind : Option Module → (Import → List (List ℕ)) → List (List ℕ)
-behind None reached = []
-behind (Some m) reached = flat_map reached m.imports
+-- one of the imports of what is found
+abbrev pub any_behind : Option Module → (Import → Bool) → Bool
+any_behind None reaches = false
+any_behind (Some m) reaches = list_any reaches m.imports
 
--- an import, and what is reached through it by chains of so many imports more
-abbrev pub reached_from : List Module → ℕ → Import → List (List ℕ)
-reached_from modules zero i = i.name ∷ []
-reached_from modules (suc most) i = i.name ∷ behind (find_module modules i.name) (reached_from modules most)
+-- whether an import is of this name, or reaches it through chains of so many imports more
+abbrev pub reaches : List Module → ℕ → List ℕ → Import → Bool
+reaches modules zero name i = bytes_eq i.name name
+reaches modules (suc most) name i = bytes_eq i.name name || any_behind (find_module modules i.name) (reaches modules most name)
 
--- a chain that goes through no module twice has no more imports than there are modules
-abbrev pub loaded_as : List Module → Module → LoadedTree
-loaded_as modules m = record { interface = m.interface; reached = flat_map (reached_from modules (length modules)) m.imports }
+-- whether an import of a module does; a chain that goes through no module twice has no more imports than there are modules
+abbrev pub reached_by : List Module → List ℕ → Module → Bool
+reached_by modules name m = list_any (reaches modules (length modules) name) m.imports
 
-abbrev pub loaded : Session → List LoadedTree
-loaded s = map (loaded_as s.modules) s.modules
+-- The rules for a module of this name ask of what others reach nothing but whether that is among it.
+abbrev pub loaded_as : List Module → List ℕ → Module → LoadedTree
+loaded_as modules name m = record { interface = m.interface; reached = if reached_by modules name m then name ∷ [] else [] }
+
+abbrev pub loaded : Session → List ℕ → List LoadedTree
+loaded s name = map (loaded_as s.modules name) s.modules
 
 -- ---- a cell that keeps the static rules
 
@@ -48,7 +54,7 @@ abbrev pub command_of : Command → CommandName
 command_of c = record { home = c.module_name.name; name = c.procedure.name }
 
 abbrev pub cell_rule : Session → Cell → Rule Checked
-cell_rule s (cells.Module m) = Then (module_at (loaded s) m) (λ c. Given (OfModule (module_of c)))
+cell_rule s (cells.Module m) = Then (module_at (loaded s m.name.name) m) (λ c. Given (OfModule (module_of c)))
 cell_rule s (cells.Commands cs) = Given (OfCommands (map command_of cs))
 
 abbrev pub checked_by : Result Checked Code → Option Checked
