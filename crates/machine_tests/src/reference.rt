@@ -1,20 +1,22 @@
-//! Programs made by hand, run anew with each number of turns from none to more than they need. What each run comes to was
-//! worked out by hand.
+//! Programs made by hand, run anew with each number of turns from none to more than they need, by the plain evaluator and, as
+//! compiled code, by the machine. What each run comes to was worked out by hand.
 
 mod calls;
 mod input;
 mod loops;
 mod operators;
+mod structures;
 mod traps;
 mod trees;
 mod values;
 
-use ob_mean::whole::{Loaded, Outcome, TrapKind, TurnKind};
+use crate::compiled;
+use ob_mean::whole::{Face, Loaded, Outcome, TrapKind, TurnKind};
 use ob_reference::{GivenLine, NoAnswer, Ran, Reference};
 use std::alloc::{AllocError, Global};
 
 /// Why a run stands, what it has written, and the turns that are left.
-type Seen<'a> = (Outcome, &'a str, u64);
+pub(crate) type Seen<'a> = (Outcome, &'a str, u64);
 
 const ENDED: Outcome = Outcome::Ended;
 
@@ -90,6 +92,23 @@ fn first_wrong(
     Ok(None)
 }
 
+/// The same of a program, of which the last module's body runs, by the machine and then by the evaluator. A module that
+/// imports others knows these of them.
+fn wrong_last(
+    alloc: Global,
+    program: Vec<Loaded>,
+    known: &[Face],
+    lines: &[&str],
+    said: &[Seen<'_>],
+) -> Result<Option<usize>, NoAnswer> {
+    let home = program.len().saturating_sub(1);
+    if let Some(turns) = compiled::first_wrong(alloc, &program, known, lines, said)? {
+        return Ok(Some(turns));
+    }
+    let reference = Reference::new(alloc, program)?;
+    first_wrong(alloc, &reference, home, lines, said)
+}
+
 /// The same of a program of one module.
 fn wrong_alone(
     alloc: Global,
@@ -97,6 +116,5 @@ fn wrong_alone(
     lines: &[&str],
     said: &[Seen<'_>],
 ) -> Result<Option<usize>, NoAnswer> {
-    let reference = loaded(alloc, alone(alloc, module))?;
-    first_wrong(alloc, &reference, 0, lines, said)
+    wrong_last(alloc, alone(alloc, module)?, &[], lines, said)
 }

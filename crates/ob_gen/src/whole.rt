@@ -11,4 +11,4 @@ mod statement;
 mod table;
 
 pub use laws::{body_law, commands_law};
-pub use module::generate;
+pub use module::{generate, module_code};

@@ -6,11 +6,13 @@ use super::trees::{
     open, out_int, out_text, procedure, read, text, two, unit, with,
 };
 use super::{
-    AT_CALL, AT_OUTPUT, ENDED, Seen, alone, both, first_wrong, loaded, trapped, wrong_alone,
+    AT_CALL, AT_OUTPUT, ENDED, Seen, alone, both, loaded, trapped, wrong_alone, wrong_last,
 };
+use crate::compiled;
+use ob_base::Items;
 use ob_mean::whole::{
-    Callee, Loaded, Operator, Outcome, Parameter, Relation, Shape, TrapKind, TurnKind, TypedExpr,
-    TypedProcedure,
+    Callee, Face, Heading, Loaded, Operator, Outcome, Parameter, Relation, Shape, TrapKind,
+    TurnKind, TypedExpr, TypedProcedure,
 };
 use ob_reference::{Command, NoAnswer, Reference};
 use std::alloc::{AllocError, Global};
@@ -223,6 +225,31 @@ fn a_thousand_calls_are_open_at_most(rt: HostRuntime) {
     );
 }
 
+/// Whether the machine comes to what is said with so many turns.
+fn comes_to(
+    alloc: Global,
+    module: Result<Loaded, AllocError>,
+    turns: u64,
+    said: Seen<'_>,
+) -> Result<bool, NoAnswer> {
+    let program = alone(alloc, module)?;
+    compiled::comes_to(alloc, &program, &[], &[], turns, said)
+}
+
+#[test]
+fn a_thousand_calls_are_open_at_most_in_the_machine(rt: HostRuntime) {
+    let alloc = rt.alloc();
+    let over = trapped(TrapKind::CallDepth, 7);
+    assert_eq!(rt;
+        comes_to(alloc, bottomless(alloc), 1_000, (over, "", 0)),
+        Ok(true)
+    );
+    assert_eq!(rt;
+        comes_to(alloc, bottomless(alloc), 999, (AT_CALL, "", 0)),
+        Ok(true)
+    );
+}
+
 /// A module with a variable v and PROCEDURE Inc; BEGIN INC(v) END Inc.
 fn counter(alloc: Global) -> Result<Loaded, AllocError> {
     let body = one(alloc, increase(global(0), constant(1)));
@@ -240,14 +267,26 @@ fn client(alloc: Global) -> Result<Loaded, AllocError> {
     importing(alloc, one(alloc, Ok(0)), none(alloc), none(alloc), body)
 }
 
+/// What importing modules know of the counter.
+fn face(alloc: Global) -> Result<Face, AllocError> {
+    let heading = Heading {
+        parameters: Items::new(alloc),
+        is_function: false,
+    };
+    Ok(Face {
+        variables: one(alloc, Ok(Shape::Basic))?,
+        procedures: one(alloc, Ok(heading))?,
+    })
+}
+
 /// The first wrong number of turns of the second of two modules.
 fn wrong_second(
     alloc: Global,
     program: Result<Vec<Loaded>, AllocError>,
     said: &[Seen<'_>],
 ) -> Result<Option<usize>, NoAnswer> {
-    let reference = loaded(alloc, program)?;
-    first_wrong(alloc, &reference, 1, &[], said)
+    let known = [face(alloc)?];
+    wrong_last(alloc, program?, &known, &[], said)
 }
 
 #[test]

@@ -74,6 +74,15 @@ pub(crate) fn element(
     Ok(Designator::Element(array, line, index))
 }
 
+/// A field of a record.
+pub(crate) fn field(
+    alloc: Global,
+    record: Result<Designator, AllocError>,
+    number: usize,
+) -> Result<Designator, AllocError> {
+    Ok(Designator::Field(Boxed::new(alloc, record?)?, number))
+}
+
 // ---- expressions
 
 /// A number, a truth value or a character.
@@ -186,6 +195,21 @@ pub(crate) fn assign_text(
 ) -> Result<TypedStatement, AllocError> {
     let text = Text::from_slice(alloc, text.as_bytes())?;
     simple(Ok(Action::AssignText(d?, line, text)))
+}
+
+/// A structured value for a variable.
+pub(crate) fn copy(
+    d: Result<Designator, AllocError>,
+    from: Result<Designator, AllocError>,
+) -> Result<TypedStatement, AllocError> {
+    simple(copying(d, from))
+}
+
+fn copying(
+    d: Result<Designator, AllocError>,
+    from: Result<Designator, AllocError>,
+) -> Result<Action, AllocError> {
+    Ok(Action::Copy(d?, from?))
 }
 
 /// INC by a number.
@@ -365,6 +389,17 @@ pub(crate) fn basic() -> Result<ModuleVariable, AllocError> {
 pub(crate) fn array(alloc: Global, length: u32) -> Result<ModuleVariable, AllocError> {
     let element = Boxed::new(alloc, Shape::Basic)?;
     Ok(ModuleVariable::Declared(Shape::Array(length, element)))
+}
+
+/// An array of so many values of basic type.
+fn row(alloc: Global, length: u32) -> Result<Shape, AllocError> {
+    Ok(Shape::Array(length, Boxed::new(alloc, Shape::Basic)?))
+}
+
+/// A record of a value of basic type and of an array of so many.
+pub(crate) fn record(alloc: Global, length: u32) -> Result<ModuleVariable, AllocError> {
+    let fields = two(alloc, Ok(Shape::Basic), row(alloc, length))?;
+    Ok(ModuleVariable::Declared(Shape::Record(fields)))
 }
 
 /// A string, with 0X behind it.

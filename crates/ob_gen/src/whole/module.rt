@@ -71,8 +71,17 @@ pub fn generate(alloc: Global, faces: &[Face], tree: &TypedModule) -> Result<Che
     Ok(Checked::new(code))
 }
 
-// The code of a module, whether it is well formed or not.
-fn module_code(alloc: Global, faces: &[Face], tree: &TypedModule) -> Result<CodeModule, AllocError>
+/// The code of a module, whether it is well formed or not: `generate` says of a well-formed one that it is valid, and any
+/// other code is to be validated before it is linked.
+///
+/// # Errors
+///
+/// Those of `generate`.
+pub fn module_code(
+    alloc: Global,
+    faces: &[Face],
+    tree: &TypedModule,
+) -> Result<CodeModule, AllocError>
     ensures { IfOk result (IsGenerated faces.now tree.now) }
 {
     let faces_at = face_tables(alloc, faces)?;
