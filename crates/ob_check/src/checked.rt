@@ -70,4 +70,13 @@ impl Checked {
     {
         self.imports.as_slice()
     }
+
+    /// The typed tree, what the module shows to others, and the imported modules in the order of the imports.
+    pub fn into_parts(self) -> (TypedModule, Interface, Items<Imported>)
+        ensures tree { result.0 ≡ self.tree }
+        ensures interface { result.1 ≡ self.interface }
+        ensures imports { result.2 ≡ self.imports }
+    {
+        (self.tree, self.interface, self.imports)
+    }
 }

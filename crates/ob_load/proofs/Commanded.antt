@@ -1,0 +1,140 @@
+-- The machine of commands, before its first turn.
+use Rattle.std.proofs.Common.{◌≡◌, ℕ, ◌+◌, ◌<◌, ℤ, Bool, true, false, List, [], ◌∷◌, ◌++◌, length, take, sym, ap, ◌∙◌, subst, arith, length-append, Vec, Global}
+use Rattle.std.specs.Prelude.{◌||◌, nat_eq, slice_get}
+use Rattle.std.proofs.lemmas.List.{length-map, take_at}
+use mathlib.Core.Path.{fun_ext}
+use Rattle.ob_inout.specs.Reading.{opened}
+use Rattle.ob_mean.specs.whole.Programs.{Command}
+use Rattle.ob_mean.specs.whole.Runs.{supply}
+use Rattle.ob_code.specs.declared.whole.instr.CodeModule.{CodeModule}
+use Rattle.ob_code.specs.declared.whole.instr.LinkedModule.{LinkedModule}
+use Rattle.ob_code.specs.whole.Linked.{all_cells, runs_of, IsLinked}
+use Rattle.ob_code.specs.whole.Machine.{Code, Going, start, picture}
+use Rattle.ob_code.proofs.machine.Runs.{stays}
+use Rattle.ob_gen.specs.whole.Correct.{Follows}
+use Rattle.ob_gen.specs.whole.Generated.{IsGenerated}
+use Rattle.ob_gen.proofs.machine.Places.{some_same}
+use Rattle.ob_vm.specs.whole.Images as vm
+use Rattle.ob_session.specs.Session.{Module, program_of}
+use Rattle.ob_link.specs.Runs.{may_run}
+use Rattle.ob_store.specs.Stores.{store_of, AreCellsOf}
+use Rattle.ob_store.proofs.Runs.{each_may_begin}
+use Rattle.ob_linked.specs.Compiled.{Known, AreCompiled, runs_in}
+use Rattle.ob_linked.specs.CommandsCode.{CommandsMayRun, IsBehind, commands_tree, runs_with}
+use Rattle.ob_linked.proofs.Behind.{last_at}
+use Rattle.ob_linked.proofs.Commands.{commands_run}
+use Rattle.ob_linked.proofs.Imports.{flags_run, flags_run_with}
+use Rattle.ob_linked.proofs.Sides.{as_long}
+use Rattle.ob_load.specs.Commanded.{AreReady}
+use Rattle.ob_load.specs.declared.commands.Calls.{Calls}
+use Rattle.ob_load.specs.declared.task.Task.{Task}
+use Rattle.ob_load.specs.declared.task.Task.TheVariants.{Commands}
+use Rattle.ob_load.specs.Kept.{IsKept, IsHeld, IsRunning, opens}
+use Rattle.ob_load.specs.Tasks.{task_meaning, home_of}
+use Rattle.ob_load.proofs.Finished.{sized_as}
+use Rattle.ob_load.proofs.Machines.{begun, stands_now}
+
+-- the same of equal lists
+pub ready_for : (modules : List Module) (ks known : List Known) (xs cells : List ℤ) (ds cs : List Command) (c : Calls) → ks ≡ known → xs ≡ cells → ds ≡ cs → AreReady modules ks xs ds c → AreReady modules known cells cs c
+ready_for modules ks known xs cells ds cs c e f g r =
+    subst (λ (k : List Known). AreReady modules k cells cs c) e
+    (subst (λ (x : List ℤ). AreReady modules ks x cs c) f (subst (λ (d : List Command). AreReady modules ks xs d c) g r))
+
+-- an image of equal parts
+pub image_of : (code other : Code) (flags : List Bool) (xs cells : List ℤ) → code ≡ other → xs ≡ cells → (let a : vm.ImageState = record { code = code; may_run = flags; cells = xs } in a) ≡ record { code = other; may_run = flags; cells = cells }
+image_of code other flags xs cells e f =
+    ap (λ (x : Code). let a : vm.ImageState = record { code = x; may_run = flags; cells = xs } in a) e
+    ∙ ap (λ (x : List ℤ). let a : vm.ImageState = record { code = other; may_run = flags; cells = x } in a) f
+
+cells_behind : (code : Code) (l : LinkedModule) → all_cells (code ++ l ∷ []) ≡ all_cells code + l.code.cells
+cells_behind [] l = omega arith
+cells_behind (x ∷ code) l = let rest = cells_behind code l in omega (arith, rest)
+
+module _ (modules : List Module) (known : List Known) (i : vm.ImageState) (h : IsKept modules known i) (v : Vec Command Global) (c : Calls) (r : AreReady modules known i.cells v.items c) (l : LinkedModule) (code_is : l.code ≡ c.code) (imports_are : l.imports.items ≡ c.imports.items) (first_is : l.cells ≡ length i.cells) where
+  abbrev pub longer : Code
+  longer = i.code ++ l ∷ []
+
+  abbrev pub now : vm.ImageState
+  now = record { code = longer; may_run = c.runs.items; cells = i.cells }
+
+  behind_is : IsBehind i.code v.items r.calls.places r.calls.faces l
+  behind_is = record {
+    generated = subst (λ (x : CodeModule). IsGenerated r.calls.faces (commands_tree r.calls.places) x) (sym code_is) r.calls.generated;
+    imports = imports_are ∙ r.imports;
+    cells = first_is ∙ h.cells;
+  }
+
+  law : CommandsMayRun modules known i.code v.items l
+  law = commands_run modules known i.code v.items r.calls.places r.calls.faces l h.compiled r.calls.callable behind_is
+
+  count : length i.code ≡ length modules
+  count = as_long modules modules known i.code 0 h.compiled.each
+
+  -- ---- which modules may run
+
+  runs_say : (n : ℕ) → runs_of c.runs.items n ≡ runs_with modules n
+  runs_say n = ap (λ fs. runs_of fs n) r.runs ∙ flags_run_with modules (may_run modules) (length-map modules _) (flags_run modules) n
+
+  others : (n : ℕ) → n < length modules → runs_with modules n ≡ runs_in modules n
+  others n lt = ap (λ b. b || runs_in modules n) (let e : nat_eq n (length modules) ≡ false = grind (arith, lt) in e)
+
+  last_one : runs_with modules (length modules) ≡ true
+  last_one = ap (λ b. b || runs_in modules (length modules)) (let e : nat_eq (length modules) (length modules) ≡ true = grind arith in e)
+
+  -- ---- the image
+
+  pub linked_now : IsLinked longer (runs_of c.runs.items)
+  linked_now = subst (λ (f : ℕ → Bool). IsLinked longer f) (sym (fun_ext runs_say)) law.linked
+
+  pub valid_now : vm.AreValid longer (runs_of c.runs.items)
+  valid_now = subst (λ (f : ℕ → Bool). vm.AreValid longer f) (sym (fun_ext runs_say)) law.valid
+
+  as_many : all_cells longer ≡ all_cells i.code
+  as_many = let more = cells_behind i.code l in let none : l.code.cells ≡ 0 = behind_is.generated.cells in omega (arith, more, none)
+
+  pub many_now : length i.cells ≡ all_cells longer
+  many_now = h.cells ∙ sym as_many
+
+  alone : take (length modules) longer ≡ i.code
+  alone = take_at i.code (l ∷ []) (length modules) count
+
+  pub held_now : IsHeld modules known now
+  held_now = record {
+    compiled = subst (λ (x : Code). AreCompiled modules known x) (sym alone) h.compiled;
+    runs = λ n lt. runs_say n ∙ others n lt;
+    sized = as_many ∙ ap all_cells (sym alone);
+    solid = h.solid;
+  }
+
+  module _ (behind : ℕ) (there : behind ≡ length i.code) where
+    pub can_run : vm.CanRun now behind
+    can_run = (
+      let more = length-append i.code (l ∷ []) in omega (arith, more, there),
+      ap (runs_of c.runs.items) (there ∙ count) ∙ runs_say (length modules) ∙ last_one,
+    )
+
+    pub room_now : vm.IsRoomIn now behind c.room
+    room_now x e =
+        let same : l ≡ x = some_same l x (sym (ap (slice_get longer) there ∙ last_at i.code l) ∙ e) in
+        subst (λ (y : LinkedModule). vm.IsRoomFor y.code c.room) same (subst (λ (m : CodeModule). vm.IsRoomFor m c.room) (sym code_is) r.room)
+
+    -- ---- the machine
+
+    abbrev task : Task
+    task = Commands v
+
+    follows : Follows (program_of modules) longer (task_meaning (program_of modules) task) (λ w. start longer (home_of modules task) (picture w))
+    follows = law.does
+
+    fits_now : AreCellsOf modules i.cells
+    fits_now = h.cells ∙ sized_as modules known i.code h.compiled
+
+    pub runs_now : (run : vm.MachineState) → vm.IsOf now run → vm.machine_config now run ≡ start longer behind (record { cells = i.cells; written = []; input = opened }) → run.used ≡ 0 → IsRunning modules (store_of modules c.opening.items) (Commands v) now run 0 false c.names.items
+    runs_now run fits at none =
+        let store = store_of modules i.cells in
+        let may = each_may_begin modules i.cells fits_now in
+        let place : behind ≡ length modules = there ∙ count in
+        let silent = (stands_now modules store task now follows may.may 0 _ (stays longer (Going (supply 0 []) (opens modules store task now)))).0 in
+        let begins = at ∙ ap (λ n. start longer n (record { cells = i.cells; written = []; input = opened })) place ∙ ap (start longer (length modules)) (sym may.pictured) in
+        subst (λ xs. IsRunning modules (store_of modules xs) task now run 0 false c.names.items) (sym r.opening)
+        (begun modules store task now run c.names.items fits follows may.may silent begins none r.names)

@@ -1,0 +1,5 @@
+pub mod Machines
+pub mod Finished
+pub mod Loaded
+pub mod Called
+pub mod Commanded

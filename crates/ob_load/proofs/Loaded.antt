@@ -1,0 +1,271 @@
+-- A module that is loaded, and the machine of its body.
+use Rattle.std.proofs.Common.{◌≡◌, ◌⊎◌, inl, inr, ℕ, zero, suc, ◌+◌, ◌≤◌, ◌<◌, ℤ, Bool, true, false, if◌then◌else◌, List, [], ◌∷◌, length, take, Option, Some, None, refl, sym, ap, ◌∙◌, subst, arith}
+use Rattle.std.specs.Prelude.{slice_get}
+use Rattle.std.specs.Str.{bytes_eq}
+use Rattle.ob_mean.specs.whole.Values.{before, item, size}
+use Rattle.ob_mean.specs.whole.Runs.{supply}
+use Rattle.ob_mean.specs.whole.WellFormed.{IsFaceOf, IsWellFormed}
+use Rattle.ob_mean.specs.whole.Programs.{opening_store, world_before}
+use Rattle.ob_code.specs.declared.whole.instr.CodeModule.{CodeModule}
+use Rattle.ob_code.specs.declared.whole.instr.LinkedModule.{LinkedModule}
+use Rattle.ob_code.specs.whole.Linked.{all_cells}
+use Rattle.ob_code.specs.whole.Machine.{Code, Config, Going, start}
+use Rattle.ob_code.proofs.machine.Runs.{stays}
+use Rattle.ob_gen.specs.whole.Generated.{IsGenerated}
+use Rattle.ob_gen.proofs.machine.Behaves.{body_behaves}
+use Rattle.ob_gen.proofs.machine.Store.{before-within}
+use Rattle.ob_vm.specs.whole.Images as vm
+use Rattle.ob_fit.specs.Solid.{ExportsSolid}
+use Rattle.ob_session.specs.Session.{Module, name_of, place_of, with_module, installed, program_of}
+use Rattle.ob_store.specs.Stores.{store_of, loaded_cells, session_of}
+use Rattle.ob_store.proofs.Loading.{each_loads_cells}
+use Rattle.ob_store.proofs.Runs.{each_may_begin}
+use Rattle.ob_image.proofs.Counted.{compiled_counts}
+use Rattle.ob_linked.specs.Compiled.{Known, AreCompiledFrom, AllFound, AreCompiled, IsReady, faces_at, runs_in, put_at, laid}
+use Rattle.ob_linked.proofs.Imports.{running_at}
+use Rattle.ob_linked.proofs.Loads.{code_loads}
+use Rattle.ob_linked.proofs.MayRun.{each_may_run}
+use Rattle.ob_load.specs.declared.body.Beginning.{Beginning}
+use Rattle.ob_load.specs.declared.loading.Loaded.{Loaded}
+use Rattle.ob_load.specs.declared.loading.Prepared.{Prepared}
+use Rattle.ob_load.specs.declared.task.Task.TheVariants.{Body}
+use Rattle.ob_load.specs.Kept.{AllSolid, IsHeld, IsRunning, opens}
+use Rattle.ob_load.specs.Loading.{IsPrepared, HasLoaded, MayBegin, put_back_at}
+use Rattle.ob_load.proofs.Machines.{begun, stands_now}
+use Rattle.ob_load.proofs.Finished.{sized_as}
+
+-- ---- lists that are put somewhere
+
+back_behind : {A : Type 0} (x : A) (zs : List A) (n : ℕ) (o : Option A) → put_back_at (x ∷ zs) (suc n) o ≡ x ∷ put_back_at zs n o
+back_behind x zs n None = refl
+back_behind x zs n (Some y) = refl
+
+pub back_again : {A : Type 0} (xs : List A) (n : ℕ) (y : A) → n ≤ length xs → put_back_at (put_at xs n y) n (slice_get xs n) ≡ xs
+back_again [] zero y le = refl
+back_again [] (suc n) y le = absurd (omega (arith, le))
+back_again (x ∷ xs) zero y le = refl
+back_again (x ∷ xs) (suc n) y le = back_behind x (put_at xs n y) n (slice_get xs n) ∙ ap (λ zs. x ∷ zs) (back_again xs n y (omega (arith, le)))
+
+pub below_put : {A : Type 0} (xs : List A) (n : ℕ) (y : A) → n ≤ length xs → n < length (put_at xs n y)
+below_put [] zero y le = omega arith
+below_put [] (suc n) y le = absurd (omega (arith, le))
+below_put (x ∷ xs) zero y le = omega arith
+below_put (x ∷ xs) (suc n) y le = let h = below_put xs n y (omega (arith, le)) in omega (arith, h)
+
+within_step : (b : Bool) (p n : ℕ) → p ≤ n → (if b then zero else suc p) ≤ suc n
+within_step true p n le = omega arith
+within_step false p n le = omega (arith, le)
+
+pub place_within : (ms : List Module) (name : List ℕ) → place_of ms name ≤ length ms
+place_within [] name = omega arith
+place_within (m ∷ ms) name = within_step (bytes_eq (name_of m) name) (place_of ms name) (length ms) (place_within ms name)
+
+-- a place among modules is one in what is known of them
+pub within_known : (ms : List Module) (name : List ℕ) (ks kept : List Known) (n : ℕ) → length ks ≡ length ms → kept ≡ ks → n ≡ place_of ms name → n ≤ length kept
+within_known ms name ks kept n sides same at =
+    let many = ap (λ (xs : List Known). length xs) same in
+    let within = place_within ms name in
+    omega (arith, sides, many, within, at)
+
+take_all : {A : Type 0} (xs : List A) → take (length xs) xs ≡ xs
+take_all [] = refl
+take_all (x ∷ xs) = ap (λ ys. x ∷ ys) (take_all xs)
+
+is_some : {A : Type 0} (x y : A) → Some x ≡ Some y → x ≡ y
+is_some x y e = cc
+
+some_within : {A : Type 0} (xs : List A) (n : ℕ) (x : A) → slice_get xs n ≡ Some x → n < length xs
+some_within [] n x e = absurd (let f : None ≡ Some x = e in cc)
+some_within (y ∷ ys) zero x e = omega arith
+some_within (y ∷ ys) (suc n) x e = let h = some_within ys n x e in omega (arith, h)
+
+-- ---- modules, what is known of them, and their code
+
+pub known_many : (all ms : List Module) (ks : List Known) (ls : Code) (first : ℕ) → AreCompiledFrom all ms ks ls first → length ks ≡ length ms
+known_many all [] [] [] first h = refl
+known_many all [] [] (l ∷ ls) first h = absurd h
+known_many all [] (k ∷ ks) ls first h = absurd h
+known_many all (m ∷ ms) [] ls first h = absurd h
+known_many all (m ∷ ms) (k ∷ ks) [] first h = absurd h
+known_many all (m ∷ ms) (k ∷ ks) (l ∷ ls) first h = ap suc (known_many all ms ks ls _ h.1)
+
+pub code_many : (all ms : List Module) (ks : List Known) (ls : Code) (first : ℕ) → AreCompiledFrom all ms ks ls first → length ls ≡ length ms
+code_many all [] [] [] first h = refl
+code_many all [] [] (l ∷ ls) first h = absurd h
+code_many all [] (k ∷ ks) ls first h = absurd h
+code_many all (m ∷ ms) [] ls first h = absurd h
+code_many all (m ∷ ms) (k ∷ ks) [] first h = absurd h
+code_many all (m ∷ ms) (k ∷ ks) (l ∷ ls) first h = ap suc (code_many all ms ks ls _ h.1)
+
+-- a module's cells end where all do, or before
+pub ends_within : (modules : List Module) (known : List Known) (code : Code) (number behind cells : ℕ) → AreCompiledFrom modules modules known code 0 → behind ≡ before (opening_store (program_of modules)) number + size (item (opening_store (program_of modules)) number) → cells ≡ all_cells code → behind ≤ cells
+ends_within modules known code number behind cells h e many =
+    let all = (compiled_counts modules known code h).all in
+    let within = before-within (opening_store (program_of modules)) number in
+    omega (arith, e, many, all, within)
+
+-- laying code moves its cells alone
+laid_cells : (from : ℕ) (code : Code) → all_cells (laid from code) ≡ all_cells code
+laid_cells from [] = refl
+laid_cells from (l ∷ ls) = ap (λ n. l.code.cells + n) (laid_cells (from + l.code.cells) ls)
+
+-- the code that was put somewhere stands there once all is laid
+pub code_put : (from : ℕ) (xs : Code) (n : ℕ) (l x : LinkedModule) → n ≤ length xs → slice_get (laid from (put_at xs n l)) n ≡ Some x → l.code ≡ x.code
+code_put from [] zero l x le e = ap (λ (y : LinkedModule). y.code) (is_some _ x e)
+code_put from [] (suc n) l x le e = absurd (omega (arith, le))
+code_put from (y ∷ xs) zero l x le e = ap (λ (z : LinkedModule). z.code) (is_some _ x e)
+code_put from (y ∷ xs) (suc n) l x le e = code_put (from + y.code.cells) xs n l x (omega (arith, le)) e
+
+-- ---- exported types
+
+abbrev Either : List Module → Module → Module → Type 0
+Either ms m x = (x ≡ m) ⊎ ((j : ℕ) × (slice_get ms j ≡ Some x))
+
+later : (y : Module) (ys : List Module) (m x : Module) → Either ys m x → Either (y ∷ ys) m x
+later y ys m x h =
+    elim h as (λ _. Either (y ∷ ys) m x) [
+      | inl p ↦ inl p
+      | inr p ↦ inr (suc p.0, p.1)
+    ]
+
+one_by : (b : Bool) (y : Module) (ys : List Module) (m : Module) (n : ℕ) (x : Module) → ((k : ℕ) → slice_get (with_module ys m) k ≡ Some x → Either ys m x) → slice_get (if b then m ∷ ys else y ∷ with_module ys m) n ≡ Some x → Either (y ∷ ys) m x
+one_by true y ys m zero x rest e = inl (sym (is_some m x e))
+one_by true y ys m (suc n) x rest e = inr (suc n, e)
+one_by false y ys m zero x rest e = inr (zero, e)
+one_by false y ys m (suc n) x rest e = later y ys m x (rest n e)
+
+one_of : (ms : List Module) (m : Module) (n : ℕ) (x : Module) → slice_get (with_module ms m) n ≡ Some x → Either ms m x
+one_of [] m zero x e = inl (sym (is_some m x e))
+one_of [] m (suc n) x e = absurd (let f : None ≡ Some x = e in cc)
+one_of (y ∷ ys) m n x e = one_by (bytes_eq (name_of y) (name_of m)) y ys m n x (λ k f. one_of ys m k x f) e
+
+pub all_solid : (ms : List Module) (m : Module) → AllSolid ms → ExportsSolid m.interface.exports → AllSolid (with_module ms m)
+all_solid ms m h s n x e =
+    elim (one_of ms m n x e) as (λ _. ExportsSolid x.interface.exports) [
+      | inl p ↦ subst (λ (y : Module). ExportsSolid y.interface.exports) (sym p) s
+      | inr p ↦ h p.0 x p.1
+    ]
+
+-- ---- a module that is loaded
+
+pub store_is : (modules : List Module) (known : List Known) (code : Code) (m : Module) (cells : List ℤ) → AreCompiledFrom modules modules known code 0 → length cells ≡ all_cells code → (installed (session_of modules cells) m).store ≡ store_of (with_module modules m) (loaded_cells modules m cells)
+store_is modules known code m cells h many = (each_loads_cells modules m cells (many ∙ (compiled_counts modules known code h).all)).store
+
+pub is_ready : (modules : List Module) (m : Module) (k : Known) (cells : List ℤ) (code : CodeModule) (p : Prepared) → IsWellFormed k.faces m.tree → IsGenerated k.faces m.tree code → IsFaceOf k.face m.tree → AllFound modules m.imports → IsPrepared modules cells m code p → IsReady modules m k (record { code = code; imports = p.imports; cells = 0 })
+is_ready modules m k cells code p formed generated face found prepared = record { formed = formed; generated = generated; face = face; found = found; imports = prepared.imports }
+
+module _ (modules : List Module) (m : Module) (known : List Known) (k : Known) (code : Code) (l : LinkedModule) (h : AreCompiledFrom modules modules known code 0) (ready : IsReady modules m k l) where
+  abbrev pub place : ℕ
+  place = place_of modules (name_of m)
+
+  abbrev pub new_modules : List Module
+  new_modules = with_module modules m
+
+  abbrev pub new_known : List Known
+  new_known = put_at known place k
+
+  abbrev pub new_code : Code
+  new_code = laid 0 (put_at code place l)
+
+  each_now : AreCompiledFrom new_modules new_modules new_known new_code 0
+  each_now = code_loads modules m known k code l h ready
+
+  pub there : place ≤ length code
+  there = let e = code_many modules modules known code 0 h in let le = place_within modules (name_of m) in omega (arith, e, le)
+
+  room_there : (room : vm.RoomState) → vm.IsRoomFor l.code room → (x : LinkedModule) → slice_get new_code place ≡ Some x → vm.IsRoomFor x.code room
+  room_there room fits x e = subst (λ (c : CodeModule). vm.IsRoomFor c room) (code_put 0 code place l x there e) fits
+
+  module _ (cells : List ℤ) (many : length cells ≡ all_cells code) (p : Prepared) (prepared : IsPrepared modules cells m l.code p) where
+    many_now : length p.cells.items ≡ all_cells new_code
+    many_now =
+        ap length prepared.row ∙ (each_loads_cells modules m cells (many ∙ (compiled_counts modules known code h).all)).fits
+        ∙ sym (compiled_counts new_modules new_known new_code each_now).all
+
+    -- there are as many cells as the code with the module's own has
+    pub many_put : (n : ℕ) (kept put : Code) → n ≡ place → kept ≡ code → put ≡ put_at kept n l → all_cells put ≡ length p.cells.items
+    many_put n kept put at same e =
+        ap all_cells (e ∙ ap (λ (c : Code). put_at c n l) same ∙ ap (λ i. put_at code i l) at) ∙ sym (laid_cells 0 (put_at code place l)) ∙ sym many_now
+
+    module _ (loaded : Loaded) where
+      abbrev pub beginning : ℕ → Beginning
+      beginning n = record { number = n; runs = loaded.runs; names = loaded.names; cells = p.cells; opening = p.opening; room = p.room }
+
+      begins_there : HasLoaded new_modules new_known place loaded → MayBegin new_modules new_known new_code (beginning place)
+      begins_there is = record {
+        compiled = record { each = each_now; agree = is.agree };
+        runs = is.runs;
+        row = many_now;
+        opening = prepared.opening ∙ sym prepared.row;
+        names = is.names;
+        may_run = is.may_run;
+        room = room_there p.room prepared.room;
+      }
+
+      pub may_begin : (n : ℕ) (ms : List Module) (ks : List Known) (kept put c : Code) → n ≡ place → ms ≡ new_modules → ks ≡ new_known → kept ≡ code → put ≡ put_at kept n l → c ≡ laid 0 put → HasLoaded ms ks place loaded → MayBegin ms ks c (beginning n)
+      may_begin n ms ks kept put c at em ek same ep ec is =
+          let now : c ≡ new_code = ec ∙ ap (λ (x : Code). laid 0 x) (ep ∙ ap (λ (x : Code). put_at x n l) same ∙ ap (λ i. put_at code i l) at) in
+          let has = subst (λ (x : List Module). HasLoaded x new_known place loaded) em (subst (λ (x : List Known). HasLoaded ms x place loaded) ek is) in
+          subst (λ i. MayBegin ms ks c (beginning i)) (sym at)
+          (subst (λ (x : Code). MayBegin ms ks x (beginning place)) (sym now)
+          (subst (λ (x : List Known). MayBegin ms x new_code (beginning place)) (sym ek)
+          (subst (λ (x : List Module). MayBegin x new_known new_code (beginning place)) (sym em) (begins_there has))))
+
+-- ---- the machine of a body
+
+module _ (modules : List Module) (known : List Known) (code : Code) (b : Beginning) (h : MayBegin modules known code b) where
+  alone : take (length modules) code ≡ code
+  alone = ap (λ n. take n code) (sym (code_many modules modules known code 0 h.compiled.each)) ∙ take_all code
+
+  abbrev now : vm.ImageState
+  now = record { code = code; may_run = b.runs.items; cells = b.cells.items }
+
+  runs_there : vm.CanRun now b.number
+  runs_there =
+      let r = running_at modules b.number h.may_run in
+      let within = some_within modules b.number r.m r.there in
+      let many = code_many modules modules known code 0 h.compiled.each in
+      (omega (arith, within, many), h.runs b.number ∙ h.may_run)
+
+  held : AllSolid modules → IsHeld modules known now
+  held solid = record {
+    compiled = subst (λ (c : Code). AreCompiled modules known c) (sym alone) h.compiled;
+    runs = λ n _. h.runs n;
+    sized = ap all_cells (sym alone);
+    solid = solid;
+  }
+
+  abbrev before_all : vm.ImageState → Config
+  before_all i = start i.code b.number (record { cells = i.cells; written = []; input = (world_before (store_of modules b.cells.items)).input })
+
+  runs_now : (run : vm.MachineState) → vm.IsOf now run → vm.machine_config now run ≡ before_all now → run.used ≡ 0 → IsRunning modules (store_of modules b.cells.items) (Body b.number) now run 0 false b.names.items
+  runs_now run fits at none =
+      let may = each_may_begin modules b.cells.items (h.row ∙ sized_as modules known code h.compiled) in
+      let follows = body_behaves (program_of modules) code (faces_at known) (runs_in modules) (each_may_run modules known code h.compiled).means b.number h.may_run in
+      begun modules (store_of modules b.cells.items) (Body b.number) now run b.names.items fits follows may.may
+      (stands_now modules (store_of modules b.cells.items) (Body b.number) now follows may.may 0 _ (stays code (Going (supply 0 []) (opens modules (store_of modules b.cells.items) (Body b.number) now)))).0
+      (at ∙ ap (start code b.number) (sym may.pictured)) none h.names
+
+  module _ (i : vm.ImageState) (e : i ≡ now) where
+    pub can_run : vm.CanRun i b.number
+    can_run = subst (λ (x : vm.ImageState). vm.CanRun x b.number) (sym e) runs_there
+
+    pub room_in : vm.IsRoomIn i b.number b.room
+    room_in = subst (λ (x : vm.ImageState). vm.IsRoomIn x b.number b.room) (sym e) h.room
+
+    pub begun_on : AllSolid modules → (run : vm.MachineState) → vm.IsOf i run → vm.machine_config i run ≡ before_all i → run.used ≡ 0 → IsHeld modules known i × IsRunning modules (store_of modules b.opening.items) (Body b.number) i run 0 false b.names.items
+    begun_on solid run fits at none =
+        let fits_now = subst (λ (x : vm.ImageState). vm.IsOf x run) e fits in
+        let at_now = subst (λ (x : vm.ImageState). vm.machine_config x run ≡ before_all x) e at in (
+          subst (λ (x : vm.ImageState). IsHeld modules known x) (sym e) (held solid),
+          subst (λ (x : vm.ImageState). IsRunning modules (store_of modules b.opening.items) (Body b.number) x run 0 false b.names.items) (sym e)
+              (subst (λ (cs : List ℤ). IsRunning modules (store_of modules cs) (Body b.number) now run 0 false b.names.items) (sym h.opening) (runs_now run fits_now at_now none)),
+        )
+
+-- ---- an image that is put together again
+
+pub same_image : (i : vm.ImageState) (code : Code) (flags : List Bool) (cells : List ℤ) → code ≡ i.code → flags ≡ i.may_run → cells ≡ i.cells → (let j : vm.ImageState = record { code = code; may_run = flags; cells = cells } in j) ≡ i
+same_image i code flags cells ec ef en =
+    ap (λ (c : Code). let j : vm.ImageState = record { code = c; may_run = flags; cells = cells } in j) ec
+    ∙ ap (λ (fs : List Bool). let j : vm.ImageState = record { code = i.code; may_run = fs; cells = cells } in j) ef
+    ∙ ap (λ (cs : List ℤ). let j : vm.ImageState = record { code = i.code; may_run = i.may_run; cells = cs } in j) en

@@ -1,0 +1,104 @@
+use Rattle.std.proofs.Common.{◌≡◌, ◌-◌, min, ap, sym, subst, ◌∙◌, ℕ, ℤ, List, Bool, length, take, arith}
+use Rattle.ob_code.specs.whole.Linked.{all_cells, runs_of, IsLinked}
+use Rattle.ob_code.specs.whole.Machine.{Code}
+use Rattle.ob_session.specs.Session.{Session}
+use Rattle.ob_store.specs.Stores.{store_of}
+use Rattle.ob_linked.specs.Compiled.{AreCompiled}
+use Rattle.ob_vm.specs.whole.Images as vm
+use Rattle.ob_vm.specs.whole.Steps.{SliceDone}
+use Rattle.ob_load.specs.Kept.{IsKept, IsHeld}
+use Rattle.ob_load.specs.MachineState.{MachineState}
+use Rattle.ob_load.specs.Runs.{meaning_of}
+use Rattle.ob_load.proofs.Machines.{held}
+use Rattle.ob_load.proofs.Finished.{flags_cut, linked_by, valid_by, leaves}
+use Rattle.ob_load.proofs.machine.Machine.finish.Goals as goal
+
+none_of : (u : ℕ) → min 0 u ≡ 0
+none_of u = omega arith
+
+module _ (c : goal.After-truncate-2) where
+  held_now : IsHeld c.self.inside.modules c.self.inside.known.items c.turns-turned.new.image
+  held_now = held c.self.inside.modules c.self.inside.known.items c.self.inside.image c.turns-turned.new.image c.turns-turned.ensures.code c.turns-turned.ensures.may_run c.self.invariant.0
+
+  code_is : c.truncate.new.self.items ≡ take (length c.self.inside.modules) c.turns-turned.new.image.code
+  code_is =
+      c.truncate.ensures.items ∙ ap (λ xs. take (length xs) c.into_parts-code.result.0.items) c.as_slice-count.ensures
+      ∙ ap (λ (x : Code). take (length c.self.inside.modules) x) (c.into_parts-code.ensures.code ∙ ap (λ (x : vm.ImageState). x.code) c.cut.ensures.rest)
+
+  flags_are : c.truncate-2.new.self.items ≡ take (length c.self.inside.modules) c.turns-turned.new.image.may_run
+  flags_are =
+      c.truncate-2.ensures.items ∙ ap (λ xs. take (length xs) c.into_parts-code.result.1.items) c.as_slice-count.ensures
+      ∙ ap (λ (x : List Bool). take (length c.self.inside.modules) x) (c.into_parts-code.ensures.may_run ∙ ap (λ (x : vm.ImageState). x.may_run) c.cut.ensures.rest)
+
+  cells_are : c.into_parts-code.result.2.items ≡ take (all_cells c.self.inside.image.code) c.turns-turned.new.image.cells
+  cells_are =
+      c.into_parts-code.ensures.cells ∙ ap (λ (x : vm.ImageState). x.cells) c.cut.ensures.rest
+      ∙ ap (λ (x : Code). take (all_cells x) c.turns-turned.new.image.cells) c.turns-turned.ensures.code
+
+  many : length c.into_parts-code.result.2.items ≡ all_cells c.truncate.new.self.items
+  many =
+      ap length c.into_parts-code.ensures.cells ∙ c.cut.ensures.cells ∙ ap (λ (x : vm.ImageState). all_cells x.code) c.cut.ensures.rest
+      ∙ held_now.sized ∙ ap all_cells (sym code_is)
+
+module _ (c : goal.After-drop-self-inside-3) where
+  held_now_then : IsHeld c.self.inside.modules c.self.inside.known.items c.turns-turned.new.image
+  held_now_then = held c.self.inside.modules c.self.inside.known.items c.self.inside.image c.turns-turned.new.image c.turns-turned.ensures.code c.turns-turned.ensures.may_run c.self.invariant.0
+
+  code_is_then : c.truncate.new.self.items ≡ take (length c.self.inside.modules) c.turns-turned.new.image.code
+  code_is_then =
+      c.truncate.ensures.items ∙ ap (λ xs. take (length xs) c.into_parts-code.result.0.items) c.as_slice-count.ensures
+      ∙ ap (λ (x : Code). take (length c.self.inside.modules) x) (c.into_parts-code.ensures.code ∙ ap (λ (x : vm.ImageState). x.code) c.cut.ensures.rest)
+
+  flags_are_then : c.truncate-2.new.self.items ≡ take (length c.self.inside.modules) c.turns-turned.new.image.may_run
+  flags_are_then =
+      c.truncate-2.ensures.items ∙ ap (λ xs. take (length xs) c.into_parts-code.result.1.items) c.as_slice-count.ensures
+      ∙ ap (λ (x : List Bool). take (length c.self.inside.modules) x) (c.into_parts-code.ensures.may_run ∙ ap (λ (x : vm.ImageState). x.may_run) c.cut.ensures.rest)
+
+  cells_are_then : c.into_parts-code.result.2.items ≡ take (all_cells c.self.inside.image.code) c.turns-turned.new.image.cells
+  cells_are_then =
+      c.into_parts-code.ensures.cells ∙ ap (λ (x : vm.ImageState). x.cells) c.cut.ensures.rest
+      ∙ ap (λ (x : Code). take (all_cells x) c.turns-turned.new.image.cells) c.turns-turned.ensures.code
+
+  many_then : length c.into_parts-code.result.2.items ≡ all_cells c.truncate.new.self.items
+  many_then =
+      ap length c.into_parts-code.ensures.cells ∙ c.cut.ensures.cells ∙ ap (λ (x : vm.ImageState). all_cells x.code) c.cut.ensures.rest
+      ∙ held_now_then.sized ∙ ap all_cells (sym code_is_then)
+
+pub of-image-requires-clause-linked : goal.of-image-requires-clause-linked
+of-image-requires-clause-linked c =
+    subst (λ (x : Code). IsLinked x (runs_of c.truncate-2.new.self.items)) (sym (code_is c))
+    (subst (λ (fs : List Bool). IsLinked (take (length c.self.inside.modules) c.turns-turned.new.image.code) (runs_of fs)) (sym (flags_are c))
+    (linked_by c.self.inside.modules c.self.inside.known.items _ _ (held_now c).compiled (flags_cut c.self.inside.modules c.turns-turned.new.image.may_run (held_now c).runs)))
+
+pub of-image-requires-clause-valid : goal.of-image-requires-clause-valid
+of-image-requires-clause-valid c =
+    subst (λ (x : Code). vm.AreValid x (runs_of c.truncate-2.new.self.items)) (sym (code_is c))
+    (subst (λ (fs : List Bool). vm.AreValid (take (length c.self.inside.modules) c.turns-turned.new.image.code) (runs_of fs)) (sym (flags_are c))
+    (valid_by c.self.inside.modules c.self.inside.known.items _ _ (held_now c).compiled (flags_cut c.self.inside.modules c.turns-turned.new.image.may_run (held_now c).runs)))
+
+pub of-image-requires-clause-cells : goal.of-image-requires-clause-cells
+of-image-requires-clause-cells c = many c
+
+pub invariant_of-result : goal.invariant_of-result
+invariant_of-result c =
+    let h = held_now_then c in
+    subst (λ (x : vm.ImageState). IsKept c.self.inside.modules c.self.inside.known.items x) (sym c.of-image.ensures) (record {
+      compiled = subst (λ (x : Code). AreCompiled c.self.inside.modules c.self.inside.known.items x) (sym (code_is_then c)) h.compiled;
+      runs = λ n. ap (λ (fs : List Bool). runs_of fs n) (flags_are_then c) ∙ flags_cut c.self.inside.modules c.turns-turned.new.image.may_run h.runs n;
+      cells = many_then c;
+      solid = h.solid;
+    })
+
+pub returns : goal.returns
+unfolding meaning_of
+returns c =
+    let ms = c.self.inside.modules in
+    let m = c.self.inside.run in
+    let i = c.self.inside.image in
+    let i' = c.turns-turned.new.image in
+    let k = c.turns-turned.ensures.does.0 in
+    let done = subst (λ n. SliceDone i.code (vm.machine_config i m) (vm.machine_config i' c.turns-turned.new.self) n c.turns-turned.result k) (none_of (18446744073709551615 - m.used)) c.turns-turned.ensures.does.2 in
+    let cells = ap (λ (x : vm.ImageState). x.cells) c.of-image.ensures ∙ cells_are_then c in
+    subst (λ (x : MachineState). (let s : Session = record { modules = ms; store = store_of ms c.of-image.result.cells } in s) ≡ (meaning_of x x.turns).session) c.self.view_is
+    (ap (λ (cs : List ℤ). let s : Session = record { modules = ms; store = store_of ms cs } in s) cells
+    ∙ leaves ms c.self.inside.known.items (store_of ms c.self.inside.opening.items) c.self.inside.task i i' m c.turns-turned.new.self c.self.inside.shown c.self.inside.over c.self.inside.names.items c.self.invariant.0 c.self.invariant.1 c.turns-turned.result k done)

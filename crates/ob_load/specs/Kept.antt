@@ -1,0 +1,55 @@
+-- What ties a session, and a machine that runs in it, to their code.
+use Rattle.std.specs.Prelude.{◌≡◌, ℕ, ◌<◌, Bool, false, List, [], ◌++◌, length, map, take, Some, slice_get}
+use Rattle.ob_mean.specs.whole.Runs.{supply}
+use Rattle.ob_mean.specs.whole.Values.{Value}
+use Rattle.ob_mean.specs.whole.Programs.{world_before}
+use Rattle.ob_code.specs.whole.Linked.{all_cells, runs_of}
+use Rattle.ob_code.specs.whole.Machine.{Config, Going, Comes, start, picture}
+use Rattle.ob_gen.specs.whole.Correct.{Follows, MayBegin}
+use Rattle.ob_vm.specs.whole.Images.{ImageState, MachineState, IsOf, machine_config}
+use Rattle.ob_session.specs.Session.{Module, name_of, program_of}
+use Rattle.ob_fit.specs.Solid.{ExportsSolid}
+use Rattle.ob_linked.specs.Compiled.{Known, AreCompiled, runs_in}
+use Rattle.ob_load.specs.declared.task.Task.{Task}
+use Rattle.ob_load.specs.Tasks.{task_meaning, task_run, home_of}
+
+-- the same with this text written before
+abbrev pub prefixed : List ℕ → Config → Config
+prefixed text c = record { at = c.at; stack = c.stack; names = c.names; frames = c.frames; memory = record { cells = c.memory.cells; written = text ++ c.memory.written; input = c.memory.input } }
+
+-- each array of a type that is exported has elements
+abbrev pub AllSolid : List Module → Type 0
+AllSolid modules = (n : ℕ) (m : Module) → slice_get modules n ≡ Some m → ExportsSolid m.interface.exports
+
+-- between cells there is the code of the modules alone
+pub record IsKept (modules : List Module) (known : List Known) (i : ImageState) : Type 0 where
+  pub compiled : AreCompiled modules known i.code
+  pub runs : (n : ℕ) → runs_of i.may_run n ≡ runs_in modules n
+  pub cells : length i.cells ≡ all_cells i.code
+  pub solid : AllSolid modules
+
+-- behind it the code of commands may stand, which has no cells
+pub record IsHeld (modules : List Module) (known : List Known) (i : ImageState) : Type 0 where
+  pub compiled : AreCompiled modules known (take (length modules) i.code)
+  pub runs : (n : ℕ) → n < length modules → runs_of i.may_run n ≡ runs_in modules n
+  pub sized : all_cells i.code ≡ all_cells (take (length modules) i.code)
+  pub solid : AllSolid modules
+
+-- the output at so many turns
+abbrev pub output_at : List Module → Value → Task → ℕ → List ℕ
+output_at modules store task n = (task_run modules store task [] n).output
+
+-- before the first turn
+abbrev pub opens : List Module → Value → Task → ImageState → Config
+opens modules store task i = start i.code (home_of modules task) (picture (world_before store))
+
+-- a machine in its run
+pub record IsRunning (modules : List Module) (store : Value) (task : Task) (i : ImageState) (m : MachineState) (shown : ℕ) (over : Bool) (names : List (List ℕ)) : Type 0 where
+  -- the machine is one of this code, and the code does what the task means
+  pub fits : IsOf i m
+  pub follows : Follows (program_of modules) i.code (task_meaning (program_of modules) task) (λ w. start i.code (home_of modules task) (picture w))
+  pub begins : MayBegin (program_of modules) (world_before store)
+  -- the turns so far have led to where the machine stands, if what was shown is put before what it wrote since
+  pub comes : Comes i.code (Going (supply m.used []) (opens modules store task i)) (Going (supply 0 []) (prefixed (output_at modules store task shown) (machine_config i m)))
+  -- until its end is told it has the modules' names to give away
+  pub named : over ≡ false → names ≡ map name_of modules

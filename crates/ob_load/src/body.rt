@@ -1,0 +1,123 @@
+//! The machine of a module's body.
+
+ghost use Rattle.std.specs.Prelude.{◌≡◌, IfOk, IfErr};
+ghost use Rattle.ob_fit.specs.Solid.{ExportsSolid};
+ghost use Rattle.ob_gen.specs.whole.Generated.{IsGenerated};
+ghost use Rattle.ob_linked.specs.Compiled.{AllFound};
+ghost use Rattle.ob_load.specs.Kept.{AllSolid};
+ghost use Rattle.ob_load.specs.Loading.{MayBegin, begun_in};
+ghost use Rattle.ob_mean.specs.whole.WellFormed.{IsFaceOf, IsWellFormed};
+ghost use Rattle.ob_session.specs.Session.{installed, name_of, place_of};
+ghost use Rattle.ob_store.specs.Stores.{session_of};
+
+use crate::loading::{Compiled, load};
+use crate::machine::Machine;
+use crate::session::Session;
+use crate::task::Task;
+use ob_base::Text;
+use ob_code::whole::checked::Checked;
+use ob_code::whole::instr::LinkedModule;
+use ob_image::KnownFaces;
+use ob_link::{Modules, SessionModule};
+use ob_vm::whole::{Image, Room};
+use std::alloc::AllocError;
+
+// What the body of the module of this number begins with.
+#[derive(Drop)]
+pub(crate) struct Beginning {
+    pub number: usize,
+    pub runs: Vec<bool>,
+    pub names: Vec<Text>,
+    pub cells: Vec<i32>,
+    pub opening: Vec<i32>,
+    pub room: Room,
+}
+
+// A machine before the first turn of a body. It takes no memory.
+fn begin(
+    modules: Modules,
+    known: Vec<KnownFaces>,
+    code: Vec<LinkedModule>,
+    beginning: Beginning,
+) -> Machine
+    requires may { MayBegin modules known.items code.items beginning }
+    requires solid { AllSolid modules }
+    ensures { result ≡ begun_in (session_of modules beginning.opening.items) (Task.Body beginning.number) }
+{
+    let alloc = modules.alloc();
+    let Beginning {
+        number,
+        runs,
+        names,
+        cells,
+        opening,
+        room,
+    } = beginning;
+    let image = Image::of(code, runs, cells);
+    let run = ob_vm::whole::Machine::start(alloc, &image, number, room);
+    Machine {
+        modules,
+        known,
+        image,
+        run,
+        opening,
+        task: Task::Body(number),
+        shown: 0,
+        over: false,
+        names,
+        alloc,
+    }
+}
+
+impl Session {
+    /// Loads a module, whose code was made over what is known of its imports, and makes a machine before the first turn of its
+    /// body.
+    ///
+    /// # Errors
+    ///
+    /// Want of memory, and then the session is handed back as it was. Where what is known of some import were no longer so
+    /// though it has the recorded key, or the module did not link, the answer is want of memory too: no session of a kernel
+    /// meets this.
+    pub fn run_module(
+        self,
+        added: SessionModule,
+        faces: KnownFaces,
+        code: Checked,
+    ) -> Result<Machine, (Session, AllocError)>
+        requires formed { IsWellFormed faces.faces added.tree }
+        requires generated { IsGenerated faces.faces added.tree code }
+        requires face { IsFaceOf faces.face added.tree }
+        requires found { AllFound self.modules added.imports }
+        requires solid { ExportsSolid added.interface.exports }
+        ensures begun { IfOk result (λ m. m ≡ begun_in (installed self added) (Task.Body (place_of self.modules (name_of added)))) }
+        ensures back { IfErr result (λ back. back.0 ≡ self) }
+    {
+        let Session {
+            mut modules,
+            mut known,
+            image,
+        } = self;
+        let (mut parts, may_run, cells) = image.into_parts();
+        let compiled = Compiled { added, faces, code };
+        match load(
+            &mut modules,
+            &mut known,
+            &mut parts,
+            cells.as_slice(),
+            compiled,
+        ) {
+            Ok(beginning) => Ok(begin(modules, known, parts, beginning)),
+            Err(error) => {
+                let image = Image::of(parts, may_run, cells);
+                Err((
+                    Session {
+                        modules,
+                        known,
+                        image,
+                    },
+                    error,
+                ))
+            }
+        }
+    }
+}

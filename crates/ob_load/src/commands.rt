@@ -1,0 +1,301 @@
+//! Commands, and the machine that runs them one after the other.
+
+ghost use Rattle.std.specs.Prelude.{◌≡◌, ℕ, ◌<◌, [], ◌∷◌, ◌++◌, false, true, length, vec_capacity, slice_get, IsTrue, IfSome, IfOk, IfErr, Some};
+ghost use Rattle.ob_code.specs.whole.Linked.{runs_of};
+ghost use Rattle.ob_code.specs.whole.Machine.{Code};
+ghost use Rattle.ob_linked.specs.CommandsCode as code;
+ghost use Rattle.ob_linked.specs.CommandsCode.{homes, AllCallable, IsCallable};
+ghost use Rattle.ob_linked.specs.Compiled.{face_in, runs_in, AreCompiled, AreKnown};
+ghost use Rattle.ob_load.specs.Commanded.{IsCodeOfCalls, AreReady};
+ghost use Rattle.ob_load.specs.declared.task.Task.TheVariants as task;
+ghost use Rattle.ob_mean.specs.declared.whole.expression.Callee.TheVariants as callee;
+ghost use Rattle.ob_mean.specs.declared.whole.statement.Action.TheVariants as action;
+ghost use Rattle.ob_mean.specs.declared.whole.statement.TypedStatement.TheVariants as statement;
+ghost use Rattle.ob_mean.specs.whole.WellFormed.{heading_of, own_heading};
+
+use crate::machine::Machine;
+use crate::session::Session;
+use crate::task::Task;
+use ob_base::{Items, Text};
+use ob_code::whole::checked::Checked;
+use ob_code::whole::instr::LinkedModule;
+use ob_compile::copy_face;
+use ob_gen::whole::generate;
+use ob_image::KnownFaces;
+use ob_link::{Command, Modules};
+use ob_mean::whole::{Action, Callee, Face, TypedModule, TypedProcedure, TypedStatement};
+use ob_vm::whole::{Image, Room};
+use std::alloc::{AllocError, Global};
+
+// Whether a procedure takes and leaves nothing.
+fn is_plain(procedure: &TypedProcedure) -> bool
+    ensures { IsTrue result → heading_of procedure.now ≡ record { parameters = []; is_function = false } }
+{
+    procedure.parameters.len() == 0 && procedure.result.is_none()
+}
+
+// The same of the procedure of this number.
+fn is_plain_at(procedures: &[TypedProcedure], number: usize) -> bool
+    ensures { IsTrue result → own_heading (slice_get procedures.now number) ≡ Some (record { parameters = []; is_function = false }) }
+{
+    match procedures.get(number) {
+        Some(procedure) => is_plain(procedure),
+        None => false,
+    }
+}
+
+// Where among these numbers one stands.
+fn place_in(numbers: &[usize], number: usize) -> Option<usize>
+    ensures { IfSome result (λ place. slice_get numbers.now place ≡ Some number) }
+{
+    for place in 0..numbers.len() {
+        if numbers[place] == number {
+            return Some(place);
+        }
+    }
+    None
+}
+
+// Where a command's procedure stands among those that its module exports.
+fn place_of(modules: &Modules, runs: &[bool], command: Command) -> Option<usize>
+    requires { (n : ℕ) → runs_of runs.now n ≡ runs_in modules.now n }
+    ensures { IfSome result (IsCallable modules.now command) }
+{
+    match (
+        runs.get(command.home()),
+        modules.as_slice().get(command.home()),
+    ) {
+        (Some(true), Some(module)) => {
+            let tree = module.tree();
+            if is_plain_at(tree.procedures.as_slice(), command.procedure()) {
+                place_in(tree.exported.as_slice(), command.procedure())
+            } else {
+                None
+            }
+        }
+        _ => None,
+    }
+}
+
+// The same of each command. Where one has no place, the answer is want of memory.
+fn places_of(
+    modules: &Modules,
+    runs: &[bool],
+    commands: &[Command],
+) -> Result<Vec<usize>, AllocError>
+    requires { (n : ℕ) → runs_of runs.now n ≡ runs_in modules.now n }
+    ensures { IfOk result (λ places. AllCallable modules.now commands.now places.items) }
+{
+    let mut places = Vec::new(modules.alloc());
+    for command in commands {
+        match place_of(modules, runs, *command) {
+            Some(place) => places.push(place)?,
+            None => return Err(AllocError),
+        }
+    }
+    Ok(places)
+}
+
+// The numbers of the commands' modules.
+fn homes_of(alloc: Global, commands: &[Command]) -> Result<Vec<usize>, AllocError>
+    ensures { IfOk result (λ numbers. numbers.items ≡ homes commands.now) }
+{
+    let mut numbers = Vec::new(alloc);
+    for command in commands {
+        numbers.push(command.home())?;
+    }
+    Ok(numbers)
+}
+
+// What is known of the module of this number. Where nothing is, the answer is want of memory.
+fn face_at(alloc: Global, known: &[KnownFaces], number: usize) -> Result<Face, AllocError>
+    ensures { IfOk result (λ face. face_in (slice_get known.now number) ≡ Some face) }
+{
+    match known.get(number) {
+        Some(known) => copy_face(alloc, known.face()),
+        None => Err(AllocError),
+    }
+}
+
+// The same of the modules of these numbers.
+fn faces_of(alloc: Global, known: &[KnownFaces], numbers: &[usize]) -> Result<Vec<Face>, AllocError>
+    ensures { IfOk result (λ faces. AreKnown known.now numbers.now faces.items) }
+{
+    let mut faces = Vec::new(alloc);
+    for number in numbers {
+        let face = face_at(alloc, known, *number)?;
+        faces.push(face)?;
+    }
+    Ok(faces)
+}
+
+// A call of the procedure at this place of an import.
+fn call_of(alloc: Global, import: usize, place: usize) -> TypedStatement
+    ensures { result ≡ statement.Simple (action.Call (callee.OfImport import place) 0 []) }
+{
+    TypedStatement::Simple(Action::Call(Callee::OfImport(import, place), 0, Items::new(alloc)))
+}
+
+// A module that calls the procedures at these places, each in an import of its own.
+fn commands_tree(alloc: Global, places: &[usize]) -> Result<TypedModule, AllocError>
+    ensures { IfOk result (λ tree. tree ≡ code.commands_tree places.now) }
+{
+    let mut body = Items::new(alloc);
+    for import in 0..places.len() {
+        body.push(call_of(alloc, import, places[import]))?;
+    }
+    Ok(TypedModule {
+        name: Text::from_vec(Vec::new(alloc)),
+        variables: Items::new(alloc),
+        procedures: Items::new(alloc),
+        exported: Items::new(alloc),
+        body,
+    })
+}
+
+// The code of such a module, over what is known of the modules of these numbers, those of the commands.
+fn commands_code(
+    modules: &Modules,
+    known: &[KnownFaces],
+    runs: &[bool],
+    commands: &[Command],
+    numbers: &[usize],
+) -> Result<Checked, AllocError>
+    requires compiled { (all : Code) × AreCompiled modules.now known.now all }
+    requires flags { (n : ℕ) → runs_of runs.now n ≡ runs_in modules.now n }
+    requires homes { numbers.now ≡ homes commands.now }
+    ensures { IfOk result (IsCodeOfCalls modules.now known.now commands.now) }
+{
+    let alloc = modules.alloc();
+    let places = places_of(modules, runs, commands)?;
+    let faces = faces_of(alloc, known, numbers)?;
+    let tree = commands_tree(alloc, places.as_slice())?;
+    let code = generate(alloc, faces.as_slice(), &tree)?;
+    Ok(code)
+}
+
+// What the beginning of commands takes, made before anything is changed.
+#[derive(Drop)]
+pub(crate) struct Calls {
+    // Of a module that calls them one after the other.
+    pub code: Checked,
+    pub imports: Vec<usize>,
+    pub runs: Vec<bool>,
+    pub opening: Vec<i32>,
+    pub names: Vec<Text>,
+    pub room: Room,
+}
+
+fn ready(
+    modules: &Modules,
+    known: &[KnownFaces],
+    cells: &[i32],
+    commands: &[Command],
+) -> Result<Calls, AllocError>
+    requires { (all : Code) × AreCompiled modules.now known.now all }
+    ensures { IfOk result (AreReady modules.now known.now cells.now commands.now) }
+{
+    let alloc = modules.alloc();
+    let mut runs = modules.may_run()?;
+    let imports = homes_of(alloc, commands)?;
+    let code = commands_code(
+        modules,
+        known,
+        runs.as_slice(),
+        commands,
+        imports.as_slice(),
+    )?;
+    runs.push(true)?;
+    let opening = Vec::from_slice(alloc, cells)?;
+    let names = modules.names()?;
+    let room = ob_vm::whole::Machine::room(alloc, &code)?;
+    Ok(Calls {
+        code,
+        imports,
+        runs,
+        opening,
+        names,
+        room,
+    })
+}
+
+// Behind the others, where there is room.
+fn put_behind(code: &mut Vec<LinkedModule>, last: LinkedModule)
+    requires { length code.old.items < vec_capacity code.old }
+    ensures { code.new.items ≡ code.old.items ++ last ∷ [] }
+{
+    match code.push(last) {
+        Ok(()) => {}
+        Err(_) => unreachable!(),
+    }
+}
+
+impl Session {
+    /// Makes a machine before the first turn of these commands, which were looked up in this session.
+    ///
+    /// # Errors
+    ///
+    /// Want of memory, and then the session is handed back as it was. Where one of the commands were not the number of a
+    /// procedure that a module that may run exports, and that takes and leaves nothing, the answer is want of memory too: no
+    /// command that was looked up is so.
+    pub fn run_commands(self, commands: Vec<Command>) -> Result<Machine, (Session, AllocError)>
+        ensures begun { IfOk result (λ m. m ≡ record { modules = self.modules; store = self.store; task = task.Commands commands; turns = 0; shown = 0; over = false }) }
+        ensures back { IfErr result (λ back. back.0 ≡ self) }
+    {
+        let Session {
+            modules,
+            known,
+            image,
+        } = self;
+        let calls = match ready(
+            &modules,
+            known.as_slice(),
+            image.cells(),
+            commands.as_slice(),
+        ) {
+            Ok(calls) => calls,
+            Err(error) => return Err((
+                Session {
+                    modules,
+                    known,
+                    image,
+                },
+                error,
+            )),
+        };
+        let (mut code, may_run, cells) = image.into_parts();
+        if code.reserve(1).is_err() {
+            let image = Image::of(code, may_run, cells);
+            return Err((
+                Session {
+                    modules,
+                    known,
+                    image,
+                },
+                AllocError,
+            ));
+        }
+        let alloc = modules.alloc();
+        let behind = code.len();
+        let linked = LinkedModule {
+            code: calls.code.into_code(),
+            imports: calls.imports,
+            cells: cells.len(),
+        };
+        put_behind(&mut code, linked);
+        let image = Image::of(code, calls.runs, cells);
+        let run = ob_vm::whole::Machine::start(alloc, &image, behind, calls.room);
+        Ok(Machine {
+            modules,
+            known,
+            image,
+            run,
+            opening: calls.opening,
+            task: Task::Commands(commands),
+            shown: 0,
+            over: false,
+            names: calls.names,
+            alloc,
+        })
+    }
+}

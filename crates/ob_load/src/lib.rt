@@ -1,0 +1,16 @@
+//! The modules of a session in code, and the machine that runs a module's body or commands over them in slices. It is what the
+//! definitions of sessions say.
+#![tactic(auto)]
+
+mod body;
+mod commands;
+mod loading;
+mod machine;
+mod outcome;
+mod session;
+mod task;
+
+pub use machine::Machine;
+pub use outcome::{Outcome, Trap, Turned};
+pub use session::Session;
+pub use task::Task;

@@ -1,0 +1,198 @@
+//! A module that is loaded, with what is known of it and with its code.
+
+ghost use Rattle.std.specs.Prelude.{◌≡◌, ℕ, List, ◌<◌, ◌≤◌, length, vec_capacity, slice_get, OnOk, OnErr, IfOk};
+ghost use Rattle.ob_code.specs.whole.Linked.{all_cells, runs_of};
+ghost use Rattle.ob_gen.specs.whole.Generated.{IsGenerated};
+ghost use Rattle.ob_linked.specs.Compiled.{runs_in, AllFound, AreCompiledFrom, FacesAgree, Known};
+ghost use Rattle.ob_linked.specs.Compiled as linked;
+ghost use Rattle.ob_load.specs.Loading.{HasLoaded, IsPrepared, MayBegin, put_back_at};
+ghost use Rattle.ob_mean.specs.whole.WellFormed.{IsFaceOf, IsWellFormed};
+ghost use Rattle.ob_session.specs.Session.{name_of, place_of, with_module};
+ghost use Rattle.ob_store.specs.Stores as stores;
+
+use crate::body::Beginning;
+use ob_base::Text;
+use ob_code::whole::checked::Checked;
+use ob_code::whole::instr::LinkedModule;
+use ob_image::{KnownFaces, agree, bounds, lay, loaded_cells, put_at};
+use ob_link::{Modules, SessionModule};
+use ob_vm::whole::Room;
+use std::alloc::AllocError;
+use std::mem;
+
+// A module, what is known of it, and its code, which was made over what is known of its imports.
+#[derive(Drop)]
+pub(crate) struct Compiled {
+    pub added: SessionModule,
+    pub faces: KnownFaces,
+    pub code: Checked,
+}
+
+// What the beginning of a module's body takes, made before anything is changed.
+#[derive(Drop)]
+pub(crate) struct Prepared {
+    pub imports: Vec<usize>,
+    pub cells: Vec<i32>,
+    pub opening: Vec<i32>,
+    pub room: Room,
+}
+
+fn prepare(
+    modules: &Modules,
+    code: &[LinkedModule],
+    cells: &[i32],
+    compiled: &Compiled,
+) -> Result<Prepared, AllocError>
+    requires cells { length cells.now ≡ all_cells code.now }
+    requires compiled { (known : List Known) × AreCompiledFrom modules.now modules.now known code.now 0 }
+    ensures { IfOk result (λ p. IsPrepared modules.now cells.now compiled.now.added compiled.now.code p) }
+{
+    let alloc = modules.alloc();
+    let number = modules.place_of(compiled.added.interface().name());
+    let imports = modules.numbers(compiled.added.imports())?;
+    let (from, behind) = bounds(code, cells.len(), number);
+    let variables = compiled.added.tree().variables.as_slice();
+    let new_cells = loaded_cells(alloc, cells, from, behind, variables)?;
+    let opening = loaded_cells(alloc, cells, from, behind, variables)?;
+    let room = ob_vm::whole::Machine::room(alloc, &compiled.code)?;
+    Ok(Prepared {
+        imports,
+        cells: new_cells,
+        opening,
+        room,
+    })
+}
+
+// Which modules may run. What was known of their imports is so; where it were not, the answer is want of memory.
+fn running(modules: &Modules, known: &[KnownFaces]) -> Result<Vec<bool>, AllocError>
+    ensures runs { IfOk result (λ flags. (n : ℕ) → runs_of flags.items n ≡ runs_in modules.now n) }
+    ensures agree { IfOk result (λ flags. FacesAgree modules.now known.now) }
+{
+    let flags = modules.may_run()?;
+    if agree(modules, known, flags.as_slice()) {
+        Ok(flags)
+    } else {
+        Err(AllocError)
+    }
+}
+
+// Which modules may run, and their names.
+#[derive(Drop)]
+pub(crate) struct Loaded {
+    pub runs: Vec<bool>,
+    pub names: Vec<Text>,
+}
+
+fn after_loading(
+    modules: &Modules,
+    known: &[KnownFaces],
+    number: usize,
+) -> Result<Loaded, AllocError>
+    ensures { IfOk result (λ loaded. HasLoaded modules.now known.now number loaded) }
+{
+    let runs = running(modules, known)?;
+    let names = modules.names()?;
+    match runs.get(number) {
+        Some(true) => Ok(Loaded { runs, names }),
+        _ => Err(AllocError),
+    }
+}
+
+// In the place of what was known, which comes back, or behind all that is known.
+fn put_known(known: &mut Vec<KnownFaces>, number: usize, faces: KnownFaces) -> Option<KnownFaces>
+    requires there { number ≤ length known.old.items }
+    requires room { length known.old.items < vec_capacity known.old }
+    ensures put { known.new.items ≡ linked.put_at known.old.items number faces }
+    ensures back { result ≡ slice_get known.old.items number }
+{
+    if number < known.len() {
+        return Some(mem::replace(&mut known[number], faces));
+    }
+    put_at(known, number, faces);
+    None
+}
+
+// What was known takes its place again; where nothing was, the last goes.
+fn put_known_back(known: &mut Vec<KnownFaces>, number: usize, before: Option<KnownFaces>)
+    requires there { number < length known.old.items }
+    ensures { known.new.items ≡ put_back_at known.old.items number before }
+{
+    match before {
+        Some(faces) => known[number] = faces,
+        None => known.truncate(number),
+    }
+}
+
+// A module takes its place among the modules, and what is known of it among what is known. Where memory is refused, all is as
+// it was.
+fn take_place(
+    modules: &mut Modules,
+    known: &mut Vec<KnownFaces>,
+    added: SessionModule,
+    faces: KnownFaces,
+) -> Result<Loaded, AllocError>
+    requires sides { length known.old.items ≡ length modules.old }
+    ensures modules { OnOk result (modules.new ≡ with_module modules.old added) }
+    ensures known { OnOk result (known.new.items ≡ linked.put_at known.old.items (place_of modules.old (name_of added)) faces) }
+    ensures loaded { IfOk result (λ loaded. HasLoaded modules.new known.new.items (place_of modules.old (name_of added)) loaded) }
+    ensures err { OnErr result ((modules.new ≡ modules.old) × (known.new.items ≡ known.old.items)) }
+{
+    known.reserve(1)?;
+    let number = modules.place_of(added.interface().name());
+    let back = modules.exchange(added)?;
+    let before = put_known(known, number, faces);
+    match after_loading(modules, known.as_slice(), number) {
+        Ok(loaded) => Ok(loaded),
+        Err(error) => {
+            modules.restore(back);
+            put_known_back(known, number, before);
+            Err(error)
+        }
+    }
+}
+
+// A module is loaded, and its body may begin. Where memory is refused, all is as it was.
+pub(crate) fn load(
+    modules: &mut Modules,
+    known: &mut Vec<KnownFaces>,
+    code: &mut Vec<LinkedModule>,
+    cells: &[i32],
+    compiled: Compiled,
+) -> Result<Beginning, AllocError>
+    requires cells { length cells.now ≡ all_cells code.old.items }
+    requires compiled { AreCompiledFrom modules.old modules.old known.old.items code.old.items 0 }
+    requires formed { IsWellFormed compiled.faces.faces compiled.added.tree }
+    requires generated { IsGenerated compiled.faces.faces compiled.added.tree compiled.code }
+    requires face { IsFaceOf compiled.faces.face compiled.added.tree }
+    requires found { AllFound modules.old compiled.added.imports }
+    ensures modules { OnOk result (modules.new ≡ with_module modules.old compiled.added) }
+    ensures may { IfOk result (λ b. MayBegin modules.new known.new.items code.new.items b) }
+    ensures opening { IfOk result (λ b. b.opening.items ≡ stores.loaded_cells modules.old compiled.added cells.now) }
+    ensures number { IfOk result (λ b. b.number ≡ place_of modules.old (name_of compiled.added)) }
+    ensures err { OnErr result ((modules.new ≡ modules.old) × ((known.new.items ≡ known.old.items) × (code.new.items ≡ code.old.items))) }
+{
+    code.reserve(1)?;
+    let prepared = prepare(modules, code.as_slice(), cells, &compiled)?;
+    let number = modules.place_of(compiled.added.interface().name());
+    let Compiled {
+        added,
+        faces,
+        code: generated,
+    } = compiled;
+    let loaded = take_place(modules, known, added, faces)?;
+    let linked = LinkedModule {
+        code: generated.into_code(),
+        imports: prepared.imports,
+        cells: 0,
+    };
+    put_at(code, number, linked);
+    lay(code);
+    Ok(Beginning {
+        number,
+        runs: loaded.runs,
+        names: loaded.names,
+        cells: prepared.cells,
+        opening: prepared.opening,
+        room: prepared.room,
+    })
+}

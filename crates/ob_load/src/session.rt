@@ -1,0 +1,52 @@
+//! What the cells of a kernel hand from each to the next.
+
+ghost use Rattle.std.specs.Prelude.{◌≡◌};
+ghost use Rattle.ob_session.specs.Session.{opening};
+
+use ob_image::KnownFaces;
+use ob_link::Modules;
+use ob_vm::whole::Image;
+use std::alloc::Global;
+use std::marker::Model;
+
+/// The modules that are loaded, their code, and their variables.
+#[derive(Drop)]
+pub struct Session {
+    pub(crate) modules: Modules,
+    pub(crate) known: Vec<KnownFaces>,
+    pub(crate) image: Image,
+}
+
+impl Model for Session {
+    ghost use Rattle.std.specs.Coded.{codes};
+    ghost use Rattle.ob_types.specs.contracts.structure.ObType as structure;
+    ghost use Rattle.ob_mean.specs.contracts.whole.expression.TypedExpr as expression;
+    ghost use Rattle.ob_mean.specs.contracts.whole.shape.Shape as shape;
+    ghost use Rattle.ob_mean.specs.contracts.whole.statement.TypedStatement as statement;
+    ghost use Rattle.ob_session.specs.Session as sessions;
+    ghost use Rattle.ob_load.specs.ValueCode.{value_code};
+    ghost use Rattle.ob_store.specs.Stores.{store_of};
+    ghost use Rattle.ob_load.specs.Kept.{IsKept};
+
+    ghost Value = { sessions.Session };
+
+    ghost coded = { Prim.hlevel (codes, value_code, structure.the_row.coded, expression.the_row.coded, shape.the_row.coded, statement.the_row.coded) };
+
+    ghost view = { λ s. record { modules = s.modules; store = store_of s.modules s.image.cells } };
+
+    ghost invariant = { λ s. IsKept s.modules s.known.items s.image };
+}
+
+impl Session {
+    /// The session before the first cell: no module is loaded.
+    pub fn new(alloc: Global) -> Session
+        ensures { result ≡ opening }
+    {
+        let image = Image::of(Vec::new(alloc), Vec::new(alloc), Vec::new(alloc));
+        Session {
+            modules: Modules::new(alloc),
+            known: Vec::new(alloc),
+            image,
+        }
+    }
+}

@@ -1,0 +1,4 @@
+pub mod Named
+pub mod Loads
+pub mod Adding
+pub mod Rules

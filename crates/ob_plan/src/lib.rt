@@ -1,0 +1,16 @@
+//! What a cell comes to before it runs: from its tree and a session's modules to a module that is compiled and can be loaded, or
+//! to the commands that it calls.
+#![tactic(auto)]
+
+mod cell;
+mod command;
+mod compiled;
+mod laws;
+mod loaded;
+mod module;
+mod part;
+mod planned;
+
+pub use cell::plan;
+pub use laws::load_law;
+pub use planned::{Plan, Planned};
