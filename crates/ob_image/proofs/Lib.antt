@@ -2,4 +2,3 @@ pub mod Begins
 pub mod Laid
 pub mod Faces
 pub mod Counted
-pub mod Flags
