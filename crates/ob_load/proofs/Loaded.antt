@@ -30,7 +30,7 @@ use Rattle.ob_load.specs.declared.loading.Loaded.{Loaded}
 use Rattle.ob_load.specs.declared.loading.Prepared.{Prepared}
 use Rattle.ob_load.specs.declared.task.Task.TheVariants.{Body}
 use Rattle.ob_load.specs.Kept.{AllSolid, IsHeld, IsRunning, opens}
-use Rattle.ob_load.specs.Loading.{IsPrepared, HasLoaded, MayBegin, put_back_at}
+use Rattle.ob_load.specs.Loading.{IsPrepared, HasLoaded, BodyMayBegin, put_back_at}
 use Rattle.ob_load.proofs.Machines.{begun, stands_now}
 use Rattle.ob_load.proofs.Finished.{sized_as}
 
@@ -191,7 +191,7 @@ module _ (modules : List Module) (m : Module) (known : List Known) (k : Known) (
       abbrev pub beginning : ℕ → Beginning
       beginning n = record { number = n; runs = loaded.runs; names = loaded.names; cells = p.cells; opening = p.opening; room = p.room }
 
-      begins_there : HasLoaded new_modules new_known place loaded → MayBegin new_modules new_known new_code (beginning place)
+      begins_there : HasLoaded new_modules new_known place loaded → BodyMayBegin new_modules new_known new_code (beginning place)
       begins_there is = record {
         compiled = record { each = each_now; agree = is.agree };
         runs = is.runs;
@@ -202,18 +202,18 @@ module _ (modules : List Module) (m : Module) (known : List Known) (k : Known) (
         room = room_there p.room prepared.room;
       }
 
-      pub may_begin : (n : ℕ) (ms : List Module) (ks : List Known) (kept put c : Code) → n ≡ place → ms ≡ new_modules → ks ≡ new_known → kept ≡ code → put ≡ put_at kept n l → c ≡ laid 0 put → HasLoaded ms ks place loaded → MayBegin ms ks c (beginning n)
+      pub may_begin : (n : ℕ) (ms : List Module) (ks : List Known) (kept put c : Code) → n ≡ place → ms ≡ new_modules → ks ≡ new_known → kept ≡ code → put ≡ put_at kept n l → c ≡ laid 0 put → HasLoaded ms ks place loaded → BodyMayBegin ms ks c (beginning n)
       may_begin n ms ks kept put c at em ek same ep ec is =
           let now : c ≡ new_code = ec ∙ ap (λ (x : Code). laid 0 x) (ep ∙ ap (λ (x : Code). put_at x n l) same ∙ ap (λ i. put_at code i l) at) in
           let has = subst (λ (x : List Module). HasLoaded x new_known place loaded) em (subst (λ (x : List Known). HasLoaded ms x place loaded) ek is) in
-          subst (λ i. MayBegin ms ks c (beginning i)) (sym at)
-          (subst (λ (x : Code). MayBegin ms ks x (beginning place)) (sym now)
-          (subst (λ (x : List Known). MayBegin ms x new_code (beginning place)) (sym ek)
-          (subst (λ (x : List Module). MayBegin x new_known new_code (beginning place)) (sym em) (begins_there has))))
+          subst (λ i. BodyMayBegin ms ks c (beginning i)) (sym at)
+          (subst (λ (x : Code). BodyMayBegin ms ks x (beginning place)) (sym now)
+          (subst (λ (x : List Known). BodyMayBegin ms x new_code (beginning place)) (sym ek)
+          (subst (λ (x : List Module). BodyMayBegin x new_known new_code (beginning place)) (sym em) (begins_there has))))
 
 -- ---- the machine of a body
 
-module _ (modules : List Module) (known : List Known) (code : Code) (b : Beginning) (h : MayBegin modules known code b) where
+module _ (modules : List Module) (known : List Known) (code : Code) (b : Beginning) (h : BodyMayBegin modules known code b) where
   alone : take (length modules) code ≡ code
   alone = ap (λ n. take n code) (sym (code_many modules modules known code 0 h.compiled.each)) ∙ take_all code
 

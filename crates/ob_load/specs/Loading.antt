@@ -34,7 +34,7 @@ pub record HasLoaded (modules : List Module) (known : List Known) (number : ℕ)
 
 -- The body of a module may begin: the modules, what is known of them and their code go together, its code may run, and there
 -- are the cells of all variables twice, the modules' names, and room for what the body begins with.
-pub record MayBegin (modules : List Module) (known : List Known) (code : Code) (b : Beginning) : Type 0 where
+pub record BodyMayBegin (modules : List Module) (known : List Known) (code : Code) (b : Beginning) : Type 0 where
   pub compiled : AreCompiled modules known code
   pub runs : (n : ℕ) → runs_of b.runs.items n ≡ runs_in modules n
   pub row : length b.cells.items ≡ all_cells code

@@ -5,7 +5,7 @@ ghost use Rattle.ob_fit.specs.Solid.{ExportsSolid};
 ghost use Rattle.ob_gen.specs.whole.Generated.{IsGenerated};
 ghost use Rattle.ob_linked.specs.Compiled.{AllFound};
 ghost use Rattle.ob_load.specs.Kept.{AllSolid};
-ghost use Rattle.ob_load.specs.Loading.{MayBegin, begun_in};
+ghost use Rattle.ob_load.specs.Loading.{BodyMayBegin, begun_in};
 ghost use Rattle.ob_mean.specs.whole.WellFormed.{IsFaceOf, IsWellFormed};
 ghost use Rattle.ob_session.specs.Session.{installed, name_of, place_of};
 ghost use Rattle.ob_store.specs.Stores.{session_of};
@@ -40,7 +40,7 @@ fn begin(
     code: Vec<LinkedModule>,
     beginning: Beginning,
 ) -> Machine
-    requires may { MayBegin modules known.items code.items beginning }
+    requires may { BodyMayBegin modules known.items code.items beginning }
     requires solid { AllSolid modules }
     ensures { result ≡ begun_in (session_of modules beginning.opening.items) (Task.Body beginning.number) }
 {

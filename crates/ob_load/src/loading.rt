@@ -5,7 +5,7 @@ ghost use Rattle.ob_code.specs.whole.Linked.{all_cells, runs_of};
 ghost use Rattle.ob_gen.specs.whole.Generated.{IsGenerated};
 ghost use Rattle.ob_linked.specs.Compiled.{runs_in, AllFound, AreCompiledFrom, FacesAgree, Known};
 ghost use Rattle.ob_linked.specs.Compiled as linked;
-ghost use Rattle.ob_load.specs.Loading.{HasLoaded, IsPrepared, MayBegin, put_back_at};
+ghost use Rattle.ob_load.specs.Loading.{HasLoaded, IsPrepared, BodyMayBegin, put_back_at};
 ghost use Rattle.ob_mean.specs.whole.WellFormed.{IsFaceOf, IsWellFormed};
 ghost use Rattle.ob_session.specs.Session.{name_of, place_of, with_module};
 ghost use Rattle.ob_store.specs.Stores as stores;
@@ -166,7 +166,7 @@ pub(crate) fn load(
     requires face { IsFaceOf compiled.faces.face compiled.added.tree }
     requires found { AllFound modules.old compiled.added.imports }
     ensures modules { OnOk result (modules.new ≡ with_module modules.old compiled.added) }
-    ensures may { IfOk result (λ b. MayBegin modules.new known.new.items code.new.items b) }
+    ensures may { IfOk result (λ b. BodyMayBegin modules.new known.new.items code.new.items b) }
     ensures opening { IfOk result (λ b. b.opening.items ≡ stores.loaded_cells modules.old compiled.added cells.now) }
     ensures number { IfOk result (λ b. b.number ≡ place_of modules.old (name_of compiled.added)) }
     ensures err { OnErr result ((modules.new ≡ modules.old) × ((known.new.items ≡ known.old.items) × (code.new.items ≡ code.old.items))) }
