@@ -1,7 +1,6 @@
 -- Expressions, variables that are written, and actual parameters (Wirth, The Programming Language Oberon, Oberon-07). The
 -- number says how many more constructs may nest. The variables of the module grow by the strings that are passed and compared, from left to right.
-use Rattle.std.specs.Prelude.{ℕ, zero, suc, pos, List, [], ◌∷◌, ◌++◌, Bool, true, false, Option, Some, None, is_some}
-use Rattle.ob_base.specs.declared.fault.Code.{Code}
+use Rattle.std.specs.Prelude.{ℕ, zero, suc, List, [], ◌∷◌, ◌++◌, Option, Some, None, is_some}
 use Rattle.ob_base.specs.declared.fault.Code.TheVariants as code
 use Rattle.ob_scan.specs.declared.token.Span.{Span}
 use Rattle.ob_parse.specs.declared.tree.Sign.{Sign}
@@ -19,13 +18,11 @@ use Rattle.ob_parse.specs.FirstToken.{first_of}
 use Rattle.ob_types.specs.declared.exports.Formal.{Formal}
 use Rattle.ob_types.specs.declared.exports.FormalKind.{FormalKind}
 use Rattle.ob_types.specs.declared.exports.FormalKind.TheVariants as kind
-use Rattle.ob_types.specs.declared.exports.Signature.{Signature}
 use Rattle.ob_types.specs.declared.structure.Basic.{Basic}
 use Rattle.ob_types.specs.declared.structure.Basic.TheVariants as basic
 use Rattle.ob_types.specs.declared.structure.ObType.{ObType}
 use Rattle.ob_mean.specs.declared.whole.expression.Argument.{Argument}
 use Rattle.ob_mean.specs.declared.whole.expression.Callee.{Callee}
-use Rattle.ob_mean.specs.declared.whole.expression.Designator.{Designator}
 use Rattle.ob_mean.specs.declared.whole.expression.Designator.TheVariants as designator
 use Rattle.ob_mean.specs.declared.whole.expression.TypedExpr.{TypedExpr}
 use Rattle.ob_mean.specs.declared.whole.expression.TypedExpr.TheVariants as typed
@@ -33,7 +30,7 @@ use Rattle.ob_declare.specs.declared.predeclared.Function.{Function}
 use Rattle.ob_declare.specs.declared.scope.Scope.{Scope}
 use Rattle.ob_declare.specs.Constants.{FactorLayer}
 use Rattle.ob_declare.specs.Imports.{Modules}
-use Rattle.ob_declare.specs.Rule.{Rule, Given, Breaks, Then, Needs, there, through}
+use Rattle.ob_declare.specs.Rule.{Rule, Given, Breaks, Then, there, through}
 use Rattle.ob_express.specs.declared.operand.Operand.{Operand}
 use Rattle.ob_express.specs.declared.operand.Operand.TheVariants as operand
 use Rattle.ob_express.specs.declared.joining.Joined.{Joined}

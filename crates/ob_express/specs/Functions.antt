@@ -1,11 +1,10 @@
 -- The functions that are declared before any module (Wirth, The Programming Language Oberon, Oberon-07).
-use Rattle.std.specs.Prelude.{ℕ, List, [], ◌∷◌, Bool, true, false, Option, Some, None, option_map, if◌then◌else◌}
+use Rattle.std.specs.Prelude.{ℕ, [], ◌∷◌, Bool, true, false, Option, Some, None, option_map, if◌then◌else◌}
 use Rattle.ob_base.specs.declared.fault.Code.TheVariants as code
 use Rattle.ob_types.specs.declared.structure.Basic.{Basic}
 use Rattle.ob_types.specs.declared.structure.Basic.TheVariants as basic
 use Rattle.ob_types.specs.declared.structure.ObType.{ObType, out-ObType}
 use Rattle.ob_types.specs.declared.structure.ObType.TheOpen.{ObType-F}
-use Rattle.ob_mean.specs.declared.whole.expression.Designator.{Designator}
 use Rattle.ob_mean.specs.declared.whole.expression.TypedExpr.{TypedExpr}
 use Rattle.ob_mean.specs.declared.whole.expression.TypedExpr.TheVariants as typed
 use Rattle.ob_mean.specs.declared.whole.operator.Operator.{Operator}
@@ -14,7 +13,7 @@ use Rattle.ob_mean.specs.declared.whole.operator.UnaryOperator.{UnaryOperator}
 use Rattle.ob_mean.specs.declared.whole.operator.UnaryOperator.TheVariants as one
 use Rattle.ob_declare.specs.declared.predeclared.Function.{Function}
 use Rattle.ob_declare.specs.declared.predeclared.Function.TheVariants as function
-use Rattle.ob_declare.specs.Rule.{Rule, Given, Breaks, Then, Needs, there}
+use Rattle.ob_declare.specs.Rule.{Rule, Given, Then, there}
 use Rattle.ob_express.specs.declared.operand.Operand.{Operand}
 use Rattle.ob_express.specs.declared.operand.Operand.TheVariants as operand
 use Rattle.ob_express.specs.Operands.{TypeLayer, number_of, only_character}

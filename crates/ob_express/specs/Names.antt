@@ -8,7 +8,6 @@ use Rattle.ob_parse.specs.declared.tree.Selector.{Selector, out-Selector}
 use Rattle.ob_parse.specs.declared.tree.Factor.TheOpen.{Selector-F}
 use Rattle.ob_types.specs.declared.exports.Object.{Object}
 use Rattle.ob_types.specs.declared.exports.Object.TheVariants as object
-use Rattle.ob_types.specs.declared.structure.ObType.{ObType}
 use Rattle.ob_mean.specs.declared.whole.expression.Callee.TheVariants as callee
 use Rattle.ob_mean.specs.declared.whole.expression.Variable.TheVariants as variable
 use Rattle.ob_declare.specs.declared.block.Entry.{Entry}

@@ -1,6 +1,5 @@
 -- Operands: values of basic type, strings, and structured things (Wirth, The Programming Language Oberon, Oberon-07).
 use Rattle.std.specs.Prelude.{ℕ, ℤ, pos, ◌+◌, List, [], ◌∷◌, ◌++◌, length, Bool, true, false, Option, Some, None}
-use Rattle.ob_base.specs.declared.fault.Code.{Code}
 use Rattle.ob_base.specs.declared.fault.Code.TheVariants as code
 use Rattle.ob_types.specs.declared.exports.Constant.{Constant}
 use Rattle.ob_types.specs.declared.exports.Constant.TheVariants as constant
@@ -10,7 +9,6 @@ use Rattle.ob_types.specs.declared.structure.Field.{Field}
 use Rattle.ob_types.specs.declared.structure.RecordType.{RecordType}
 use Rattle.ob_types.specs.declared.structure.ObType.{ObType, out-ObType}
 use Rattle.ob_types.specs.declared.structure.ObType.TheOpen.{ObType-F}
-use Rattle.ob_types.specs.declared.structure.ObType.TheVariants.{Basic as OfBasic, Array, Open, Record}
 use Rattle.ob_types.specs.Types.{is_char}
 use Rattle.ob_mean.specs.declared.whole.expression.Designator.{Designator}
 use Rattle.ob_mean.specs.declared.whole.expression.Designator.TheVariants as designator
@@ -20,7 +18,7 @@ use Rattle.ob_mean.specs.declared.whole.expression.Variable.TheVariants as varia
 use Rattle.ob_mean.specs.declared.whole.module.ModuleVariable.{ModuleVariable}
 use Rattle.ob_mean.specs.declared.whole.module.ModuleVariable.TheVariants as module_variable
 use Rattle.ob_mean.specs.declared.whole.operator.UnaryOperator.TheVariants as one
-use Rattle.ob_declare.specs.Rule.{Rule, Given, Breaks, Then, Needs, there}
+use Rattle.ob_declare.specs.Rule.{Rule, Given, Breaks, Needs}
 use Rattle.ob_express.specs.declared.operand.Operand.{Operand}
 use Rattle.ob_express.specs.declared.operand.Operand.TheVariants as operand
 

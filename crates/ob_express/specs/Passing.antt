@@ -1,7 +1,7 @@
 -- What is passed to parameters (Wirth, The Programming Language Oberon, Oberon-07). A VAR parameter takes a variable that may
 -- be written, of the same type; a structured value a variable of the same type or a string; an open array any array of the
 -- same element.
-use Rattle.std.specs.Prelude.{ℕ, suc, ◌+◌, List, [], ◌∷◌, length, Bool, true, false, Option, Some, None, nat_lt, if◌then◌else◌}
+use Rattle.std.specs.Prelude.{ℕ, ◌+◌, List, length, Bool, false, Option, Some, None, nat_lt, if◌then◌else◌}
 use Rattle.ob_base.specs.declared.fault.Code.TheVariants as code
 use Rattle.ob_types.specs.declared.structure.ObType.{ObType, out-ObType}
 use Rattle.ob_types.specs.declared.structure.ObType.TheOpen.{ObType-F}

@@ -1,6 +1,6 @@
 -- Relations (Wirth, The Programming Language Oberon, Oberon-07): of numbers, of characters, of truth values by `=` and `#`,
 -- and of texts, which are strings and arrays of CHAR.
-use Rattle.std.specs.Prelude.{ℕ, List, [], ◌∷◌, Bool, true, false, ◌&&◌, Option, Some, None}
+use Rattle.std.specs.Prelude.{ℕ, [], ◌∷◌, Bool, true, false, ◌&&◌}
 use Rattle.ob_base.specs.declared.fault.Code.TheVariants as code
 use Rattle.ob_parse.specs.declared.tree.Relation.{Relation as Written}
 use Rattle.ob_parse.specs.declared.tree.Relation.TheVariants as written
