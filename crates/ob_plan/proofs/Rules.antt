@@ -21,7 +21,7 @@ use Rattle.ob_fit.specs.Fitting as fit
 use Rattle.ob_fit.specs.Solid.{EachSolid}
 use Rattle.ob_session.specs.Session.{Module, Import, name_of, find_module, link_fault}
 use Rattle.ob_session.specs.Cells.{OfModule}
-use Rattle.ob_compile.specs.Ready.{AllLoaded}
+use Rattle.ob_compile.specs.Compilable.{AreFacesOf}
 use Rattle.ob_meaning.specs.Texts as meaning
 use Rattle.ob_linked.specs.Compiled.{AllFound}
 use Rattle.ob_link.specs.Looking.{in_store}
@@ -61,6 +61,16 @@ same_face all (m ∷ ms) own name =
 one_more : (o : Option Face) (rest : List Face) (row : List (Option Face)) → IsSome o → row ≡ map Some rest → o ∷ row ≡ map Some (fit.with_face o ++ rest)
 one_more None rest row some e = absurd (let f : false ≡ true = some in cc)
 one_more (Some face) rest row some e = ap (λ (l : List (Option Face)). Some face ∷ l) e
+
+-- a module of each import's name is loaded
+abbrev pub AllLoaded : Loaded → List Imported → Type 0
+AllLoaded ms [] = Unit {0}
+AllLoaded ms (i ∷ is) = IsSome (fit.face_named ms i.name) × AllLoaded ms is
+
+pub all_loaded : (ms : Loaded) (is : List Imported) (faces : List Face) → AreFacesOf ms is faces → AllLoaded ms is
+all_loaded ms [] faces h = tt
+all_loaded ms (i ∷ is) [] h = absurd h
+all_loaded ms (i ∷ is) (face ∷ faces) h = (ap is_some h.0, all_loaded ms is faces h.1)
 
 pub same_faces : (all ms : List Module) (own : List ℕ) (is : List Imported) → AllLoaded (map (meaning.loaded_as all own) ms) is → map (λ (i : Import). face_named ms i.name) (map meaning.import_of is) ≡ map Some (fit.faces_of (map (meaning.loaded_as all own) ms) is)
 same_faces all ms own [] h = refl

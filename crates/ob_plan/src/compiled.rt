@@ -2,7 +2,7 @@
 
 ghost use Rattle.std.specs.Prelude.{◌≡◌, map, IfOk};
 ghost use Rattle.ob_fit.specs.Fitting as fit;
-ghost use Rattle.ob_compile.specs.Ready.{IsReady};
+ghost use Rattle.ob_compile.specs.Compilable.{IsCompilable};
 ghost use Rattle.ob_meaning.specs.Texts as meaning;
 ghost use Rattle.ob_plan.specs.Planned.{IsCompiled};
 
@@ -53,7 +53,7 @@ pub fn compiled(
     checked: Checked,
     imports: Items<KeyedImport>,
 ) -> Result<Planned, AllocError>
-    requires ready { IsReady loaded.now checked }
+    requires ready { IsCompilable loaded.now checked }
     requires imports { imports ≡ map meaning.import_of checked.imports }
     ensures same { IfOk result (λ p. p.module ≡ meaning.module_of checked) }
     ensures compiled { IfOk result (λ p. IsCompiled p) }

@@ -5,9 +5,9 @@ use Rattle.ob_check.specs.Modules.{module_at}
 use Rattle.ob_fit.specs.Solid.{EachSolid}
 use Rattle.ob_session.specs.Session.{Module, link_fault}
 use Rattle.ob_session.specs.Cells.{OfModule}
-use Rattle.ob_compile.proofs.Checked.{each_ready}
+use Rattle.ob_compile.proofs.Checked.{each_compilable}
 use Rattle.ob_meaning.specs.Texts as meaning
-use Rattle.ob_plan.proofs.Rules.{answered, each_solid, err_found, same_faults, left_out_faults, loadable, memory_faults, memory_found, rules_faults}
+use Rattle.ob_plan.proofs.Rules.{all_loaded, answered, each_solid, err_found, same_faults, left_out_faults, loadable, memory_faults, memory_found, rules_faults}
 use Rattle.ob_plan.proofs.module.module_plan.Goals as goal
 
 pub returns-then-imports_in-clause-faults : goal.returns-then-imports_in-clause-faults
@@ -62,7 +62,7 @@ pub compiled-requires-clause-ready : goal.compiled-requires-clause-ready
 compiled-requires-clause-ready c =
     let modules = c.args.modules.now in
     let m = c.args.tree.now in
-    each_ready c.in_ok-loaded.loaded m c.in_ok-checked.checked (subst EachSolid (sym c.in_ok-loaded.ensures) (each_solid modules modules m.name.name c.requires.solid)) c.in_ok-checked.ensures.found
+    each_compilable c.in_ok-loaded.loaded m c.in_ok-checked.checked (subst EachSolid (sym c.in_ok-loaded.ensures) (each_solid modules modules m.name.name c.requires.solid)) c.in_ok-checked.ensures.found
 
 pub compiled-requires-clause-imports : goal.compiled-requires-clause-imports
 compiled-requires-clause-imports c = c.in_ok-imports.ensures ∙ ap (map meaning.import_of) c.imports.ensures
@@ -81,9 +81,9 @@ returns-clause-found c = λ store.
     let checked = c.in_ok-checked.checked in
     let planned = c.in_ok-planned-in-None in
     let rules_give = subst (λ (ms : Loaded). gives (module_at ms m) checked) c.in_ok-loaded.ensures c.in_ok-checked.ensures.found in
-    let ready = each_ready loaded m checked (subst EachSolid (sym c.in_ok-loaded.ensures) (each_solid modules modules m.name.name c.requires.solid)) c.in_ok-checked.ensures.found in
+    let ready = each_compilable loaded m checked (subst EachSolid (sym c.in_ok-loaded.ensures) (each_solid modules modules m.name.name c.requires.solid)) c.in_ok-checked.ensures.found in
     let keyed = c.as_slice-2.ensures ∙ c.in_ok-imports.ensures ∙ ap (map meaning.import_of) c.imports.ensures in
     let links = ap (link_fault modules) (sym keyed) ∙ sym c.in_ok-name.ensures ∙ c.in-None.is in (
       answered modules store m checked (search rules) rules_give ∙ ap (λ (x : Module). Ok (OfModule x)) (sym planned.ensures.same),
-      loadable modules m.name.name loaded checked planned.planned c.in_ok-loaded.ensures ready.loaded planned.ensures.same planned.ensures.compiled planned.ensures.faces links,
+      loadable modules m.name.name loaded checked planned.planned c.in_ok-loaded.ensures (all_loaded loaded checked.imports _ ready.known) planned.ensures.same planned.ensures.compiled planned.ensures.faces links,
     )
