@@ -103,7 +103,7 @@ module _ (modules : List Module) (known : List Known) (i : vm.ImageState) (h : I
     compiled = subst (λ (x : Code). AreCompiled modules known x) (sym alone) h.compiled;
     runs = λ n lt. runs_say n ∙ others n lt;
     sized = as_many ∙ ap all_cells (sym alone);
-    solid = h.solid;
+    checkable = h.checkable;
   }
 
   module _ (behind : ℕ) (there : behind ≡ length i.code) where

@@ -22,6 +22,7 @@ use Rattle.ob_store.proofs.Loading.{each_loads_cells}
 use Rattle.ob_store.proofs.Runs.{each_may_begin}
 use Rattle.ob_image.proofs.Counted.{compiled_counts}
 use Rattle.ob_linked.specs.Compiled.{Known, AreCompiledFrom, AllFound, AreCompiled, IsReady, faces_at, runs_in, put_at, laid}
+use Rattle.ob_plan.proofs.Loads.{each_load}
 use Rattle.ob_linked.proofs.Imports.{running_at}
 use Rattle.ob_linked.proofs.Loads.{code_loads}
 use Rattle.ob_linked.proofs.MayRun.{each_may_run}
@@ -29,7 +30,7 @@ use Rattle.ob_load.specs.declared.body.Beginning.{Beginning}
 use Rattle.ob_load.specs.declared.loading.Loaded.{Loaded}
 use Rattle.ob_load.specs.declared.loading.Prepared.{Prepared}
 use Rattle.ob_load.specs.declared.task.Task.TheVariants.{Body}
-use Rattle.ob_load.specs.Kept.{AllSolid, IsHeld, IsRunning, opens}
+use Rattle.ob_load.specs.Kept.{AreCheckable, IsHeld, IsRunning, opens}
 use Rattle.ob_load.specs.Loading.{IsPrepared, HasLoaded, BodyMayBegin, put_back_at}
 use Rattle.ob_load.proofs.Machines.{begun, stands_now}
 use Rattle.ob_load.proofs.Finished.{sized_as}
@@ -116,35 +117,10 @@ code_put from [] (suc n) l x le e = absurd (omega (arith, le))
 code_put from (y ∷ xs) zero l x le e = ap (λ (z : LinkedModule). z.code) (is_some _ x e)
 code_put from (y ∷ xs) (suc n) l x le e = code_put (from + y.code.cells) xs n l x (omega (arith, le)) e
 
--- ---- exported types
+-- ---- what the checker asks
 
-abbrev Either : List Module → Module → Module → Type 0
-Either ms m x = (x ≡ m) ⊎ ((j : ℕ) × (slice_get ms j ≡ Some x))
-
-later : (y : Module) (ys : List Module) (m x : Module) → Either ys m x → Either (y ∷ ys) m x
-later y ys m x h =
-    elim h as (λ _. Either (y ∷ ys) m x) [
-      | inl p ↦ inl p
-      | inr p ↦ inr (suc p.0, p.1)
-    ]
-
-one_by : (b : Bool) (y : Module) (ys : List Module) (m : Module) (n : ℕ) (x : Module) → ((k : ℕ) → slice_get (with_module ys m) k ≡ Some x → Either ys m x) → slice_get (if b then m ∷ ys else y ∷ with_module ys m) n ≡ Some x → Either (y ∷ ys) m x
-one_by true y ys m zero x rest e = inl (sym (is_some m x e))
-one_by true y ys m (suc n) x rest e = inr (suc n, e)
-one_by false y ys m zero x rest e = inr (zero, e)
-one_by false y ys m (suc n) x rest e = later y ys m x (rest n e)
-
-one_of : (ms : List Module) (m : Module) (n : ℕ) (x : Module) → slice_get (with_module ms m) n ≡ Some x → Either ms m x
-one_of [] m zero x e = inl (sym (is_some m x e))
-one_of [] m (suc n) x e = absurd (let f : None ≡ Some x = e in cc)
-one_of (y ∷ ys) m n x e = one_by (bytes_eq (name_of y) (name_of m)) y ys m n x (λ k f. one_of ys m k x f) e
-
-pub all_solid : (ms : List Module) (m : Module) → AllSolid ms → ExportsSolid m.interface.exports → AllSolid (with_module ms m)
-all_solid ms m h s n x e =
-    elim (one_of ms m n x e) as (λ _. ExportsSolid x.interface.exports) [
-      | inl p ↦ subst (λ (y : Module). ExportsSolid y.interface.exports) (sym p) s
-      | inr p ↦ h p.0 x p.1
-    ]
+pub checkable_with : (ms : List Module) (m : Module) → AreCheckable ms → ExportsSolid m.interface.exports → AreCheckable (with_module ms m)
+checkable_with ms m h s = let so = each_load ms m in (so.solid h.0 s, so.distinct h.1)
 
 -- ---- a module that is loaded
 
@@ -227,12 +203,12 @@ module _ (modules : List Module) (known : List Known) (code : Code) (b : Beginni
       let many = code_many modules modules known code 0 h.compiled.each in
       (omega (arith, within, many), h.runs b.number ∙ h.may_run)
 
-  held : AllSolid modules → IsHeld modules known now
-  held solid = record {
+  held : AreCheckable modules → IsHeld modules known now
+  held checkable = record {
     compiled = subst (λ (c : Code). AreCompiled modules known c) (sym alone) h.compiled;
     runs = λ n _. h.runs n;
     sized = ap all_cells (sym alone);
-    solid = solid;
+    checkable = checkable;
   }
 
   abbrev before_all : vm.ImageState → Config
@@ -253,7 +229,7 @@ module _ (modules : List Module) (known : List Known) (code : Code) (b : Beginni
     pub room_in : vm.IsRoomIn i b.number b.room
     room_in = subst (λ (x : vm.ImageState). vm.IsRoomIn x b.number b.room) (sym e) h.room
 
-    pub begun_on : AllSolid modules → (run : vm.MachineState) → vm.IsOf i run → vm.machine_config i run ≡ before_all i → run.used ≡ 0 → IsHeld modules known i × IsRunning modules (store_of modules b.opening.items) (Body b.number) i run 0 false b.names.items
+    pub begun_on : AreCheckable modules → (run : vm.MachineState) → vm.IsOf i run → vm.machine_config i run ≡ before_all i → run.used ≡ 0 → IsHeld modules known i × IsRunning modules (store_of modules b.opening.items) (Body b.number) i run 0 false b.names.items
     begun_on solid run fits at none =
         let fits_now = subst (λ (x : vm.ImageState). vm.IsOf x run) e fits in
         let at_now = subst (λ (x : vm.ImageState). vm.machine_config x run ≡ before_all x) e at in (

@@ -204,7 +204,7 @@ held modules known i i' e f h = record {
   compiled = subst (λ (c : Code). AreCompiled modules known (take (length modules) c)) (sym e) h.compiled;
   runs = λ n l. ap (λ fs. runs_of fs n) f ∙ h.runs n l;
   sized = ap all_cells e ∙ h.sized ∙ ap (λ (c : Code). all_cells (take (length modules) c)) (sym e);
-  solid = h.solid;
+  checkable = h.checkable;
 }
 
 -- Before the first turn.

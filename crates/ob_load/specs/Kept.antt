@@ -1,5 +1,5 @@
 -- What ties a session, and a machine that runs in it, to their code.
-use Rattle.std.specs.Prelude.{◌≡◌, ℕ, ◌<◌, Bool, false, List, [], ◌++◌, length, map, take, Some, slice_get}
+use Rattle.std.specs.Prelude.{◌≡◌, ℕ, ◌<◌, Bool, false, List, [], ◌++◌, length, map, take}
 use Rattle.ob_mean.specs.whole.Runs.{supply}
 use Rattle.ob_mean.specs.whole.Values.{Value}
 use Rattle.ob_mean.specs.whole.Programs.{world_before}
@@ -8,7 +8,7 @@ use Rattle.ob_code.specs.whole.Machine.{Config, Going, Comes, start, picture}
 use Rattle.ob_gen.specs.whole.Correct.{Follows, MayBegin}
 use Rattle.ob_vm.specs.whole.Images.{ImageState, MachineState, IsOf, machine_config}
 use Rattle.ob_session.specs.Session.{Module, name_of, program_of}
-use Rattle.ob_fit.specs.Solid.{ExportsSolid}
+use Rattle.ob_plan.specs.Modules.{AllSolid, AllDistinct}
 use Rattle.ob_linked.specs.Compiled.{Known, AreCompiled, runs_in}
 use Rattle.ob_load.specs.declared.task.Task.{Task}
 use Rattle.ob_load.specs.Tasks.{task_meaning, task_run, home_of}
@@ -17,23 +17,24 @@ use Rattle.ob_load.specs.Tasks.{task_meaning, task_run, home_of}
 abbrev pub prefixed : List ℕ → Config → Config
 prefixed text c = record { at = c.at; stack = c.stack; names = c.names; frames = c.frames; memory = record { cells = c.memory.cells; written = text ++ c.memory.written; input = c.memory.input } }
 
--- each array of a type that is exported has elements
-abbrev pub AllSolid : List Module → Type 0
-AllSolid modules = (n : ℕ) (m : Module) → slice_get modules n ≡ Some m → ExportsSolid m.interface.exports
+-- what the checker asks of the modules that are loaded: each array of a type that they export has elements, and no two of
+-- them have one name
+abbrev pub AreCheckable : List Module → Type 0
+AreCheckable modules = AllSolid modules × AllDistinct modules
 
 -- between cells there is the code of the modules alone
 pub record IsKept (modules : List Module) (known : List Known) (i : ImageState) : Type 0 where
   pub compiled : AreCompiled modules known i.code
   pub runs : (n : ℕ) → runs_of i.may_run n ≡ runs_in modules n
   pub cells : length i.cells ≡ all_cells i.code
-  pub solid : AllSolid modules
+  pub checkable : AreCheckable modules
 
 -- behind it the code of commands may stand, which has no cells
 pub record IsHeld (modules : List Module) (known : List Known) (i : ImageState) : Type 0 where
   pub compiled : AreCompiled modules known (take (length modules) i.code)
   pub runs : (n : ℕ) → n < length modules → runs_of i.may_run n ≡ runs_in modules n
   pub sized : all_cells i.code ≡ all_cells (take (length modules) i.code)
-  pub solid : AllSolid modules
+  pub checkable : AreCheckable modules
 
 -- the output at so many turns
 abbrev pub output_at : List Module → Value → Task → ℕ → List ℕ

@@ -4,7 +4,7 @@ ghost use Rattle.std.specs.Prelude.{◌≡◌, IfOk, IfErr};
 ghost use Rattle.ob_fit.specs.Solid.{ExportsSolid};
 ghost use Rattle.ob_gen.specs.whole.Generated.{IsGenerated};
 ghost use Rattle.ob_linked.specs.Compiled.{AllFound};
-ghost use Rattle.ob_load.specs.Kept.{AllSolid};
+ghost use Rattle.ob_load.specs.Kept.{AreCheckable};
 ghost use Rattle.ob_load.specs.Loading.{BodyMayBegin, begun_in};
 ghost use Rattle.ob_mean.specs.whole.WellFormed.{IsFaceOf, IsWellFormed};
 ghost use Rattle.ob_session.specs.Session.{installed, name_of, place_of};
@@ -41,7 +41,7 @@ fn begin(
     beginning: Beginning,
 ) -> Machine
     requires may { BodyMayBegin modules known.items code.items beginning }
-    requires solid { AllSolid modules }
+    requires checkable { AreCheckable modules }
     ensures { result ≡ begun_in (session_of modules beginning.opening.items) (Task.Body beginning.number) }
 {
     let alloc = modules.alloc();

@@ -1,6 +1,7 @@
 //! What the cells of a kernel hand from each to the next.
 
 ghost use Rattle.std.specs.Prelude.{◌≡◌};
+ghost use Rattle.ob_load.specs.Kept.{AreCheckable};
 ghost use Rattle.ob_session.specs.Session.{opening};
 
 use ob_image::KnownFaces;
@@ -48,5 +49,13 @@ impl Session {
             known: Vec::new(alloc),
             image,
         }
+    }
+
+    /// The modules that are loaded. They are such as the checker asks for.
+    pub fn modules(&self) -> &Modules
+        ensures value { result.now ≡ self.now.modules }
+        ensures checkable { AreCheckable self.now.modules }
+    {
+        &self.modules
     }
 }

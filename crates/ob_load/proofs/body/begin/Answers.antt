@@ -17,4 +17,4 @@ start-run-requires-clause-room c = room_in c.args.modules c.args.known.items c.a
 pub invariant_of-result : goal.invariant_of-result
 invariant_of-result c =
     begun_on c.args.modules c.args.known.items c.args.code.items c.args.beginning c.requires.may c.of-image.result c.of-image.ensures
-    c.requires.solid c.start-run.result c.start-run.ensures.fits c.start-run.ensures.begins c.start-run.ensures.used
+    c.requires.checkable c.start-run.result c.start-run.ensures.fits c.start-run.ensures.begins c.start-run.ensures.used

@@ -86,7 +86,7 @@ invariant_of-result c =
       compiled = subst (λ (x : Code). AreCompiled c.self.inside.modules c.self.inside.known.items x) (sym (code_is_then c)) h.compiled;
       runs = λ n. ap (λ (fs : List Bool). runs_of fs n) (flags_are_then c) ∙ flags_cut c.self.inside.modules c.turns-turned.new.image.may_run h.runs n;
       cells = many_then c;
-      solid = h.solid;
+      checkable = h.checkable;
     })
 
 pub returns : goal.returns

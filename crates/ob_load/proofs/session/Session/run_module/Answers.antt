@@ -7,14 +7,14 @@ use Rattle.ob_session.specs.Session.{Session, Module, installed, name_of, place_
 use Rattle.ob_store.specs.Stores.{loaded_cells, session_of}
 use Rattle.ob_linked.specs.Compiled.{Known}
 use Rattle.ob_load.specs.declared.task.Task.TheVariants.{Body}
-use Rattle.ob_load.specs.Kept.{AllSolid, IsKept}
+use Rattle.ob_load.specs.Kept.{AreCheckable, IsKept}
 use Rattle.ob_load.specs.Loading.{begun_in}
-use Rattle.ob_load.proofs.Loaded.{all_solid, same_image, store_is}
+use Rattle.ob_load.proofs.Loaded.{checkable_with, same_image, store_is}
 use Rattle.ob_load.proofs.session.Session.run_module.Goals as goal
 
-pub begin-requires-clause-solid : goal.begin-requires-clause-solid
-begin-requires-clause-solid c =
-    subst (λ (ms : List Module). AllSolid ms) (sym c.in-Ok.ensures.modules) (all_solid c.self.inside.modules c.args.added c.self.invariant.solid c.requires.solid)
+pub begin-requires-clause-checkable : goal.begin-requires-clause-checkable
+begin-requires-clause-checkable c =
+    subst (λ (ms : List Module). AreCheckable ms) (sym c.in-Ok.ensures.modules) (checkable_with c.self.inside.modules c.args.added c.self.invariant.checkable c.requires.solid)
 
 pub of-image-requires-clause-valid : goal.of-image-requires-clause-valid
 of-image-requires-clause-valid c =
