@@ -8,6 +8,8 @@ mod checker;
 #[cfg(test)]
 mod checker_limits;
 #[cfg(test)]
+mod compile;
+#[cfg(test)]
 mod declare;
 #[cfg(test)]
 mod express;

@@ -1,0 +1,177 @@
+ghost use Rattle.ob_fit.specs.Solid.{EachSolid};
+
+use ob_base::{Boxed, Items, Refused, Text};
+use ob_check::check;
+use ob_code::whole::checked::Checked;
+use ob_compile::{compile, copy_face, face_of, faces_of, has_room, same_face};
+use ob_declare::Imports;
+use ob_mean::whole::{Face, ModuleVariable, Shape, TypedModule};
+use ob_parse::parse_text;
+use ob_parse::tree::{Cell, Module};
+use std::alloc::{AllocError, Global};
+use std::test::Fail;
+
+// ---- from a text to code
+
+/// The code of a module over these.
+#[tactic(auto, using(ob_compile::proofs::Checked::each_compilable))]
+fn code_over(alloc: Global, imports: &Imports, module: &Module) -> Result<Checked, Refused>
+    requires { EachSolid imports.now }
+{
+    let checked = check(alloc, module, imports)?;
+    let faces = faces_of(alloc, imports, checked.imports())?;
+    Ok(compile(alloc, faces.as_slice(), checked.tree())?)
+}
+
+/// The code of a module that imports another, or nothing of it.
+#[tactic(auto, using(ob_compile::proofs::Checked::each_compilable, ob_compile::proofs::Solid::stays_solid))]
+fn code_behind(alloc: Global, first: &Module, second: &Module) -> Result<Checked, Refused> {
+    let mut imports = Imports::empty(alloc);
+    let checked = check(alloc, first, &imports)?;
+    imports.add(checked.interface(), &[])?;
+    code_over(alloc, &imports, second)
+}
+
+/// How many cells and procedures the code of a module has, and how many imports it knows.
+fn counts(code: &Checked) -> (usize, usize, usize) {
+    let code = code.code();
+    (code.cells, code.procedures.len(), code.imports.len())
+}
+
+fn counts_behind(
+    alloc: Global,
+    first: &str,
+    second: &str,
+) -> Result<(usize, usize, usize), Refused> {
+    match (parse_text(alloc, first)?, parse_text(alloc, second)?) {
+        (Cell::Module(first), Cell::Module(second)) => {
+            Ok(counts(&code_behind(alloc, &first, &second)?))
+        }
+        _ => Ok((0, 0, 0)),
+    }
+}
+
+const A: &str =
+    "MODULE A; TYPE R* = RECORD i, j*: INTEGER END; VAR x*: INTEGER; r*: R; y: INTEGER; PROCEDURE P*(VAR a: ARRAY OF CHAR; i: INTEGER); BEGIN a[i] := \"x\" END P; PROCEDURE Q; END Q; PROCEDURE F*(): INTEGER; RETURN x END F; END A.";
+
+#[test]
+fn a_module_is_compiled_over_another(rt: HostRuntime) -> Result<(), Fail> {
+    let second =
+        "MODULE B; IMPORT A; VAR s: ARRAY 3 OF CHAR; i: INTEGER; PROCEDURE P; END P; BEGIN A.P(s, A.x); i := A.F() + A.r.j END B.";
+    assert_eq!(rt; counts_behind(rt.alloc(), A, second)?, (4, 2, 1));
+    assert_eq!(rt;
+        counts_behind(
+            rt.alloc(),
+            A,
+            "MODULE C; VAR i: INTEGER; BEGIN i := 1 END C."
+        )?,
+        (1, 1, 0)
+    );
+    assert_eq!(rt; counts_behind(rt.alloc(), A, A)?, (4, 4, 0));
+    Ok(())
+}
+
+// ---- faces
+
+/// The face of a module of this text.
+fn face(alloc: Global, text: &str) -> Result<Face, Refused> {
+    match parse_text(alloc, text)? {
+        Cell::Module(module) => {
+            let checked = check(alloc, &module, &Imports::empty(alloc))?;
+            Ok(face_of(alloc, checked.interface())?)
+        }
+        Cell::Commands(_) => Err(Refused::Memory),
+    }
+}
+
+/// How many variables and procedures a face has, and how many parameters the first procedure.
+fn sizes(face: &Face) -> (usize, usize, usize) {
+    let parameters = match face.procedures.as_slice().get(0) {
+        Some(heading) => heading.parameters.len(),
+        None => 0,
+    };
+    (face.variables.len(), face.procedures.len(), parameters)
+}
+
+#[test]
+fn a_face_has_what_is_exported(rt: HostRuntime) -> Result<(), Fail> {
+    assert_eq!(rt; sizes(&face(rt.alloc(), A)?), (2, 2, 2));
+    assert_eq!(rt;
+        sizes(&face(rt.alloc(), "MODULE A; VAR x: INTEGER; END A.")?),
+        (0, 0, 0)
+    );
+    Ok(())
+}
+
+fn is_copied(alloc: Global, text: &str) -> Result<bool, Refused> {
+    let face = face(alloc, text)?;
+    Ok(same_face(&face, &copy_face(alloc, &face)?))
+}
+
+fn are_same(alloc: Global, first: &str, second: &str) -> Result<bool, Refused> {
+    Ok(same_face(&face(alloc, first)?, &face(alloc, second)?))
+}
+
+#[test]
+fn faces_are_the_same_or_not(rt: HostRuntime) -> Result<(), Fail> {
+    assert!(rt; is_copied(rt.alloc(), A)?);
+    let x = "MODULE A; VAR x*: ARRAY 2 OF CHAR; END A.";
+    for (other, same) in [
+        (
+            "MODULE B; VAR z: CHAR; y*: ARRAY 2 OF INTEGER; END B.",
+            true,
+        ),
+        ("MODULE A; VAR x*: ARRAY 3 OF CHAR; END A.", false),
+        ("MODULE A; VAR x*: RECORD a, b: CHAR END; END A.", false),
+        ("MODULE A; VAR x*, y*: ARRAY 2 OF CHAR; END A.", false),
+        (
+            "MODULE A; VAR x*: ARRAY 2 OF CHAR; PROCEDURE P*; END P; END A.",
+            false,
+        ),
+        (
+            "MODULE A; VAR x*: ARRAY 2 OF CHAR; PROCEDURE P; END P; END A.",
+            true,
+        ),
+    ] {
+        assert_eq!(rt; are_same(rt.alloc(), x, other)?, same, "{other}");
+    }
+    Ok(())
+}
+
+// ---- room
+
+/// So many arrays of so many basic values.
+fn rows(alloc: Global, count: u32, length: u32) -> Result<Shape, AllocError> {
+    let row = Shape::Array(length, Boxed::new(alloc, Shape::Basic)?);
+    Ok(Shape::Array(count, Boxed::new(alloc, row)?))
+}
+
+/// Whether there is room for a module with such a variable and a basic one.
+fn has_room_for(alloc: Global, count: u32, length: u32) -> Result<bool, AllocError> {
+    let mut variables = Items::new(alloc);
+    variables.push(ModuleVariable::Declared(Shape::Basic))?;
+    variables.push(ModuleVariable::Declared(rows(alloc, count, length)?))?;
+    let tree = TypedModule {
+        name: Text::from_slice(alloc, b"A")?,
+        variables,
+        procedures: Items::new(alloc),
+        exported: Items::new(alloc),
+        body: Items::new(alloc),
+    };
+    Ok(has_room(&[], &tree))
+}
+
+#[test]
+fn cells_have_addresses_below_the_limit(rt: HostRuntime) -> Result<(), Fail> {
+    for (count, length, room) in [
+        (1, 2147483646, true),
+        (1, 2147483647, false),
+        (65536, 32767, true),
+        (65536, 32768, false),
+        (4294967295, 4294967295, false),
+        (0, 4294967295, true),
+    ] {
+        assert_eq!(rt; has_room_for(rt.alloc(), count, length)?, room);
+    }
+    Ok(())
+}
