@@ -1,4 +1,3 @@
-// Cells of one session, from their texts to what they write. `rt try --test` runs them as a crate over ob_begin; they are not proved yet.
 ghost use Rattle.std.specs.Prelude.{◌≡◌, false};
 
 use ob_begin::{Begun, Refusal, begin};
