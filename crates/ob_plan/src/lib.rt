@@ -8,7 +8,6 @@ mod compiled;
 mod laws;
 mod loaded;
 mod module;
-mod part;
 mod planned;
 
 pub use cell::plan;
