@@ -25,7 +25,7 @@ use Rattle.jk_language.specs.declared.outcome.Refusal.{Refusal}
 use Rattle.jk_language.specs.declared.outcome.Refusal.TheVariants.{Compile, Link}
 use Rattle.jk_language.specs.Parts.{Line, IsLawful, IsFed}
 use Rattle.jk_language.specs.Spoken.{IsLanguage, standing, refused_outcome}
-use Rattle.ob_text.specs.Told.{told, told_outcome, grows}
+use Rattle.ob_load.specs.Parts.{told, told_outcome, grows}
 use Rattle.ob_text.specs.Oberon.{cell, told_in, spoken_oberon, IsTreeOf, IsBroken, IsUnlinked, IsRefusedFor}
 
 -- ---- what an outcome was, by what is told of it

@@ -15,7 +15,8 @@ use Rattle.jk_language.specs.declared.outcome.Refusal.{Refusal}
 use Rattle.jk_language.specs.declared.outcome.Refusal.TheVariants.{Compile, Link}
 use Rattle.jk_language.specs.Parts.{Line, Meaning}
 use Rattle.jk_language.specs.Spoken.{Spoken, standing}
-use Rattle.ob_text.specs.Told.{told, told_fault, code_number}
+use Rattle.ob_load.specs.Parts.{told, told_fault}
+use Rattle.ob_text.specs.Codes.{code_number}
 
 -- ---- what a text comes to
 

@@ -3,6 +3,8 @@
 
 mod laws;
 mod reading;
+mod start;
 
 pub use laws::oberon_law;
 pub use reading::parse;
+pub use start::begin;

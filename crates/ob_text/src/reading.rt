@@ -3,7 +3,7 @@
 ghost use Rattle.std.specs.Prelude.{◌≡◌, IfOk, IfErr};
 ghost use Rattle.jk_language.specs.Spoken.{IsRefusal};
 ghost use Rattle.ob_session.specs.Session.{Session};
-ghost use Rattle.ob_text.specs.Told.{code_number};
+ghost use Rattle.ob_text.specs.Codes.{code_number};
 ghost use Rattle.ob_text.specs.Oberon.{spoken_oberon, IsTreeOf};
 
 use jk_language::{Fault, Refused};

@@ -1,26 +1,60 @@
-ghost use Rattle.std.specs.Prelude.{◌≡◌, false};
+ghost use Rattle.std.specs.Prelude.{◌≡◌, true, false, IfOk};
+ghost use Rattle.jk_language.specs.Runs.{tells_end, tells_line};
+ghost use Rattle.ob_load.specs.MachineState.{state_of};
 
-use ob_begin::{Begun, Refusal, begin};
-use ob_link::LinkFault;
-use ob_load::{Machine, Session, Turned};
-use ob_parse::parse_text;
+use jk_language::{Begun, Language, LinkFault, Refusal, Turned};
+use ob_language::Oberon;
+use ob_load::{Machine, Session};
 use std::alloc::{AllocError, Global};
 use std::test::Fail;
 
-// Runs a machine to its end: what it writes, and `!` with the number of a trap.
-fn ran(machine: Machine, written: &mut String) -> Result<Session, AllocError>
-    requires on { machine.over ≡ false }
-    requires fresh { machine.turns ≡ 0 }
+// A million turns, where there were few before.
+fn slice(machine: &mut Machine) -> Turned
+    requires on { (state_of machine.old).over ≡ false }
+    ensures on { tells_end result ≡ false → (state_of machine.new).over ≡ false }
+    ensures asks { tells_line result ≡ true → (state_of machine.new).asks ≡ true }
+{
+    if Oberon::used(machine) > 1_000_000_000 {
+        return Turned::Stopped;
+    }
+    Oberon::turns(machine, 1_000_000)
+}
+
+// Where a line was asked for, gives this one and goes on.
+fn given(machine: &mut Machine, turned: Turned, line: Option<&str>) -> Result<Turned, AllocError>
+    requires on { tells_end turned ≡ false → (state_of machine.old).over ≡ false }
+    requires asks { tells_line turned ≡ true → (state_of machine.old).asks ≡ true }
+    ensures on { IfOk result (λ next. tells_end next ≡ false → (state_of machine.new).over ≡ false) }
+    ensures asks { IfOk result (λ next. tells_line next ≡ true → (state_of machine.new).asks ≡ true) }
+{
+    match turned {
+        Turned::NeedsLine => {
+            Oberon::give_line(machine, line)?;
+            Ok(slice(machine))
+        }
+        other => Ok(other),
+    }
+}
+
+// Runs a machine to its end, with these lines and none behind them: what it writes, and `!` with the number of a trap.
+fn ran(machine: Machine, lines: &[&str], written: &mut String) -> Result<Session, AllocError>
+    requires on { (state_of machine).over ≡ false }
 {
     let mut machine = machine;
-    let turned = machine.turns(1_000_000);
-    written.push_str(machine.take_output().as_str())?;
+    let mut turned = slice(&mut machine);
+    for line in lines {
+        turned = given(&mut machine, turned, Some(*line))?;
+    }
+    for _ in 0..3 {
+        turned = given(&mut machine, turned, None)?;
+    }
+    written.push_str(Oberon::take_output(&mut machine).as_str())?;
     match turned {
         Turned::Ended => {}
-        Turned::Trapped(trap) => numbered(written, '!', trap.number())?,
+        Turned::Trapped(trap) => numbered(written, '!', trap.number as u64)?,
         _ => written.push('.')?,
     }
-    Ok(machine.finish())
+    Ok(Oberon::finish(machine))
 }
 
 fn numbered(written: &mut String, sign: char, number: u64) -> Result<(), AllocError> {
@@ -48,7 +82,7 @@ fn fault_number(fault: &LinkFault) -> u64 {
 // `#` with the code of a broken rule, or `?` with the number of a link fault.
 fn refused(written: &mut String, refusal: &Refusal) -> Result<(), AllocError> {
     match refusal {
-        Refusal::Compile(fault) => numbered(written, '#', fault.code as u64),
+        Refusal::Compile(fault) => numbered(written, '#', fault.number as u64),
         Refusal::Link(fault) => numbered(written, '?', fault_number(fault)),
     }
 }
@@ -58,14 +92,15 @@ fn one(
     alloc: Global,
     session: Session,
     text: &str,
+    lines: &[&str],
     written: &mut String,
 ) -> Result<Session, AllocError> {
-    let cell = match parse_text(alloc, text) {
-        Ok(cell) => cell,
+    let tree = match Oberon::parse(alloc, text) {
+        Ok(tree) => tree,
         Err(_) => return Err(AllocError),
     };
-    let after = match begin(alloc, session, &cell) {
-        Ok(Begun::Runs(machine)) => ran(machine, written)?,
+    let after = match Oberon::begin(alloc, session, &tree) {
+        Ok(Begun::Runs(machine)) => ran(machine, lines, written)?,
         Ok(Begun::Refused(back, refusal)) => {
             refused(written, &refusal)?;
             back
@@ -76,14 +111,18 @@ fn one(
     Ok(after)
 }
 
-// Cells of one session, one after the other.
-fn cells(alloc: Global, texts: &[&str]) -> Result<String, AllocError> {
-    let mut session = Session::new(alloc);
+// Cells of one session, one after the other, each with these lines.
+fn cells_with(alloc: Global, texts: &[&str], lines: &[&str]) -> Result<String, AllocError> {
+    let mut session = Oberon::opening(alloc);
     let mut written = String::new(alloc);
     for text in texts {
-        session = one(alloc, session, text, &mut written)?;
+        session = one(alloc, session, text, lines, &mut written)?;
     }
     Ok(written)
+}
+
+fn cells(alloc: Global, texts: &[&str]) -> Result<String, AllocError> {
+    cells_with(alloc, texts, &[])
 }
 
 #[test]
@@ -167,10 +206,24 @@ fn what_does_not_link_or_check(rt: HostRuntime) -> Result<(), Fail> {
             "Out.Ln",
             "MODULE N; IMPORT M; END N.",
             "MODULE A; BEGIN x := 1 END A.",
-            "MODULE J; IMPORT In; END J.",
+            "MODULE J; IMPORT In; BEGIN x := 1 END J.",
             "",
         ],
     )?;
-    assert_eq!(rt; written.as_str(), "||?31|?31|#17|#10|#21||");
+    assert_eq!(rt; written.as_str(), "||?31|?31|#17|#10|#10||");
+    Ok(())
+}
+
+const READER: &str =
+    "MODULE J; IMPORT In, Out; VAR x, y: INTEGER; BEGIN y := 5; In.Int(x); In.Int(y); Out.Int(x - y, 0); IF In.Done THEN Out.Char(\"!\") END END J.";
+
+#[test]
+fn lines_are_read(rt: HostRuntime) -> Result<(), Fail> {
+    let two = cells_with(rt.alloc(), &[READER, READER], &["40", "-2 7"])?;
+    assert_eq!(rt; two.as_str(), "42!|42!|");
+    let one = cells_with(rt.alloc(), &[READER], &["", "40"])?;
+    assert_eq!(rt; one.as_str(), "35|");
+    let none = cells(rt.alloc(), &[READER])?;
+    assert_eq!(rt; none.as_str(), "-5|");
     Ok(())
 }
