@@ -11,7 +11,8 @@ use Rattle.ob_check.specs.declared.checked.Imported.{Imported}
 use Rattle.ob_check.specs.CheckedTree.{CheckedTree}
 use Rattle.ob_check.specs.Modules.{module_at}
 use Rattle.ob_fit.specs.Fitting.{face_named, face_of_interface, faces_of, IsFitting}
-use Rattle.ob_fit.specs.Solid.{EachSolid, ExportsSolid}
+use Rattle.ob_types.specs.Solid.{ExportsSolid}
+use Rattle.ob_fit.specs.Solid.{EachSolid}
 
 -- each import has its face: what is known of the loaded module of its name
 abbrev pub AreFacesOf : Modules → List Imported → List Face → Type 0

@@ -2,7 +2,6 @@
 //! known of its imports.
 #![tactic(auto)]
 
-mod copies;
 mod face;
 mod imports;
 mod laws;
@@ -11,7 +10,6 @@ mod room;
 mod same;
 mod shapes;
 
-pub use copies::copy_face;
 pub use face::face_of;
 pub use imports::faces_of;
 pub use laws::{checked_law, load_law};

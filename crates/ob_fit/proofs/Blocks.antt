@@ -34,7 +34,8 @@ use Rattle.ob_check.specs.Shapes.{shape_of, parameter_of, parameters_of}
 use Rattle.ob_fit.specs.Fitting.{Suits, EntryFits, ScopeFits, StartsWith, heading_of, loaded_face}
 use Rattle.ob_fit.proofs.Grows.{part}
 use Rattle.ob_fit.proofs.Rules.{if_some, joined_none, joined_thrice, starts_reads, through_keeps}
-use Rattle.ob_fit.specs.Solid.{IsSolid, EachSolid}
+use Rattle.ob_types.specs.Solid.{IsSolid}
+use Rattle.ob_fit.specs.Solid.{EachSolid}
 use Rattle.ob_fit.proofs.Solid.{SolidEntry, SeenSolid, loaded_solid, formal_solid}
 use Rattle.ob_fit.proofs.Suiting.{never, nothing, some_same}
 

@@ -45,7 +45,7 @@ use Rattle.ob_fit.proofs.Forms.{function_fits, element_fits, element_object, fie
 use Rattle.ob_fit.proofs.Operands.{TypedFits, PassedFits, JoinedFits, number_fits, truth_fits, value_fits, constant_fits, variable_operand, operand_joined, sum_fits, product_fits, signed_fits, negated_fits, one_fits, two_fits, related_fits, variable_argument_fits, value_passed_fits}
 use Rattle.ob_fit.proofs.Read.{MeantFits, CallableFits, read_fits, written_fits, called_fits}
 use Rattle.ob_fit.proofs.Rules.{joined_none, there_is, through_keeps, joined as one_behind}
-use Rattle.ob_fit.specs.Solid.{IsSolid}
+use Rattle.ob_types.specs.Solid.{IsSolid}
 use Rattle.ob_fit.proofs.Solid.{element_solid, field_solid}
 use Rattle.ob_fit.proofs.Suiting.{elements_suit, field_suits, some_same, nothing}
 

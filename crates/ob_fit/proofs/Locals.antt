@@ -24,7 +24,8 @@ use Rattle.ob_declare.specs.Stack.{is_empty}
 use Rattle.ob_check.specs.Procedures.{own_shape, own_shapes}
 use Rattle.ob_check.specs.Shapes.{shape_of}
 use Rattle.ob_fit.specs.Fitting.{StartsWith}
-use Rattle.ob_fit.specs.Solid.{IsSolid, EachSolid}
+use Rattle.ob_types.specs.Solid.{IsSolid}
+use Rattle.ob_fit.specs.Solid.{EachSolid}
 use Rattle.ob_fit.proofs.Grows.{same}
 use Rattle.ob_fit.proofs.Solid.{SolidEntry, SeenSolid, type_solid}
 use Rattle.ob_fit.proofs.Blocks.{EachBlock, each_map, outer_of, outer_solid, seen_solid, EntryOf, EachEntry, within, each_more, own_more, own_behind, length_more}

@@ -45,7 +45,8 @@ use Rattle.ob_check.specs.Statements.{statements_at}
 use Rattle.ob_mean.specs.declared.whole.shape.Shape.{Shape}
 use Rattle.ob_mean.specs.declared.whole.face.Heading.{Heading}
 use Rattle.ob_fit.specs.Fitting.{face_of_interface, variable_shape, variable_shapes, procedure_heading, procedure_headings, StartsWith, ScopeFits, heading_of, face_of_loaded, loaded_face, with_face, face_named, faces_of, ProcedureBodiesFit, IsFitting, EachCheckedFits}
-use Rattle.ob_fit.specs.Solid.{IsSolid, EachSolid, ExportsSolid}
+use Rattle.ob_types.specs.Solid.{IsSolid, ExportsSolid}
+use Rattle.ob_fit.specs.Solid.{EachSolid}
 use Rattle.ob_fit.proofs.Solid.{SolidEntry, SeenSolid, type_solid}
 use Rattle.ob_fit.proofs.Blocks.{seen_solid, outer_solid, EntryOf, OuterOf, EachEntry, EachBlock, within, outer_of, each_more, each_map, scope_fits, length_more}
 use Rattle.ob_fit.proofs.Grows.{part, same, longer, optional_grows, statements_grow}

@@ -49,7 +49,7 @@ use Rattle.ob_check.specs.Shapes.{shape_of, parameter_of}
 use Rattle.ob_fit.specs.Fitting.{Suits, OperandFits, OperationListFits, ExprListFits, StartsWith}
 use Rattle.ob_fit.proofs.Forms.{unary_fits, chain_fits, every_fits, either_fits}
 use Rattle.ob_fit.proofs.Rules.{there_is, if_some, starts_before, starts_reads}
-use Rattle.ob_fit.specs.Solid.{IsSolid}
+use Rattle.ob_types.specs.Solid.{IsSolid}
 use Rattle.ob_fit.proofs.Solid.{array_cells}
 use Rattle.ob_fit.proofs.Suiting.{never, nothing, some_same, closed_suits, basic_suits, elements_suit, text_suits, char_basic}
 

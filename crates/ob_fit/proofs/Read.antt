@@ -33,7 +33,8 @@ use Rattle.ob_express.specs.Named as meaning
 use Rattle.ob_express.specs.Names.{input_read, output_read, object_read, member_read_layer, member_read, input_member_layer, output_member_layer, input_member, output_member, entry_read, read_at, no_variable, entry_written, written_at, predeclared_called, input_called, output_called, object_called, member_called_layer, member_called, input_call_layer, output_call_layer, input_call, output_call, entry_called, name_called, called_at}
 use Rattle.ob_check.specs.Shapes.{shape_of}
 use Rattle.ob_fit.specs.Fitting.{Suits, EntryFits, ScopeFits, loaded_face, heading_of, variable_shapes, procedure_headings}
-use Rattle.ob_fit.specs.Solid.{IsSolid, ObjectSolid, LoadedSolid}
+use Rattle.ob_types.specs.Solid.{IsSolid, ObjectSolid}
+use Rattle.ob_fit.specs.Solid.{LoadedSolid}
 use Rattle.ob_fit.proofs.Rules.{there_is}
 use Rattle.ob_fit.proofs.Solid.{object_solid}
 use Rattle.ob_fit.proofs.Suiting.{nothing, some_same}

@@ -49,7 +49,8 @@ use Rattle.ob_check.specs.Shapes.{shape_of, shapes_of}
 use Rattle.ob_mean.specs.whole.WellFormed.{Object as Object', elements_in}
 use Rattle.ob_express.specs.Functions.{is_array}
 use Rattle.ob_fit.specs.Fitting.{Suits}
-use Rattle.ob_fit.specs.Solid.{IsSolid, AreSolid, FieldsSolid, ObjectSolid, ExportsSolid, LoadedSolid, EachSolid}
+use Rattle.ob_types.specs.Solid.{IsSolid, AreSolid, FieldsSolid, ObjectSolid, ExportsSolid}
+use Rattle.ob_fit.specs.Solid.{LoadedSolid, EachSolid}
 use Rattle.ob_fit.proofs.Rules.{through_keeps, there_is}
 use Rattle.ob_fit.proofs.Suiting.{never, nothing, some_same, array_forms, seen_is, elements_suit}
 

@@ -35,7 +35,8 @@ use Rattle.ob_check.specs.declared.checked.Imported.{Imported}
 use Rattle.ob_check.specs.CheckedTree.{CheckedTree}
 use Rattle.ob_check.specs.Modules.{module_at}
 use Rattle.ob_check.specs.Shapes.{shape_of, parameters_of}
-use Rattle.ob_fit.specs.Solid.{IsSolid, LoadedSolid, ExportsSolid, EachSolid}
+use Rattle.ob_types.specs.Solid.{IsSolid, ExportsSolid}
+use Rattle.ob_fit.specs.Solid.{LoadedSolid, EachSolid}
 
 -- ---- what is known of a module by its interface
 

@@ -3,6 +3,7 @@
 #![tactic(auto)]
 
 mod agreement;
+mod copies;
 mod known;
 mod laying;
 mod module_cells;
@@ -10,6 +11,7 @@ mod opening;
 mod same;
 
 pub use agreement::agree;
+pub use copies::copy_face;
 pub use known::KnownFaces;
 pub use laying::{lay, put_at};
 pub use module_cells::bounds;

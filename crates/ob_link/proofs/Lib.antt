@@ -6,3 +6,5 @@ pub mod LookedUp
 pub mod ReachRows
 pub mod Chains
 pub mod Exchanged
+pub mod Named
+pub mod Loads

@@ -4,3 +4,4 @@ pub mod Runs
 pub mod Looking
 pub mod Reaching
 pub mod Exchange
+pub mod Modules

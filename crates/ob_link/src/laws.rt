@@ -1,6 +1,7 @@
 //! Laws of the definitions.
 
 ghost use Rattle.ob_link.specs.Exchange.{EachExchangeGoesBack};
+ghost use Rattle.ob_link.specs.Modules.{EachLoadStaysSo};
 ghost use Rattle.ob_link.specs.Reaching.{EachReachesExactly};
 ghost use Rattle.ob_link.specs.Runs.{EachImportRuns, EachRunsLinked};
 
@@ -19,4 +20,10 @@ pub fn reaching_law()
 /// An exchange that is taken back leaves the modules as they were.
 pub fn exchange_law()
     ensures { EachExchangeGoesBack }
+{}
+
+/// The types that the modules export have cells, and no two modules have one name, after one more is loaded whose exported types
+/// have cells.
+pub fn load_law()
+    ensures { EachLoadStaysSo }
 {}

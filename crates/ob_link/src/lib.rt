@@ -12,6 +12,6 @@ mod modules;
 mod reaching;
 
 pub use command::{Command, CommandName, LinkFault, Looked, Ready};
-pub use laws::{exchange_law, imports_run_law, reaching_law};
+pub use laws::{exchange_law, imports_run_law, load_law, reaching_law};
 pub use module::{KeyedImport, SessionModule};
 pub use modules::Modules;

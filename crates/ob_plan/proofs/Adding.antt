@@ -8,8 +8,9 @@ use Rattle.ob_declare.specs.Imports.{added}
 use Rattle.ob_session.specs.Session.{Import, Module, name_of, find_module}
 use Rattle.ob_link.specs.Reaching as found
 use Rattle.ob_meaning.specs.Texts as meaning
-use Rattle.ob_plan.specs.Modules.{AllDistinct}
-use Rattle.ob_plan.proofs.Named.{other_name, turned}
+use Rattle.ob_link.specs.Modules.{AllDistinct}
+use Rattle.ob_link.proofs.Named.{turned}
+use Rattle.ob_plan.proofs.Named.{other_name}
 
 -- ---- what reaches a name is what the rules have
 

@@ -1,4 +1,3 @@
 pub mod Named
-pub mod Loads
 pub mod Adding
 pub mod Rules

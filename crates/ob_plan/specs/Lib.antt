@@ -1,2 +1,2 @@
-pub mod Modules
+pub mod Part
 pub mod Planned

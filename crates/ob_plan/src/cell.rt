@@ -3,7 +3,7 @@
 ghost use Rattle.std.specs.Prelude.{IfOk, IfErr};
 ghost use Rattle.ob_mean.specs.whole.Values.{Value};
 ghost use Rattle.ob_link.specs.Looking.{in_store};
-ghost use Rattle.ob_plan.specs.Modules.{AllSolid, AllDistinct};
+ghost use Rattle.ob_link.specs.Modules.{AllSolid, AllDistinct};
 ghost use Rattle.ob_plan.specs.Planned.{IsPlanned, IsStaticRefusal};
 
 use crate::command::commands_plan;

@@ -5,11 +5,10 @@
 mod cell;
 mod command;
 mod compiled;
-mod laws;
 mod loaded;
 mod module;
+mod part;
 mod planned;
 
 pub use cell::plan;
-pub use laws::load_law;
 pub use planned::{Plan, Planned};

@@ -3,7 +3,7 @@
 ghost use Rattle.std.specs.Prelude.{◌≡◌, [], ◌∷◌, map, IfOk, if◌then◌else◌};
 ghost use Rattle.ob_declare.specs.Imports.{added};
 ghost use Rattle.ob_meaning.specs.Texts as meaning;
-ghost use Rattle.ob_plan.specs.Modules.{AllDistinct};
+ghost use Rattle.ob_link.specs.Modules.{AllDistinct};
 
 use ob_base::Text;
 use ob_declare::Imports;

@@ -4,11 +4,12 @@ ghost use Rattle.std.specs.Prelude.{IfOk, IfErr};
 ghost use Rattle.ob_parse.specs.declared.tree.Cell.TheVariants as cells;
 ghost use Rattle.ob_mean.specs.whole.Values.{Value};
 ghost use Rattle.ob_link.specs.Looking.{in_store};
-ghost use Rattle.ob_plan.specs.Modules.{AllSolid, AllDistinct};
+ghost use Rattle.ob_link.specs.Modules.{AllSolid, AllDistinct};
 ghost use Rattle.ob_plan.specs.Planned.{IsPlanned, IsStaticRefusal};
 
 use crate::compiled::{compiled, keyed_imports};
 use crate::loaded::loaded_for;
+use crate::part::{imports_in, left_out};
 use crate::planned::Plan;
 use ob_base::Refused;
 use ob_check::check;
@@ -27,6 +28,9 @@ pub fn module_plan(alloc: Global, modules: &Modules, tree: &Module) -> Result<Pl
     ensures found { IfOk result (λ plan. (store : Value) → IsPlanned (in_store modules.now store) (cells.Module tree.now) plan) }
     ensures faults { IfErr result (λ refused. (store : Value) → IsStaticRefusal (in_store modules.now store) (cells.Module tree.now) refused) }
 {
+    if imports_in(tree.imports.as_slice()) {
+        return Err(left_out());
+    }
     let loaded = loaded_for(alloc, modules, &tree.name.name)?;
     let checked = check(alloc, tree, &loaded)?;
     let imports = keyed_imports(alloc, checked.imports())?;

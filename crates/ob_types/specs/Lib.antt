@@ -1,3 +1,4 @@
 pub mod Types
 pub mod InterfaceTree
 pub mod InterfaceText
+pub mod Solid

@@ -1,6 +1,6 @@
 -- What is so of modules that were loaded one after the other, each after it was checked.
 use Rattle.std.specs.Prelude.{◌≡◌, List, [], ◌∷◌, None}
-use Rattle.ob_fit.specs.Solid.{ExportsSolid}
+use Rattle.ob_types.specs.Solid.{ExportsSolid}
 use Rattle.ob_session.specs.Session.{Module, name_of, find_module, with_module}
 
 -- the types that they export have cells

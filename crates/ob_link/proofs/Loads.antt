@@ -2,10 +2,10 @@
 use Rattle.std.proofs.Common.{◌≡◌, ℕ, false, cond, List, [], ◌∷◌, Some, None, refl, ◌∙◌, ap, subst}
 use Rattle.std.specs.Cmp.Lexicographic.{bytes_decides}
 use Rattle.std.specs.Str.{bytes_eq}
-use Rattle.ob_fit.specs.Solid.{ExportsSolid}
+use Rattle.ob_types.specs.Solid.{ExportsSolid}
 use Rattle.ob_session.specs.Session.{Module, name_of, find_module, with_module}
-use Rattle.ob_plan.specs.Modules.{AllSolid, AllDistinct, EachLoadStaysSo}
-use Rattle.ob_plan.proofs.Named.{by_test, not_found, turned}
+use Rattle.ob_link.specs.Modules.{AllSolid, AllDistinct, EachLoadStaysSo}
+use Rattle.ob_link.proofs.Named.{by_test, not_found, turned}
 
 solid_with : (ms : List Module) (m : Module) → AllSolid ms → ExportsSolid m.interface.exports → AllSolid (with_module ms m)
 solid_with [] m all one = (one, tt)

@@ -1,5 +1,5 @@
 use Rattle.std.proofs.Common.{◌≡◌, take}
-use Rattle.ob_compile.proofs.copies.copy_parameters.Given as goal
+use Rattle.ob_image.proofs.copies.copy_parameters.Given as goal
 
 abbrev pub invariant-loop-parameter : goal.invariant-loop-parameter
 invariant-loop-parameter l = l.copies ≡ take l.parameter-index l.parameters

@@ -1,5 +1,0 @@
-use Rattle.ob_plan.proofs.Loads.{each_load}
-use Rattle.ob_plan.proofs.laws.load_law.Goals as goal
-
-pub returns : goal.returns
-returns c = each_load
