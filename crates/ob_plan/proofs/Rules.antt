@@ -1,18 +1,16 @@
 -- A module by the rules, over the modules that are loaded.
-use Rattle.std.proofs.Common.{◌≡◌, ℕ, Bool, true, false, cond, not, List, [], ◌∷◌, ◌++◌, map, Option, Some, None, is_some, option_map, Result, Ok, Err, refl, sym, ◌∙◌, ap, subst, inl, inr}
+use Rattle.std.proofs.Common.{◌≡◌, ℕ, Bool, true, false, cond, List, [], ◌∷◌, ◌++◌, map, Option, Some, None, is_some, option_map, Result, Ok, Err, refl, sym, ◌∙◌, ap, subst, inl}
 use Rattle.std.specs.Prelude.{IsSome, IfOk, IfErr, IsErrAnd, ◌≢◌}
-use Rattle.std.specs.List.{list_any}
 use Rattle.std.specs.Str.{bytes_eq}
 use Rattle.ob_base.specs.declared.fault.Code.{Code}
 use Rattle.ob_base.specs.declared.fault.Refused.{Refused}
 use Rattle.ob_base.specs.declared.fault.Refused.TheVariants as refused
-use Rattle.ob_base.specs.declared.fault.Code.TheVariants as code
 use Rattle.ob_parse.specs.declared.tree.Cell.TheVariants as cells
 use Rattle.ob_parse.specs.declared.tree.Module as tree
 use Rattle.ob_mean.specs.declared.whole.face.Face.{Face}
 use Rattle.ob_mean.specs.whole.Values.{Value}
 use Rattle.ob_declare.specs.Exports.{Modules as Loaded}
-use Rattle.ob_declare.specs.Rule.{answer, gives, breaks, FaultsOnly, IsFault, ◌>>=◌}
+use Rattle.ob_declare.specs.Rule.{answer, gives, breaks, FaultsOnly, ◌>>=◌}
 use Rattle.ob_declare.proofs.Exact.{only}
 use Rattle.ob_check.specs.CheckedTree.{CheckedTree}
 use Rattle.ob_check.specs.declared.checked.Imported.{Imported}
@@ -23,25 +21,21 @@ use Rattle.ob_session.specs.Session.{Module, Import, name_of, find_module, link_
 use Rattle.ob_session.specs.Cells.{OfModule}
 use Rattle.ob_compile.specs.Compilable.{AreFacesOf}
 use Rattle.ob_meaning.specs.Texts as meaning
+use Rattle.ob_meaning.specs.Texts.{cell_rule}
 use Rattle.ob_linked.specs.Compiled.{AllFound}
 use Rattle.ob_link.specs.Looking.{in_store}
 use Rattle.ob_link.specs.Modules.{AllSolid}
-use Rattle.ob_plan.specs.Part.{names_in, cell_rule}
 use Rattle.ob_plan.specs.Planned.{face_named, IsCompiled, IsLoadable, IsStaticRefusal}
 use Rattle.ob_plan.specs.declared.planned.Planned.{Planned}
 
--- ---- what a module that is followed comes to
+-- ---- what a module comes to
 
-pub answered : (modules : List Module) (store : Value) (m : tree.Module) (checked : CheckedTree) → list_any names_in m.imports ≡ false → gives (module_at (map (meaning.loaded_as modules m.name.name) modules) m) checked → answer (cell_rule (in_store modules store) (cells.Module m)) ≡ Ok (OfModule (meaning.module_of checked))
-answered modules store m checked followed h =
-    ap (λ b. cond (not b) (Ok tt) (Err code.LeftOut) >>= (λ u. answer (meaning.cell_rule (in_store modules store) (cells.Module m)))) followed
-    ∙ ap (λ (r : Result CheckedTree Code). r >>= (λ c. Ok (OfModule (meaning.module_of c)))) (only (module_at (map (meaning.loaded_as modules m.name.name) modules) m) checked h)
+pub answered : (modules : List Module) (store : Value) (m : tree.Module) (checked : CheckedTree) → gives (module_at (map (meaning.loaded_as modules m.name.name) modules) m) checked → answer (cell_rule (in_store modules store) (cells.Module m)) ≡ Ok (OfModule (meaning.module_of checked))
+answered modules store m checked h =
+    ap (λ (r : Result CheckedTree Code). r >>= (λ c. Ok (OfModule (meaning.module_of c)))) (only (module_at (map (meaning.loaded_as modules m.name.name) modules) m) checked h)
 
-pub broken_in : (modules : List Module) (store : Value) (m : tree.Module) (fault : Code) → list_any names_in m.imports ≡ true → fault ≡ code.LeftOut → breaks (cell_rule (in_store modules store) (cells.Module m)) fault
-broken_in modules store m fault imported e = inl (inl (ap not imported, e))
-
-pub broken_rules : (modules : List Module) (store : Value) (m : tree.Module) (fault : Code) → list_any names_in m.imports ≡ false → breaks (module_at (map (meaning.loaded_as modules m.name.name) modules) m) fault → breaks (cell_rule (in_store modules store) (cells.Module m)) fault
-broken_rules modules store m fault followed h = inr (tt, (ap not followed, refl), inl h)
+broken_rules : (modules : List Module) (store : Value) (m : tree.Module) (fault : Code) → breaks (module_at (map (meaning.loaded_as modules m.name.name) modules) m) fault → breaks (cell_rule (in_store modules store) (cells.Module m)) fault
+broken_rules modules store m fault h = inl h
 
 -- ---- the loaded modules, as the rules see them
 
@@ -105,14 +99,10 @@ pub memory_faults : {A : Type 0} (modules : List Module) (m : tree.Module) (r : 
 memory_faults modules m (Ok a) h = tt
 memory_faults modules m (Err e) h = λ store. subst (IsStaticRefusal (in_store modules store) (cells.Module m)) (sym h) tt
 
-pub rules_faults : (modules : List Module) (loaded : Loaded) (m : tree.Module) (e : Refused) (store : Value) → loaded ≡ map (meaning.loaded_as modules m.name.name) modules → list_any names_in m.imports ≡ false → FaultsOnly {A = CheckedTree} (module_at loaded m) (Err e) → IsStaticRefusal (in_store modules store) (cells.Module m) e
-rules_faults modules loaded m refused.Memory store same followed h = tt
-rules_faults modules loaded m (refused.Fault fault) store same followed h =
-    broken_rules modules store m fault.code followed (subst (λ (ms : Loaded). breaks (module_at ms m) fault.code) same h.0)
-
-pub left_out_faults : (modules : List Module) (m : tree.Module) (e : Refused) (store : Value) → list_any names_in m.imports ≡ true → IsFault code.LeftOut e → IsStaticRefusal (in_store modules store) (cells.Module m) e
-left_out_faults modules m refused.Memory store imported h = absurd h
-left_out_faults modules m (refused.Fault fault) store imported h = broken_in modules store m fault.code imported h
+pub rules_faults : (modules : List Module) (loaded : Loaded) (m : tree.Module) (e : Refused) (store : Value) → loaded ≡ map (meaning.loaded_as modules m.name.name) modules → FaultsOnly {A = CheckedTree} (module_at loaded m) (Err e) → IsStaticRefusal (in_store modules store) (cells.Module m) e
+rules_faults modules loaded m refused.Memory store same h = tt
+rules_faults modules loaded m (refused.Fault fault) store same h =
+    broken_rules modules store m fault.code (subst (λ (ms : Loaded). breaks (module_at ms m) fault.code) same h.0)
 
 -- ---- a module that was compiled
 

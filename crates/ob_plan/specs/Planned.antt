@@ -12,9 +12,9 @@ use Rattle.ob_session.specs.Session.{Session, Module, Import, find_module, link_
 use Rattle.ob_session.specs.Cells as cells
 use Rattle.ob_session.specs.Cells.{Checked, OfModule, OfCommands, CommandName, all_ready}
 use Rattle.ob_gen.specs.whole.Generated.{IsGenerated}
+use Rattle.ob_meaning.specs.Texts.{cell_rule}
 use Rattle.ob_linked.specs.Compiled.{AllFound}
 use Rattle.ob_link.specs.Looking.{fault_seen}
-use Rattle.ob_plan.specs.Part.{cell_rule}
 use Rattle.ob_plan.specs.declared.planned.Plan.{Plan}
 use Rattle.ob_plan.specs.declared.planned.Plan.TheVariants as plan
 use Rattle.ob_plan.specs.declared.planned.Planned.{Planned}

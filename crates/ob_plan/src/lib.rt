@@ -7,7 +7,6 @@ mod command;
 mod compiled;
 mod loaded;
 mod module;
-mod part;
 mod planned;
 
 pub use cell::plan;

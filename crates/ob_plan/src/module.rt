@@ -9,7 +9,6 @@ ghost use Rattle.ob_plan.specs.Planned.{IsPlanned, IsStaticRefusal};
 
 use crate::compiled::{compiled, keyed_imports};
 use crate::loaded::loaded_for;
-use crate::part::{imports_in, left_out};
 use crate::planned::Plan;
 use ob_base::Refused;
 use ob_check::check;
@@ -28,9 +27,6 @@ pub fn module_plan(alloc: Global, modules: &Modules, tree: &Module) -> Result<Pl
     ensures found { IfOk result (λ plan. (store : Value) → IsPlanned (in_store modules.now store) (cells.Module tree.now) plan) }
     ensures faults { IfErr result (λ refused. (store : Value) → IsStaticRefusal (in_store modules.now store) (cells.Module tree.now) refused) }
 {
-    if imports_in(tree.imports.as_slice()) {
-        return Err(left_out());
-    }
     let loaded = loaded_for(alloc, modules, &tree.name.name)?;
     let checked = check(alloc, tree, &loaded)?;
     let imports = keyed_imports(alloc, checked.imports())?;

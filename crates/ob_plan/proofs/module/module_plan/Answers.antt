@@ -7,12 +7,8 @@ use Rattle.ob_session.specs.Session.{Module, link_fault}
 use Rattle.ob_session.specs.Cells.{OfModule}
 use Rattle.ob_compile.proofs.Checked.{each_compilable}
 use Rattle.ob_meaning.specs.Texts as meaning
-use Rattle.ob_plan.proofs.Rules.{all_loaded, answered, each_solid, err_found, same_faults, left_out_faults, loadable, memory_faults, memory_found, rules_faults}
+use Rattle.ob_plan.proofs.Rules.{all_loaded, answered, each_solid, err_found, same_faults, loadable, memory_faults, memory_found, rules_faults}
 use Rattle.ob_plan.proofs.module.module_plan.Goals as goal
-
-pub returns-then-imports_in-clause-faults : goal.returns-then-imports_in-clause-faults
-returns-then-imports_in-clause-faults c = λ store.
-    left_out_faults c.args.modules.now c.args.tree.now c.left_out.result store (search rules) c.left_out.ensures
 
 pub loaded_for-requires : goal.loaded_for-requires
 loaded_for-requires c = c.requires.distinct
@@ -29,7 +25,7 @@ returns-in_err-checked-clause-found c = err_found _ _ c.from_residual-in_err-che
 pub returns-in_err-checked-clause-faults : goal.returns-in_err-checked-clause-faults
 returns-in_err-checked-clause-faults c =
     same_faults c.args.modules.now c.args.tree.now c.in_err-checked.field-0.0 c.from_residual-in_err-checked.result c.from_residual-in_err-checked.ensures.1
-    (λ store. rules_faults c.args.modules.now c.in_ok-loaded.loaded c.args.tree.now c.in_err-checked.field-0.0 store c.in_ok-loaded.ensures (search rules) c.in_err-checked.ensures.faults)
+    (λ store. rules_faults c.args.modules.now c.in_ok-loaded.loaded c.args.tree.now c.in_err-checked.field-0.0 store c.in_ok-loaded.ensures c.in_err-checked.ensures.faults)
 
 pub returns-in_err-imports-clause-found : goal.returns-in_err-imports-clause-found
 returns-in_err-imports-clause-found c = memory_found _ c.from_residual-in_err-imports.result c.from_residual-in_err-imports.ensures.1
@@ -49,8 +45,8 @@ returns-in-Some-clause-found c = λ store.
     let m = c.args.tree.now in
     let checked = c.in_ok-checked.checked in
     let rules_give = subst (λ (ms : Loaded). gives (module_at ms m) checked) c.in_ok-loaded.ensures c.in_ok-checked.ensures.found in
-    let keyed = c.as_slice-2.ensures ∙ c.in_ok-imports.ensures ∙ ap (map meaning.import_of) c.imports.ensures in
-    (OfModule (meaning.module_of checked), answered modules store m checked (search rules) rules_give, (c.in-Some.name, ap (link_fault modules) (sym keyed) ∙ sym c.in_ok-name.ensures ∙ c.in-Some.is, refl))
+    let keyed = c.as_slice.ensures ∙ c.in_ok-imports.ensures ∙ ap (map meaning.import_of) c.imports.ensures in
+    (OfModule (meaning.module_of checked), answered modules store m checked rules_give, (c.in-Some.name, ap (link_fault modules) (sym keyed) ∙ sym c.in_ok-name.ensures ∙ c.in-Some.is, refl))
 
 pub same-checked : goal.same-checked
 same-checked c = search rules
@@ -82,8 +78,8 @@ returns-clause-found c = λ store.
     let planned = c.in_ok-planned-in-None in
     let rules_give = subst (λ (ms : Loaded). gives (module_at ms m) checked) c.in_ok-loaded.ensures c.in_ok-checked.ensures.found in
     let ready = each_compilable loaded m checked (subst EachSolid (sym c.in_ok-loaded.ensures) (each_solid modules modules m.name.name c.requires.solid)) c.in_ok-checked.ensures.found in
-    let keyed = c.as_slice-2.ensures ∙ c.in_ok-imports.ensures ∙ ap (map meaning.import_of) c.imports.ensures in
+    let keyed = c.as_slice.ensures ∙ c.in_ok-imports.ensures ∙ ap (map meaning.import_of) c.imports.ensures in
     let links = ap (link_fault modules) (sym keyed) ∙ sym c.in_ok-name.ensures ∙ c.in-None.is in (
-      answered modules store m checked (search rules) rules_give ∙ ap (λ (x : Module). Ok (OfModule x)) (sym planned.ensures.same),
+      answered modules store m checked rules_give ∙ ap (λ (x : Module). Ok (OfModule x)) (sym planned.ensures.same),
       loadable modules m.name.name loaded checked planned.planned c.in_ok-loaded.ensures (all_loaded loaded checked.imports _ ready.known) planned.ensures.same planned.ensures.compiled planned.ensures.faces links,
     )
