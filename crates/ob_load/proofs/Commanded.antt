@@ -5,19 +5,18 @@ use Rattle.std.proofs.lemmas.List.{length-map, take_at}
 use mathlib.Core.Path.{fun_ext}
 use Rattle.ob_inout.specs.Reading.{opened}
 use Rattle.ob_mean.specs.whole.Programs.{Command}
-use Rattle.ob_mean.specs.whole.Runs.{supply}
 use Rattle.ob_code.specs.declared.whole.instr.CodeModule.{CodeModule}
 use Rattle.ob_code.specs.declared.whole.instr.LinkedModule.{LinkedModule}
 use Rattle.ob_code.specs.whole.Linked.{all_cells, runs_of, IsLinked}
-use Rattle.ob_code.specs.whole.Machine.{Code, Going, start, picture}
-use Rattle.ob_code.proofs.machine.Runs.{stays}
+use Rattle.ob_code.specs.whole.Machine.{Code, start, picture}
 use Rattle.ob_gen.specs.whole.Correct.{Follows}
 use Rattle.ob_gen.specs.whole.Generated.{IsGenerated}
 use Rattle.ob_gen.proofs.machine.Places.{some_same}
 use Rattle.ob_vm.specs.whole.Images as vm
 use Rattle.ob_session.specs.Session.{Module, program_of}
 use Rattle.ob_link.specs.Runs.{may_run}
-use Rattle.ob_store.specs.Stores.{store_of, AreCellsOf}
+use Rattle.ob_store.specs.Runs.{MayBeginWith}
+use Rattle.ob_store.specs.Stores.{store_of, session_of, AreCellsOf}
 use Rattle.ob_store.proofs.Runs.{each_may_begin}
 use Rattle.ob_linked.specs.Compiled.{Known, AreCompiled, runs_in}
 use Rattle.ob_linked.specs.CommandsCode.{CommandsMayRun, IsBehind, commands_tree, runs_with}
@@ -32,13 +31,13 @@ use Rattle.ob_load.specs.declared.task.Task.TheVariants.{Commands}
 use Rattle.ob_load.specs.Kept.{IsKept, IsHeld, IsRunning, opens}
 use Rattle.ob_load.specs.Tasks.{task_meaning, home_of}
 use Rattle.ob_load.proofs.Finished.{sized_as}
-use Rattle.ob_load.proofs.Machines.{begun, stands_now}
+use Rattle.ob_load.specs.MachineState.{begun_in, stands_at}
+use Rattle.ob_load.proofs.Machines.{begun, begun_state}
 
 -- the same of equal lists
-pub ready_for : (modules : List Module) (ks known : List Known) (xs cells : List ℤ) (ds cs : List Command) (c : Calls) → ks ≡ known → xs ≡ cells → ds ≡ cs → AreReady modules ks xs ds c → AreReady modules known cells cs c
-ready_for modules ks known xs cells ds cs c e f g r =
-    subst (λ (k : List Known). AreReady modules k cells cs c) e
-    (subst (λ (x : List ℤ). AreReady modules ks x cs c) f (subst (λ (d : List Command). AreReady modules ks xs d c) g r))
+pub ready_for : (modules : List Module) (ks known : List Known) (ds cs : List Command) (longest : ℕ) (c : Calls) → ks ≡ known → ds ≡ cs → AreReady modules ks ds longest c → AreReady modules known cs longest c
+ready_for modules ks known ds cs longest c e g r =
+    subst (λ (k : List Known). AreReady modules k cs longest c) e (subst (λ (d : List Command). AreReady modules ks d longest c) g r)
 
 -- an image of equal parts
 pub image_of : (code other : Code) (flags : List Bool) (xs cells : List ℤ) → code ≡ other → xs ≡ cells → (let a : vm.ImageState = record { code = code; may_run = flags; cells = xs } in a) ≡ record { code = other; may_run = flags; cells = cells }
@@ -50,7 +49,7 @@ cells_behind : (code : Code) (l : LinkedModule) → all_cells (code ++ l ∷ [])
 cells_behind [] l = omega arith
 cells_behind (x ∷ code) l = let rest = cells_behind code l in omega (arith, rest)
 
-module _ (modules : List Module) (known : List Known) (i : vm.ImageState) (h : IsKept modules known i) (v : Vec Command Global) (c : Calls) (r : AreReady modules known i.cells v.items c) (l : LinkedModule) (code_is : l.code ≡ c.code) (imports_are : l.imports.items ≡ c.imports.items) (first_is : l.cells ≡ length i.cells) where
+module _ (modules : List Module) (known : List Known) (i : vm.ImageState) (h : IsKept modules known i) (v : Vec Command Global) (longest : ℕ) (c : Calls) (r : AreReady modules known v.items longest c) (l : LinkedModule) (code_is : l.code ≡ c.code) (imports_are : l.imports.items ≡ c.imports.items) (first_is : l.cells ≡ length i.cells) where
   abbrev pub longer : Code
   longer = i.code ++ l ∷ []
 
@@ -129,12 +128,17 @@ module _ (modules : List Module) (known : List Known) (i : vm.ImageState) (h : I
     fits_now : AreCellsOf modules i.cells
     fits_now = h.cells ∙ sized_as modules known i.code h.compiled
 
-    pub runs_now : (run : vm.MachineState) → vm.IsOf now run → vm.machine_config now run ≡ start longer behind (record { cells = i.cells; written = []; input = opened }) → run.used ≡ 0 → IsRunning modules (store_of modules c.opening.items) (Commands v) now run 0 false c.names.items
-    runs_now run fits at none =
-        let store = store_of modules i.cells in
-        let may = each_may_begin modules i.cells fits_now in
-        let place : behind ≡ length modules = there ∙ count in
-        let silent = (stands_now modules store task now follows may.may 0 _ (stays longer (Going (supply 0 []) (opens modules store task now)))).0 in
-        let begins = at ∙ ap (λ n. start longer n (record { cells = i.cells; written = []; input = opened })) place ∙ ap (start longer (length modules)) (sym may.pictured) in
-        subst (λ xs. IsRunning modules (store_of modules xs) task now run 0 false c.names.items) (sym r.opening)
-        (begun modules store task now run c.names.items fits follows may.may silent begins none r.names)
+    may : MayBeginWith modules i.cells
+    may = each_may_begin modules i.cells fits_now
+
+    module _ (run : vm.MachineState) (fits : vm.IsOf now run) (at : vm.machine_config now run ≡ start longer behind (record { cells = i.cells; written = []; input = opened })) (none : run.used ≡ 0) where
+      at_now : vm.machine_config now run ≡ opens modules (store_of modules i.cells) task now
+      at_now =
+          let place : behind ≡ length modules = there ∙ count in
+          at ∙ ap (λ n. start longer n (record { cells = i.cells; written = []; input = opened })) place ∙ ap (start longer (length modules)) (sym may.pictured)
+
+      pub runs_now : IsRunning modules (store_of modules i.cells) (Commands v) [] now run false
+      runs_now = begun modules (store_of modules i.cells) task now run fits follows may.may at_now none
+
+      pub state_now : stands_at modules (store_of modules i.cells) (Commands v) [] run false false ≡ begun_in (session_of modules i.cells) (Commands v)
+      state_now = begun_state modules (store_of modules i.cells) task now run runs_now at_now none

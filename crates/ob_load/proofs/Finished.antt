@@ -3,6 +3,7 @@ use Rattle.std.proofs.Common.{◌≡◌, ℕ, zero, suc, ◌+◌, ◌≤◌, ◌
 use mathlib.Core.Path.{fun_ext}
 use Rattle.std.specs.Prelude.{slice_index_or}
 use Rattle.std.proofs.lemmas.Option.{slice_get_past}
+use Rattle.ob_inout.specs.Reading.{Line}
 use Rattle.ob_mean.specs.declared.whole.outcome.Outcome.{Outcome}
 use Rattle.ob_mean.specs.declared.whole.outcome.Outcome.TheVariants as why
 use Rattle.ob_mean.specs.whole.Values.{Value, image, size}
@@ -69,23 +70,23 @@ valid_by modules known code flags h e = subst (λ (f : ℕ → Bool). vm.AreVali
 -- ---- the variables that stay
 
 -- in no turns it stands somewhere
-stands_in_none : (code : Code) (c d : Config) (turned : Turned) (k : ℕ) → SliceDone code c d 0 turned k → (k ≡ 0) × ((o : Outcome) × StandsIn code k c d o)
+pub stands_in_none : (code : Code) (c d : Config) (turned : Turned) (k : ℕ) → SliceDone code c d 0 turned k → (k ≡ 0) × ((o : Outcome) × StandsIn code k c d o)
 stands_in_none code c d slice.Ended k h = (omega (arith, h.0), (why.Ended, h.1))
 stands_in_none code c d (slice.Trapped kind home line) k h = (omega (arith, h.0), (why.Trapped kind home line, h.1))
 stands_in_none code c d slice.Stopped k h = (h.0, (why.Stopped h.1.0, h.1.1))
 stands_in_none code c d slice.NeedsLine k h = (omega (arith, h.0), (why.NeedsLine, h.1))
 stands_in_none code c d slice.NoMemory k h = absurd (omega (arith, h.0))
 
-module _ (modules : List Module) (known : List Known) (store : Value) (task : Task) (i i' : vm.ImageState) (m m' : vm.MachineState) (shown : ℕ) (over : Bool) (names : List (List ℕ)) (h : IsHeld modules known i) (r : IsRunning modules store task i m shown over names) (turned : Turned) (k : ℕ) (done : SliceDone i.code (vm.machine_config i m) (vm.machine_config i' m') 0 turned k) where
-  pub leaves : record { modules = modules; store = store_of modules (take (all_cells i.code) i'.cells) } ≡ (task_run modules store task [] m.used).session
+module _ (modules : List Module) (known : List Known) (store : Value) (task : Task) (lines : List Line) (i i' : vm.ImageState) (m m' : vm.MachineState) (asks : Bool) (h : IsHeld modules known i) (r : IsRunning modules store task lines i m asks) (turned : Turned) (k : ℕ) (used : m'.used ≡ m.used + k) (done : SliceDone i.code (vm.machine_config i m) (vm.machine_config i' m') 0 turned k) where
+  pub leaves : record { modules = modules; store = store_of modules (take (all_cells i.code) i'.cells) } ≡ (task_run modules store task lines m.used).session
   leaves =
       let s = stands_in_none i.code _ _ turned k done in
-      let x = comes_to modules store task i i' m m' shown over names r k s.1.0 s.1.1 in
-      let g = meant modules store task i r.follows r.begins (m.used + k) s.1.0 (supply 0 []) _ x in
-      let stays = r.follows.stays (supply (m.used + k) []) _ r.begins s.1.0 (supply 0 []) g.world g.raw in
+      let x = comes_to modules store task lines i i' m m' asks r k used s.1.0 s.1.1 in
+      let g = meant modules store task lines i r.follows r.begins (m.used + k) s.1.0 (supply 0 []) _ x in
+      let stays = r.follows.stays (supply (m.used + k) lines) _ r.begins s.1.0 (supply 0 []) g.world g.raw in
       let cells : i'.cells ≡ image g.world.store = ap (λ (w : Memory). w.cells) g.same in
       let many : all_cells i.code ≡ size (opening_store (program_of modules)) = h.sized ∙ sized_as modules known (take (length modules) i.code) h.compiled in
       let whole : m.used + k ≡ m.used = omega (arith, s.0) in
       ap (λ (v : Value). let t : Session = record { modules = modules; store = v } in t) (ap (store_of modules) (ap (λ xs. take (all_cells i.code) xs) cells ∙ ap (λ n. take n (image g.world.store)) many) ∙ sym (each_keeps_cells modules g.world.store stays).store)
       ∙ sym (ap (λ (y : CellMeaning). y.session) g.is)
-      ∙ ap (λ n. (task_run modules store task [] n).session) whole
+      ∙ ap (λ n. (task_run modules store task lines n).session) whole

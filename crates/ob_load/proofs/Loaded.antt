@@ -1,38 +1,39 @@
 -- A module that is loaded, and the machine of its body.
-use Rattle.std.proofs.Common.{◌≡◌, ◌⊎◌, inl, inr, ℕ, zero, suc, ◌+◌, ◌≤◌, ◌<◌, ℤ, Bool, true, false, if◌then◌else◌, List, [], ◌∷◌, length, take, Option, Some, None, refl, sym, ap, ◌∙◌, subst, arith}
+use Rattle.std.proofs.Common.{◌≡◌, ℕ, zero, suc, ◌+◌, ◌≤◌, ◌<◌, ℤ, Bool, true, false, if◌then◌else◌, List, [], ◌∷◌, length, take, Option, Some, None, refl, sym, ap, ◌∙◌, subst, arith, Vec, Global}
 use Rattle.std.specs.Prelude.{slice_get}
 use Rattle.std.specs.Str.{bytes_eq}
 use Rattle.ob_mean.specs.whole.Values.{before, item, size}
-use Rattle.ob_mean.specs.whole.Runs.{supply}
 use Rattle.ob_mean.specs.whole.WellFormed.{IsFaceOf, IsWellFormed}
 use Rattle.ob_mean.specs.whole.Programs.{opening_store, world_before}
 use Rattle.ob_code.specs.declared.whole.instr.CodeModule.{CodeModule}
 use Rattle.ob_code.specs.declared.whole.instr.LinkedModule.{LinkedModule}
 use Rattle.ob_code.specs.whole.Linked.{all_cells}
-use Rattle.ob_code.specs.whole.Machine.{Code, Config, Going, start}
-use Rattle.ob_code.proofs.machine.Runs.{stays}
+use Rattle.ob_code.specs.whole.Machine.{Code, Config, start}
 use Rattle.ob_gen.specs.whole.Generated.{IsGenerated}
 use Rattle.ob_gen.proofs.machine.Behaves.{body_behaves}
 use Rattle.ob_gen.proofs.machine.Store.{before-within}
 use Rattle.ob_vm.specs.whole.Images as vm
-use Rattle.ob_fit.specs.Solid.{ExportsSolid}
+use Rattle.ob_types.specs.Solid.{ExportsSolid}
 use Rattle.ob_session.specs.Session.{Module, name_of, place_of, with_module, installed, program_of}
+use Rattle.ob_session.specs.Cells.{name_in}
 use Rattle.ob_store.specs.Stores.{store_of, loaded_cells, session_of}
+use Rattle.ob_store.specs.Runs.{MayBeginWith}
 use Rattle.ob_store.proofs.Loading.{each_loads_cells}
 use Rattle.ob_store.proofs.Runs.{each_may_begin}
 use Rattle.ob_image.proofs.Counted.{compiled_counts}
 use Rattle.ob_linked.specs.Compiled.{Known, AreCompiledFrom, AllFound, AreCompiled, IsReady, faces_at, runs_in, put_at, laid}
-use Rattle.ob_plan.proofs.Loads.{each_load}
+use Rattle.ob_link.proofs.Loads.{each_load}
 use Rattle.ob_linked.proofs.Imports.{running_at}
 use Rattle.ob_linked.proofs.Loads.{code_loads}
 use Rattle.ob_linked.proofs.MayRun.{each_may_run}
 use Rattle.ob_load.specs.declared.body.Beginning.{Beginning}
-use Rattle.ob_load.specs.declared.loading.Loaded.{Loaded}
 use Rattle.ob_load.specs.declared.loading.Prepared.{Prepared}
 use Rattle.ob_load.specs.declared.task.Task.TheVariants.{Body}
 use Rattle.ob_load.specs.Kept.{AreCheckable, IsHeld, IsRunning, opens}
 use Rattle.ob_load.specs.Loading.{IsPrepared, HasLoaded, BodyMayBegin, put_back_at}
-use Rattle.ob_load.proofs.Machines.{begun, stands_now}
+use Rattle.ob_load.specs.MachineState.{begun_in, stands_at}
+use Rattle.ob_load.specs.Names.{NamesWithin}
+use Rattle.ob_load.proofs.Machines.{begun, begun_state}
 use Rattle.ob_load.proofs.Finished.{sized_as}
 
 -- ---- lists that are put somewhere
@@ -122,6 +123,25 @@ code_put from (y ∷ xs) (suc n) l x le e = code_put (from + y.code.cells) xs n 
 pub checkable_with : (ms : List Module) (m : Module) → AreCheckable ms → ExportsSolid m.interface.exports → AreCheckable (with_module ms m)
 checkable_with ms m h s = let so = each_load ms m in (so.solid h.0 s, so.distinct h.1)
 
+-- ---- names that are no longer than so many characters
+
+pub within_more : (ms : List Module) (n k : ℕ) → n ≤ k → NamesWithin ms n → NamesWithin ms k
+within_more [] n k le h = tt
+within_more (m ∷ ms) n k le h = (omega (arith, le, h.0), within_more ms n k le h.1)
+
+either_within : (b : Bool) (xs ys : List Module) (n : ℕ) → NamesWithin xs n → NamesWithin ys n → NamesWithin (if b then xs else ys) n
+either_within true xs ys n h k = h
+either_within false xs ys n h k = k
+
+pub within_with : (ms : List Module) (m : Module) (n : ℕ) → NamesWithin ms n → length (name_of m) ≤ n → NamesWithin (with_module ms m) n
+within_with [] m n h le = (le, tt)
+within_with (x ∷ ms) m n h le = either_within (bytes_eq (name_of x) (name_of m)) (m ∷ ms) (x ∷ with_module ms m) n (le, h.1) (h.0, within_with ms m n h.1 le)
+
+pub within_in : (ms : List Module) (k n : ℕ) → NamesWithin ms n → length (name_in (slice_get ms k)) ≤ n
+within_in [] k n h = omega arith
+within_in (x ∷ ms) zero n h = h.0
+within_in (x ∷ ms) (suc k) n h = within_in ms k n h.1
+
 -- ---- a module that is loaded
 
 pub store_is : (modules : List Module) (known : List Known) (code : Code) (m : Module) (cells : List ℤ) → AreCompiledFrom modules modules known code 0 → length cells ≡ all_cells code → (installed (session_of modules cells) m).store ≡ store_of (with_module modules m) (loaded_cells modules m cells)
@@ -163,25 +183,23 @@ module _ (modules : List Module) (m : Module) (known : List Known) (k : Known) (
     many_put n kept put at same e =
         ap all_cells (e ∙ ap (λ (c : Code). put_at c n l) same ∙ ap (λ i. put_at code i l) at) ∙ sym (laid_cells 0 (put_at code place l)) ∙ sym many_now
 
-    module _ (loaded : Loaded) where
+    module _ (runs : Vec Bool Global) where
       abbrev pub beginning : ℕ → Beginning
-      beginning n = record { number = n; runs = loaded.runs; names = loaded.names; cells = p.cells; opening = p.opening; room = p.room }
+      beginning n = record { number = n; runs = runs; cells = p.cells; room = p.room }
 
-      begins_there : HasLoaded new_modules new_known place loaded → BodyMayBegin new_modules new_known new_code (beginning place)
+      begins_there : HasLoaded new_modules new_known place runs.items → BodyMayBegin new_modules new_known new_code (beginning place)
       begins_there is = record {
         compiled = record { each = each_now; agree = is.agree };
-        runs = is.runs;
+        runs = is.flags;
         row = many_now;
-        opening = prepared.opening ∙ sym prepared.row;
-        names = is.names;
         may_run = is.may_run;
         room = room_there p.room prepared.room;
       }
 
-      pub may_begin : (n : ℕ) (ms : List Module) (ks : List Known) (kept put c : Code) → n ≡ place → ms ≡ new_modules → ks ≡ new_known → kept ≡ code → put ≡ put_at kept n l → c ≡ laid 0 put → HasLoaded ms ks place loaded → BodyMayBegin ms ks c (beginning n)
+      pub may_begin : (n : ℕ) (ms : List Module) (ks : List Known) (kept put c : Code) → n ≡ place → ms ≡ new_modules → ks ≡ new_known → kept ≡ code → put ≡ put_at kept n l → c ≡ laid 0 put → HasLoaded ms ks place runs.items → BodyMayBegin ms ks c (beginning n)
       may_begin n ms ks kept put c at em ek same ep ec is =
           let now : c ≡ new_code = ec ∙ ap (λ (x : Code). laid 0 x) (ep ∙ ap (λ (x : Code). put_at x n l) same ∙ ap (λ i. put_at code i l) at) in
-          let has = subst (λ (x : List Module). HasLoaded x new_known place loaded) em (subst (λ (x : List Known). HasLoaded ms x place loaded) ek is) in
+          let has = subst (λ (x : List Module). HasLoaded x new_known place runs.items) em (subst (λ (x : List Known). HasLoaded ms x place runs.items) ek is) in
           subst (λ i. BodyMayBegin ms ks c (beginning i)) (sym at)
           (subst (λ (x : Code). BodyMayBegin ms ks x (beginning place)) (sym now)
           (subst (λ (x : List Known). BodyMayBegin ms x new_code (beginning place)) (sym ek)
@@ -214,13 +232,20 @@ module _ (modules : List Module) (known : List Known) (code : Code) (b : Beginni
   abbrev before_all : vm.ImageState → Config
   before_all i = start i.code b.number (record { cells = i.cells; written = []; input = (world_before (store_of modules b.cells.items)).input })
 
-  runs_now : (run : vm.MachineState) → vm.IsOf now run → vm.machine_config now run ≡ before_all now → run.used ≡ 0 → IsRunning modules (store_of modules b.cells.items) (Body b.number) now run 0 false b.names.items
-  runs_now run fits at none =
-      let may = each_may_begin modules b.cells.items (h.row ∙ sized_as modules known code h.compiled) in
-      let follows = body_behaves (program_of modules) code (faces_at known) (runs_in modules) (each_may_run modules known code h.compiled).means b.number h.may_run in
-      begun modules (store_of modules b.cells.items) (Body b.number) now run b.names.items fits follows may.may
-      (stands_now modules (store_of modules b.cells.items) (Body b.number) now follows may.may 0 _ (stays code (Going (supply 0 []) (opens modules (store_of modules b.cells.items) (Body b.number) now)))).0
-      (at ∙ ap (start code b.number) (sym may.pictured)) none h.names
+  module _ (run : vm.MachineState) (fits : vm.IsOf now run) (at : vm.machine_config now run ≡ before_all now) (none : run.used ≡ 0) where
+    may : MayBeginWith modules b.cells.items
+    may = each_may_begin modules b.cells.items (h.row ∙ sized_as modules known code h.compiled)
+
+    at_now : vm.machine_config now run ≡ opens modules (store_of modules b.cells.items) (Body b.number) now
+    at_now = at ∙ ap (start code b.number) (sym may.pictured)
+
+    pub runs_now : IsRunning modules (store_of modules b.cells.items) (Body b.number) [] now run false
+    runs_now =
+        let follows = body_behaves (program_of modules) code (faces_at known) (runs_in modules) (each_may_run modules known code h.compiled).means b.number h.may_run in
+        begun modules (store_of modules b.cells.items) (Body b.number) now run fits follows may.may at_now none
+
+    pub state_now : stands_at modules (store_of modules b.cells.items) (Body b.number) [] run false false ≡ begun_in (session_of modules b.cells.items) (Body b.number)
+    state_now = begun_state modules (store_of modules b.cells.items) (Body b.number) now run runs_now at_now none
 
   module _ (i : vm.ImageState) (e : i ≡ now) where
     pub can_run : vm.CanRun i b.number
@@ -229,14 +254,21 @@ module _ (modules : List Module) (known : List Known) (code : Code) (b : Beginni
     pub room_in : vm.IsRoomIn i b.number b.room
     room_in = subst (λ (x : vm.ImageState). vm.IsRoomIn x b.number b.room) (sym e) h.room
 
-    pub begun_on : AreCheckable modules → (run : vm.MachineState) → vm.IsOf i run → vm.machine_config i run ≡ before_all i → run.used ≡ 0 → IsHeld modules known i × IsRunning modules (store_of modules b.opening.items) (Body b.number) i run 0 false b.names.items
-    begun_on solid run fits at none =
-        let fits_now = subst (λ (x : vm.ImageState). vm.IsOf x run) e fits in
-        let at_now = subst (λ (x : vm.ImageState). vm.machine_config x run ≡ before_all x) e at in (
-          subst (λ (x : vm.ImageState). IsHeld modules known x) (sym e) (held solid),
-          subst (λ (x : vm.ImageState). IsRunning modules (store_of modules b.opening.items) (Body b.number) x run 0 false b.names.items) (sym e)
-              (subst (λ (cs : List ℤ). IsRunning modules (store_of modules cs) (Body b.number) now run 0 false b.names.items) (sym h.opening) (runs_now run fits_now at_now none)),
-        )
+    module _ (run : vm.MachineState) (fits : vm.IsOf i run) (at : vm.machine_config i run ≡ before_all i) (none : run.used ≡ 0) where
+      fits_now : vm.IsOf now run
+      fits_now = subst (λ (x : vm.ImageState). vm.IsOf x run) e fits
+
+      at_then : vm.machine_config now run ≡ before_all now
+      at_then = subst (λ (x : vm.ImageState). vm.machine_config x run ≡ before_all x) e at
+
+      pub begun_on : AreCheckable modules → IsHeld modules known i × IsRunning modules (store_of modules b.cells.items) (Body b.number) [] i run false
+      begun_on solid = (
+        subst (λ (x : vm.ImageState). IsHeld modules known x) (sym e) (held solid),
+        subst (λ (x : vm.ImageState). IsRunning modules (store_of modules b.cells.items) (Body b.number) [] x run false) (sym e) (runs_now run fits_now at_then none),
+      )
+
+      pub begun_at : stands_at modules (store_of modules b.cells.items) (Body b.number) [] run false false ≡ begun_in (session_of modules b.cells.items) (Body b.number)
+      begun_at = state_now run fits_now at_then none
 
 -- ---- an image that is put together again
 

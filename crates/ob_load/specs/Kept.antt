@@ -1,17 +1,18 @@
 -- What ties a session, and a machine that runs in it, to their code.
-use Rattle.std.specs.Prelude.{◌≡◌, ℕ, ◌<◌, Bool, false, List, [], ◌++◌, length, map, take}
+use Rattle.std.specs.Prelude.{◌≡◌, ℕ, ◌<◌, Bool, true, List, [], ◌++◌, length, take}
+use Rattle.ob_inout.specs.Reading.{Line}
 use Rattle.ob_mean.specs.whole.Runs.{supply}
 use Rattle.ob_mean.specs.whole.Values.{Value}
 use Rattle.ob_mean.specs.whole.Programs.{world_before}
 use Rattle.ob_code.specs.whole.Linked.{all_cells, runs_of}
 use Rattle.ob_code.specs.whole.Machine.{Config, Going, Comes, start, picture}
 use Rattle.ob_gen.specs.whole.Correct.{Follows, MayBegin}
-use Rattle.ob_vm.specs.whole.Images.{ImageState, MachineState, IsOf, machine_config}
-use Rattle.ob_session.specs.Session.{Module, name_of, program_of}
-use Rattle.ob_plan.specs.Modules.{AllSolid, AllDistinct}
+use Rattle.ob_vm.specs.whole.Images.{ImageState, MachineState, IsOf, AsksFor, machine_config}
+use Rattle.ob_session.specs.Session.{Module, program_of}
+use Rattle.ob_link.specs.Modules.{AllSolid, AllDistinct}
 use Rattle.ob_linked.specs.Compiled.{Known, AreCompiled, runs_in}
 use Rattle.ob_load.specs.declared.task.Task.{Task}
-use Rattle.ob_load.specs.Tasks.{task_meaning, task_run, home_of}
+use Rattle.ob_load.specs.Tasks.{task_meaning, home_of}
 
 -- the same with this text written before
 abbrev pub prefixed : List ℕ → Config → Config
@@ -36,21 +37,19 @@ pub record IsHeld (modules : List Module) (known : List Known) (i : ImageState) 
   pub sized : all_cells i.code ≡ all_cells (take (length modules) i.code)
   pub checkable : AreCheckable modules
 
--- the output at so many turns
-abbrev pub output_at : List Module → Value → Task → ℕ → List ℕ
-output_at modules store task n = (task_run modules store task [] n).output
-
 -- before the first turn
 abbrev pub opens : List Module → Value → Task → ImageState → Config
 opens modules store task i = start i.code (home_of modules task) (picture (world_before store))
 
--- a machine in its run
-pub record IsRunning (modules : List Module) (store : Value) (task : Task) (i : ImageState) (m : MachineState) (shown : ℕ) (over : Bool) (names : List (List ℕ)) : Type 0 where
+-- a machine in its run, with these lines
+pub record IsRunning (modules : List Module) (store : Value) (task : Task) (lines : List Line) (i : ImageState) (m : MachineState) (asks : Bool) : Type 0 where
   -- the machine is one of this code, and the code does what the task means
   pub fits : IsOf i m
   pub follows : Follows (program_of modules) i.code (task_meaning (program_of modules) task) (λ w. start i.code (home_of modules task) (picture w))
   pub begins : MayBegin (program_of modules) (world_before store)
-  -- the turns so far have led to where the machine stands, if what was shown is put before what it wrote since
-  pub comes : Comes i.code (Going (supply m.used []) (opens modules store task i)) (Going (supply 0 []) (prefixed (output_at modules store task shown) (machine_config i m)))
-  -- until its end is told it has the modules' names to give away
-  pub named : over ≡ false → names ≡ map name_of modules
+  -- the turns and the lines so far have led to where the machine stands, if the text that was taken is put before what it wrote
+  -- since
+  pub taken : List ℕ
+  pub comes : Comes i.code (Going (supply m.used lines) (opens modules store task i)) (Going (supply 0 []) (prefixed taken (machine_config i m)))
+  -- where it asks for a line, one is what comes next
+  pub asking : asks ≡ true → AsksFor i m

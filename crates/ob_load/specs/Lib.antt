@@ -2,7 +2,8 @@ pub mod Parts
 pub mod ValueCode
 pub mod Tasks
 pub mod MachineState
-pub mod Runs
+pub mod Given
+pub mod Names
 pub mod Kept
 pub mod Loading
 pub mod Commanded

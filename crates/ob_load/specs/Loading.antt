@@ -1,45 +1,34 @@
 -- Loading a module.
-use Rattle.std.specs.Prelude.{◌≡◌, ℕ, true, false, ℤ, List, length, map, take, Option, Some, None, slice_get}
+use Rattle.std.specs.Prelude.{◌≡◌, ℕ, Bool, true, ℤ, List, length, take, Option, Some, None, slice_get}
 use Rattle.ob_code.specs.declared.whole.instr.CodeModule.{CodeModule}
 use Rattle.ob_code.specs.declared.whole.instr.LinkedModule.{LinkedModule}
 use Rattle.ob_code.specs.whole.Linked.{all_cells, runs_of}
 use Rattle.ob_code.specs.whole.Machine.{Code}
 use Rattle.ob_vm.specs.whole.Images.{IsRoomFor}
-use Rattle.ob_session.specs.Session.{Session, Module, name_of, import_places}
+use Rattle.ob_session.specs.Session.{Module, import_places}
 use Rattle.ob_store.specs.Stores.{loaded_cells}
 use Rattle.ob_linked.specs.Compiled.{Known, AreCompiled, FacesAgree, put_at, runs_in}
 use Rattle.ob_load.specs.declared.body.Beginning.{Beginning}
-use Rattle.ob_load.specs.declared.loading.Loaded.{Loaded}
 use Rattle.ob_load.specs.declared.loading.Prepared.{Prepared}
-use Rattle.ob_load.specs.declared.task.Task.{Task}
-use Rattle.ob_load.specs.MachineState.{MachineState}
-
--- before the first turn of a task in a session
-abbrev pub begun_in : Session → Task → MachineState
-begun_in s task = record { modules = s.modules; store = s.store; task = task; turns = 0; shown = 0; over = false }
 
 -- what the beginning of a module's body takes, over modules whose variables have these cells
 pub record IsPrepared (modules : List Module) (cells : List ℤ) (m : Module) (code : CodeModule) (p : Prepared) : Type 0 where
   pub imports : p.imports.items ≡ import_places modules m.imports
   pub row : p.cells.items ≡ loaded_cells modules m cells
-  pub opening : p.opening.items ≡ loaded_cells modules m cells
   pub room : IsRoomFor code p.room
 
--- which modules may run, that of a number among them, and what they are named; what was known of imports is so
-pub record HasLoaded (modules : List Module) (known : List Known) (number : ℕ) (l : Loaded) : Type 0 where
-  pub runs : (n : ℕ) → runs_of l.runs.items n ≡ runs_in modules n
+-- which modules may run, that of a number among them; what was known of imports is so
+pub record HasLoaded (modules : List Module) (known : List Known) (number : ℕ) (runs : List Bool) : Type 0 where
+  pub flags : (n : ℕ) → runs_of runs n ≡ runs_in modules n
   pub agree : FacesAgree modules known
-  pub names : l.names.items ≡ map name_of modules
   pub may_run : runs_in modules number ≡ true
 
 -- The body of a module may begin: the modules, what is known of them and their code go together, its code may run, and there
--- are the cells of all variables twice, the modules' names, and room for what the body begins with.
+-- are the cells of all variables, and room for what the body begins with.
 pub record BodyMayBegin (modules : List Module) (known : List Known) (code : Code) (b : Beginning) : Type 0 where
   pub compiled : AreCompiled modules known code
   pub runs : (n : ℕ) → runs_of b.runs.items n ≡ runs_in modules n
   pub row : length b.cells.items ≡ all_cells code
-  pub opening : b.opening.items ≡ b.cells.items
-  pub names : b.names.items ≡ map name_of modules
   pub may_run : runs_in modules b.number ≡ true
   pub room : (l : LinkedModule) → slice_get code b.number ≡ Some l → IsRoomFor l.code b.room
 

@@ -1,35 +1,36 @@
 //! The machine of a module's body.
 
-ghost use Rattle.std.specs.Prelude.{◌≡◌, IfOk, IfErr};
-ghost use Rattle.ob_fit.specs.Solid.{ExportsSolid};
+ghost use Rattle.std.specs.Prelude.{◌≡◌, ◌≤◌, [], IfOk, IfErr, length, vec_capacity};
+ghost use Rattle.ob_types.specs.Solid.{ExportsSolid};
 ghost use Rattle.ob_gen.specs.whole.Generated.{IsGenerated};
 ghost use Rattle.ob_linked.specs.Compiled.{AllFound};
 ghost use Rattle.ob_load.specs.Kept.{AreCheckable};
-ghost use Rattle.ob_load.specs.Loading.{BodyMayBegin, begun_in};
+ghost use Rattle.ob_load.specs.Loading.{BodyMayBegin};
+ghost use Rattle.ob_load.specs.MachineState.{begun_in};
+ghost use Rattle.ob_load.specs.Names.{NamesWithin};
 ghost use Rattle.ob_mean.specs.whole.WellFormed.{IsFaceOf, IsWellFormed};
 ghost use Rattle.ob_session.specs.Session.{installed, name_of, place_of};
 ghost use Rattle.ob_store.specs.Stores.{session_of};
 
+use crate::given::GivenLines;
 use crate::loading::{Compiled, load};
 use crate::machine::Machine;
 use crate::session::Session;
 use crate::task::Task;
-use ob_base::Text;
 use ob_code::whole::checked::Checked;
 use ob_code::whole::instr::LinkedModule;
 use ob_image::KnownFaces;
 use ob_link::{Modules, SessionModule};
 use ob_vm::whole::{Image, Room};
 use std::alloc::AllocError;
+use std::snapshot::Snapshot;
 
 // What the body of the module of this number begins with.
 #[derive(Drop)]
 pub(crate) struct Beginning {
     pub number: usize,
     pub runs: Vec<bool>,
-    pub names: Vec<Text>,
     pub cells: Vec<i32>,
-    pub opening: Vec<i32>,
     pub room: Room,
 }
 
@@ -39,20 +40,24 @@ fn begin(
     known: Vec<KnownFaces>,
     code: Vec<LinkedModule>,
     beginning: Beginning,
+    longest: usize,
+    name: Vec<u8>,
 ) -> Machine
     requires may { BodyMayBegin modules known.items code.items beginning }
     requires checkable { AreCheckable modules }
-    ensures { result ≡ begun_in (session_of modules beginning.opening.items) (Task.Body beginning.number) }
+    requires named { NamesWithin modules longest }
+    requires empty { name.items ≡ [] }
+    requires long { longest ≤ vec_capacity name }
+    ensures { result ≡ begun_in (session_of modules beginning.cells.items) (Task.Body beginning.number) }
 {
-    let alloc = modules.alloc();
     let Beginning {
         number,
         runs,
-        names,
         cells,
-        opening,
         room,
     } = beginning;
+    let opening = Snapshot::of(&cells);
+    let alloc = modules.alloc();
     let image = Image::of(code, runs, cells);
     let run = ob_vm::whole::Machine::start(alloc, &image, number, room);
     Machine {
@@ -62,10 +67,11 @@ fn begin(
         run,
         opening,
         task: Task::Body(number),
-        shown: 0,
+        lines: GivenLines::none(),
+        asks: false,
         over: false,
-        names,
-        alloc,
+        longest,
+        name,
     }
 }
 
@@ -92,10 +98,16 @@ impl Session {
         ensures begun { IfOk result (λ m. m ≡ begun_in (installed self added) (Task.Body (place_of self.modules (name_of added)))) }
         ensures back { IfErr result (λ back. back.0 ≡ self) }
     {
+        let longest = self.longest.max(added.interface().name().as_slice().len());
+        let name = match Vec::with_capacity(self.modules.alloc(), longest) {
+            Ok(name) => name,
+            Err(error) => return Err((self, error)),
+        };
         let Session {
             mut modules,
             mut known,
             image,
+            longest: before,
         } = self;
         let (mut parts, may_run, cells) = image.into_parts();
         let compiled = Compiled { added, faces, code };
@@ -106,7 +118,7 @@ impl Session {
             cells.as_slice(),
             compiled,
         ) {
-            Ok(beginning) => Ok(begin(modules, known, parts, beginning)),
+            Ok(beginning) => Ok(begin(modules, known, parts, beginning, longest, name)),
             Err(error) => {
                 let image = Image::of(parts, may_run, cells);
                 Err((
@@ -114,6 +126,7 @@ impl Session {
                         modules,
                         known,
                         image,
+                        longest: before,
                     },
                     error,
                 ))

@@ -7,25 +7,27 @@ ghost use Rattle.ob_linked.specs.CommandsCode as code;
 ghost use Rattle.ob_linked.specs.CommandsCode.{homes, AllCallable, IsCallable};
 ghost use Rattle.ob_linked.specs.Compiled.{face_in, runs_in, AreCompiled, AreKnown};
 ghost use Rattle.ob_load.specs.Commanded.{IsCodeOfCalls, AreReady};
+ghost use Rattle.ob_load.specs.MachineState.{begun_in};
 ghost use Rattle.ob_load.specs.declared.task.Task.TheVariants as task;
 ghost use Rattle.ob_mean.specs.declared.whole.expression.Callee.TheVariants as callee;
 ghost use Rattle.ob_mean.specs.declared.whole.statement.Action.TheVariants as action;
 ghost use Rattle.ob_mean.specs.declared.whole.statement.TypedStatement.TheVariants as statement;
 ghost use Rattle.ob_mean.specs.whole.WellFormed.{heading_of, own_heading};
 
+use crate::given::GivenLines;
 use crate::machine::Machine;
 use crate::session::Session;
 use crate::task::Task;
 use ob_base::{Items, Text};
 use ob_code::whole::checked::Checked;
 use ob_code::whole::instr::LinkedModule;
-use ob_compile::copy_face;
 use ob_gen::whole::generate;
-use ob_image::KnownFaces;
+use ob_image::{KnownFaces, copy_face};
 use ob_link::{Command, Modules};
 use ob_mean::whole::{Action, Callee, Face, TypedModule, TypedProcedure, TypedStatement};
 use ob_vm::whole::{Image, Room};
 use std::alloc::{AllocError, Global};
+use std::snapshot::Snapshot;
 
 // Whether a procedure takes and leaves nothing.
 fn is_plain(procedure: &TypedProcedure) -> bool
@@ -181,19 +183,18 @@ pub(crate) struct Calls {
     pub code: Checked,
     pub imports: Vec<usize>,
     pub runs: Vec<bool>,
-    pub opening: Vec<i32>,
-    pub names: Vec<Text>,
+    pub name: Vec<u8>,
     pub room: Room,
 }
 
 fn ready(
     modules: &Modules,
     known: &[KnownFaces],
-    cells: &[i32],
     commands: &[Command],
+    longest: usize,
 ) -> Result<Calls, AllocError>
     requires { (all : Code) × AreCompiled modules.now known.now all }
-    ensures { IfOk result (AreReady modules.now known.now cells.now commands.now) }
+    ensures { IfOk result (AreReady modules.now known.now commands.now longest) }
 {
     let alloc = modules.alloc();
     let mut runs = modules.may_run()?;
@@ -206,15 +207,13 @@ fn ready(
         imports.as_slice(),
     )?;
     runs.push(true)?;
-    let opening = Vec::from_slice(alloc, cells)?;
-    let names = modules.names()?;
+    let name = Vec::with_capacity(alloc, longest)?;
     let room = ob_vm::whole::Machine::room(alloc, &code)?;
     Ok(Calls {
         code,
         imports,
         runs,
-        opening,
-        names,
+        name,
         room,
     })
 }
@@ -239,26 +238,23 @@ impl Session {
     /// procedure that a module that may run exports, and that takes and leaves nothing, the answer is want of memory too: no
     /// command that was looked up is so.
     pub fn run_commands(self, commands: Vec<Command>) -> Result<Machine, (Session, AllocError)>
-        ensures begun { IfOk result (λ m. m ≡ record { modules = self.modules; store = self.store; task = task.Commands commands; turns = 0; shown = 0; over = false }) }
+        ensures begun { IfOk result (λ m. m ≡ begun_in self (task.Commands commands)) }
         ensures back { IfErr result (λ back. back.0 ≡ self) }
     {
         let Session {
             modules,
             known,
             image,
+            longest,
         } = self;
-        let calls = match ready(
-            &modules,
-            known.as_slice(),
-            image.cells(),
-            commands.as_slice(),
-        ) {
+        let calls = match ready(&modules, known.as_slice(), commands.as_slice(), longest) {
             Ok(calls) => calls,
             Err(error) => return Err((
                 Session {
                     modules,
                     known,
                     image,
+                    longest,
                 },
                 error,
             )),
@@ -271,6 +267,7 @@ impl Session {
                     modules,
                     known,
                     image,
+                    longest,
                 },
                 AllocError,
             ));
@@ -283,6 +280,7 @@ impl Session {
             cells: cells.len(),
         };
         put_behind(&mut code, linked);
+        let opening = Snapshot::of(&cells);
         let image = Image::of(code, calls.runs, cells);
         let run = ob_vm::whole::Machine::start(alloc, &image, behind, calls.room);
         Ok(Machine {
@@ -290,12 +288,13 @@ impl Session {
             known,
             image,
             run,
-            opening: calls.opening,
+            opening,
             task: Task::Commands(commands),
-            shown: 0,
+            lines: GivenLines::none(),
+            asks: false,
             over: false,
-            names: calls.names,
-            alloc,
+            longest,
+            name: calls.name,
         })
     }
 }

@@ -4,13 +4,13 @@
 
 mod body;
 mod commands;
+mod given;
 mod loading;
 mod machine;
-mod outcome;
 mod session;
 mod task;
+mod trap;
 
 pub use machine::Machine;
-pub use outcome::{Outcome, Trap, Turned};
 pub use session::Session;
 pub use task::Task;

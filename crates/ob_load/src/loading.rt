@@ -11,7 +11,6 @@ ghost use Rattle.ob_session.specs.Session.{name_of, place_of, with_module};
 ghost use Rattle.ob_store.specs.Stores as stores;
 
 use crate::body::Beginning;
-use ob_base::Text;
 use ob_code::whole::checked::Checked;
 use ob_code::whole::instr::LinkedModule;
 use ob_image::{KnownFaces, agree, bounds, lay, loaded_cells, put_at};
@@ -33,7 +32,6 @@ pub(crate) struct Compiled {
 pub(crate) struct Prepared {
     pub imports: Vec<usize>,
     pub cells: Vec<i32>,
-    pub opening: Vec<i32>,
     pub room: Room,
 }
 
@@ -53,12 +51,10 @@ fn prepare(
     let (from, behind) = bounds(code, cells.len(), number);
     let variables = compiled.added.tree().variables.as_slice();
     let new_cells = loaded_cells(alloc, cells, from, behind, variables)?;
-    let opening = loaded_cells(alloc, cells, from, behind, variables)?;
     let room = ob_vm::whole::Machine::room(alloc, &compiled.code)?;
     Ok(Prepared {
         imports,
         cells: new_cells,
-        opening,
         room,
     })
 }
@@ -76,24 +72,16 @@ fn running(modules: &Modules, known: &[KnownFaces]) -> Result<Vec<bool>, AllocEr
     }
 }
 
-// Which modules may run, and their names.
-#[derive(Drop)]
-pub(crate) struct Loaded {
-    pub runs: Vec<bool>,
-    pub names: Vec<Text>,
-}
-
 fn after_loading(
     modules: &Modules,
     known: &[KnownFaces],
     number: usize,
-) -> Result<Loaded, AllocError>
-    ensures { IfOk result (λ loaded. HasLoaded modules.now known.now number loaded) }
+) -> Result<Vec<bool>, AllocError>
+    ensures { IfOk result (λ runs. HasLoaded modules.now known.now number runs.items) }
 {
     let runs = running(modules, known)?;
-    let names = modules.names()?;
     match runs.get(number) {
-        Some(true) => Ok(Loaded { runs, names }),
+        Some(true) => Ok(runs),
         _ => Err(AllocError),
     }
 }
@@ -130,11 +118,11 @@ fn take_place(
     known: &mut Vec<KnownFaces>,
     added: SessionModule,
     faces: KnownFaces,
-) -> Result<Loaded, AllocError>
+) -> Result<Vec<bool>, AllocError>
     requires sides { length known.old.items ≡ length modules.old }
     ensures modules { OnOk result (modules.new ≡ with_module modules.old added) }
     ensures known { OnOk result (known.new.items ≡ linked.put_at known.old.items (place_of modules.old (name_of added)) faces) }
-    ensures loaded { IfOk result (λ loaded. HasLoaded modules.new known.new.items (place_of modules.old (name_of added)) loaded) }
+    ensures loaded { IfOk result (λ runs. HasLoaded modules.new known.new.items (place_of modules.old (name_of added)) runs.items) }
     ensures err { OnErr result ((modules.new ≡ modules.old) × (known.new.items ≡ known.old.items)) }
 {
     known.reserve(1)?;
@@ -142,7 +130,7 @@ fn take_place(
     let back = modules.exchange(added)?;
     let before = put_known(known, number, faces);
     match after_loading(modules, known.as_slice(), number) {
-        Ok(loaded) => Ok(loaded),
+        Ok(runs) => Ok(runs),
         Err(error) => {
             modules.restore(back);
             put_known_back(known, number, before);
@@ -167,7 +155,7 @@ pub(crate) fn load(
     requires found { AllFound modules.old compiled.added.imports }
     ensures modules { OnOk result (modules.new ≡ with_module modules.old compiled.added) }
     ensures may { IfOk result (λ b. BodyMayBegin modules.new known.new.items code.new.items b) }
-    ensures opening { IfOk result (λ b. b.opening.items ≡ stores.loaded_cells modules.old compiled.added cells.now) }
+    ensures cells { IfOk result (λ b. b.cells.items ≡ stores.loaded_cells modules.old compiled.added cells.now) }
     ensures number { IfOk result (λ b. b.number ≡ place_of modules.old (name_of compiled.added)) }
     ensures err { OnErr result ((modules.new ≡ modules.old) × ((known.new.items ≡ known.old.items) × (code.new.items ≡ code.old.items))) }
 {
@@ -179,7 +167,7 @@ pub(crate) fn load(
         faces,
         code: generated,
     } = compiled;
-    let loaded = take_place(modules, known, added, faces)?;
+    let runs = take_place(modules, known, added, faces)?;
     let linked = LinkedModule {
         code: generated.into_code(),
         imports: prepared.imports,
@@ -189,10 +177,8 @@ pub(crate) fn load(
     lay(code);
     Ok(Beginning {
         number,
-        runs: loaded.runs,
-        names: loaded.names,
+        runs,
         cells: prepared.cells,
-        opening: prepared.opening,
         room: prepared.room,
     })
 }

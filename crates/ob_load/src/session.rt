@@ -16,6 +16,8 @@ pub struct Session {
     pub(crate) modules: Modules,
     pub(crate) known: Vec<KnownFaces>,
     pub(crate) image: Image,
+    /// No module's name is longer than this.
+    pub(crate) longest: usize,
 }
 
 impl Model for Session {
@@ -28,6 +30,7 @@ impl Model for Session {
     ghost use Rattle.ob_load.specs.ValueCode.{value_code};
     ghost use Rattle.ob_store.specs.Stores.{store_of};
     ghost use Rattle.ob_load.specs.Kept.{IsKept};
+    ghost use Rattle.ob_load.specs.Names.{NamesWithin};
 
     ghost Value = { sessions.Session };
 
@@ -35,7 +38,7 @@ impl Model for Session {
 
     ghost view = { λ s. record { modules = s.modules; store = store_of s.modules s.image.cells } };
 
-    ghost invariant = { λ s. IsKept s.modules s.known.items s.image };
+    ghost invariant = { λ s. IsKept s.modules s.known.items s.image × NamesWithin s.modules s.longest };
 }
 
 impl Session {
@@ -48,6 +51,7 @@ impl Session {
             modules: Modules::new(alloc),
             known: Vec::new(alloc),
             image,
+            longest: 0,
         }
     }
 

@@ -4,7 +4,3 @@ use Rattle.ob_load.proofs.loading.prepare.Goals as goal
 pub loaded_cells-requires-clause-there : goal.loaded_cells-requires-clause-there
 loaded_cells-requires-clause-there c =
     ends_within c.args.modules.now c.requires.compiled.0 c.args.code.now c.place_of-number.result _ _ c.requires.compiled.1 (c.bounds-from.ensures c.args.modules.now c.requires.compiled.0 c.requires.compiled.1).1 c.requires.cells
-
-pub loaded_cells-requires-2-clause-there : goal.loaded_cells-requires-2-clause-there
-loaded_cells-requires-2-clause-there c =
-    ends_within c.args.modules.now c.requires.compiled.0 c.args.code.now c.place_of-number.result _ _ c.requires.compiled.1 (c.bounds-from.ensures c.args.modules.now c.requires.compiled.0 c.requires.compiled.1).1 c.requires.cells

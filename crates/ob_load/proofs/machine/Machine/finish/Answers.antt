@@ -7,8 +7,8 @@ use Rattle.ob_linked.specs.Compiled.{AreCompiled}
 use Rattle.ob_vm.specs.whole.Images as vm
 use Rattle.ob_vm.specs.whole.Steps.{SliceDone}
 use Rattle.ob_load.specs.Kept.{IsKept, IsHeld}
-use Rattle.ob_load.specs.MachineState.{MachineState}
-use Rattle.ob_load.specs.Runs.{meaning_of}
+use Rattle.jk_language.specs.MachineState.{here}
+use Rattle.ob_load.specs.MachineState.{MachineState, state_of}
 use Rattle.ob_load.proofs.Machines.{held}
 use Rattle.ob_load.proofs.Finished.{flags_cut, linked_by, valid_by, leaves}
 use Rattle.ob_load.proofs.machine.Machine.finish.Goals as goal
@@ -40,7 +40,7 @@ module _ (c : goal.After-truncate-2) where
       ap length c.into_parts-code.ensures.cells ∙ c.cut.ensures.cells ∙ ap (λ (x : vm.ImageState). all_cells x.code) c.cut.ensures.rest
       ∙ held_now.sized ∙ ap all_cells (sym code_is)
 
-module _ (c : goal.After-drop-self-inside-3) where
+module _ (c : goal.After-drop-self-inside-5) where
   held_now_then : IsHeld c.self.inside.modules c.self.inside.known.items c.turns-turned.new.image
   held_now_then = held c.self.inside.modules c.self.inside.known.items c.self.inside.image c.turns-turned.new.image c.turns-turned.ensures.code c.turns-turned.ensures.may_run c.self.invariant.0
 
@@ -81,16 +81,17 @@ of-image-requires-clause-cells c = many c
 
 pub invariant_of-result : goal.invariant_of-result
 invariant_of-result c =
-    let h = held_now_then c in
-    subst (λ (x : vm.ImageState). IsKept c.self.inside.modules c.self.inside.known.items x) (sym c.of-image.ensures) (record {
-      compiled = subst (λ (x : Code). AreCompiled c.self.inside.modules c.self.inside.known.items x) (sym (code_is_then c)) h.compiled;
-      runs = λ n. ap (λ (fs : List Bool). runs_of fs n) (flags_are_then c) ∙ flags_cut c.self.inside.modules c.turns-turned.new.image.may_run h.runs n;
-      cells = many_then c;
-      checkable = h.checkable;
-    })
+    let h = held_now_then c in (
+      subst (λ (x : vm.ImageState). IsKept c.self.inside.modules c.self.inside.known.items x) (sym c.of-image.ensures) (record {
+        compiled = subst (λ (x : Code). AreCompiled c.self.inside.modules c.self.inside.known.items x) (sym (code_is_then c)) h.compiled;
+        runs = λ n. ap (λ (fs : List Bool). runs_of fs n) (flags_are_then c) ∙ flags_cut c.self.inside.modules c.turns-turned.new.image.may_run h.runs n;
+        cells = many_then c;
+        checkable = h.checkable;
+      }),
+      c.self.invariant.2,
+    )
 
 pub returns : goal.returns
-unfolding meaning_of
 returns c =
     let ms = c.self.inside.modules in
     let m = c.self.inside.run in
@@ -99,6 +100,6 @@ returns c =
     let k = c.turns-turned.ensures.does.0 in
     let done = subst (λ n. SliceDone i.code (vm.machine_config i m) (vm.machine_config i' c.turns-turned.new.self) n c.turns-turned.result k) (none_of (18446744073709551615 - m.used)) c.turns-turned.ensures.does.2 in
     let cells = ap (λ (x : vm.ImageState). x.cells) c.of-image.ensures ∙ cells_are_then c in
-    subst (λ (x : MachineState). (let s : Session = record { modules = ms; store = store_of ms c.of-image.result.cells } in s) ≡ (meaning_of x x.turns).session) c.self.view_is
+    subst (λ (x : MachineState). (let s : Session = record { modules = ms; store = store_of ms c.of-image.result.cells } in s) ≡ (here (state_of x)).session) c.self.view_is
     (ap (λ (cs : List ℤ). let s : Session = record { modules = ms; store = store_of ms cs } in s) cells
-    ∙ leaves ms c.self.inside.known.items (store_of ms c.self.inside.opening.items) c.self.inside.task i i' m c.turns-turned.new.self c.self.inside.shown c.self.inside.over c.self.inside.names.items c.self.invariant.0 c.self.invariant.1 c.turns-turned.result k done)
+    ∙ leaves ms c.self.inside.known.items (store_of ms c.self.inside.opening.value.items) c.self.inside.task c.self.inside.lines i i' m c.turns-turned.new.self c.self.inside.asks c.self.invariant.0 c.self.invariant.1 c.turns-turned.result k c.turns-turned.ensures.does.1 done)

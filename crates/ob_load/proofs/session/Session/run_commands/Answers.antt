@@ -1,22 +1,25 @@
-use Rattle.std.proofs.Common.{◌≡◌, Bool, false, List, [], ◌∷◌, ◌++◌, length, refl, sym, ap, ◌∙◌, subst}
-use Rattle.ob_inout.specs.Reading.{opened}
+use Rattle.std.proofs.Common.{◌≡◌, ℤ, Bool, false, List, [], ◌∷◌, ◌++◌, length, refl, sym, ap, ◌∙◌, subst, Vec, Global, vec_capacity}
+use Rattle.ob_inout.specs.Reading.{Line, opened}
 use Rattle.ob_code.specs.declared.whole.instr.LinkedModule.{LinkedModule}
 use Rattle.ob_code.specs.whole.Linked.{all_cells, runs_of, IsLinked}
 use Rattle.ob_code.specs.whole.Machine.{Code, start}
 use Rattle.ob_vm.specs.whole.Images as vm
-use Rattle.ob_store.specs.Stores.{store_of}
+use Rattle.ob_session.specs.Session.{Session, Module}
+use Rattle.ob_store.specs.Stores.{store_of, session_of}
 use Rattle.ob_load.specs.Commanded.{AreReady}
 use Rattle.ob_load.specs.declared.task.Task.TheVariants.{Commands}
 use Rattle.ob_load.specs.Kept.{IsHeld, IsRunning}
-use Rattle.ob_load.proofs.Commanded.{ready_for, image_of, now, linked_now, valid_now, many_now, held_now, can_run, room_now, runs_now}
+use Rattle.ob_load.specs.MachineState.{begun_in, stands_at}
+use Rattle.ob_load.proofs.Commanded.{ready_for, image_of, now, linked_now, valid_now, many_now, held_now, can_run, room_now, runs_now, state_now}
+use Rattle.ob_load.proofs.Loaded.{within_more}
 use Rattle.ob_load.proofs.session.Session.run_commands.Goals as goal
 
-module _ (c : goal.After-put_behind) where
+module _ (c : goal.After-of-opening) where
   abbrev last : LinkedModule
   last = record { code = c.into_code.result; imports = c.in-Ok.calls.imports; cells = c.len.result }
 
-  ready : AreReady c.self.inside.modules c.self.inside.known.items c.self.inside.image.cells c.args.commands.items c.in-Ok.calls
-  ready = ready_for c.self.inside.modules _ _ _ _ _ _ c.in-Ok.calls c.as_slice.ensures.value c.cells.ensures.value c.as_slice-2.ensures.value c.in-Ok.ensures
+  ready : AreReady c.self.inside.modules c.self.inside.known.items c.args.commands.items c.self.inside.longest c.in-Ok.calls
+  ready = ready_for c.self.inside.modules _ _ _ _ c.self.inside.longest c.in-Ok.calls c.as_slice.ensures.value c.as_slice-2.ensures.value c.in-Ok.ensures
 
   first : c.len.result ≡ length c.self.inside.image.cells
   first = c.len.ensures ∙ c.into_parts-code.result.2.ok.0 ∙ ap length c.into_parts-code.ensures.cells
@@ -24,12 +27,12 @@ module _ (c : goal.After-put_behind) where
   code : c.put_behind.new.code.items ≡ c.self.inside.image.code ++ last ∷ []
   code = c.put_behind.ensures ∙ ap (λ (x : Code). x ++ last ∷ []) (c.reserve.ensures.items ∙ c.into_parts-code.ensures.code)
 
-module _ (c : goal.After-image-2-1) where
+module _ (c : goal.After-image-1) where
   abbrev last_then : LinkedModule
   last_then = record { code = c.into_code.result; imports = c.in-Ok.calls.imports; cells = c.len.result }
 
-  ready_then : AreReady c.self.inside.modules c.self.inside.known.items c.self.inside.image.cells c.args.commands.items c.in-Ok.calls
-  ready_then = ready_for c.self.inside.modules _ _ _ _ _ _ c.in-Ok.calls c.as_slice.ensures.value c.cells.ensures.value c.as_slice-2.ensures.value c.in-Ok.ensures
+  ready_then : AreReady c.self.inside.modules c.self.inside.known.items c.args.commands.items c.self.inside.longest c.in-Ok.calls
+  ready_then = ready_for c.self.inside.modules _ _ _ _ c.self.inside.longest c.in-Ok.calls c.as_slice.ensures.value c.as_slice-2.ensures.value c.in-Ok.ensures
 
   first_then : c.len.result ≡ length c.self.inside.image.cells
   first_then = c.len.ensures ∙ c.into_parts-code.result.2.ok.0 ∙ ap length c.into_parts-code.ensures.cells
@@ -37,18 +40,18 @@ module _ (c : goal.After-image-2-1) where
   code_then : c.put_behind.new.code.items ≡ c.self.inside.image.code ++ last_then ∷ []
   code_then = c.put_behind.ensures ∙ ap (λ (x : Code). x ++ last_then ∷ []) (c.reserve.ensures.items ∙ c.into_parts-code.ensures.code)
 
-  image_then : c.of-image-2.result ≡ now c.self.inside.modules c.self.inside.known.items c.self.inside.image c.self.invariant c.args.commands c.in-Ok.calls ready_then last_then c.into_code.ensures.value refl first_then
+  image_then : c.of-image-2.result ≡ now c.self.inside.modules c.self.inside.known.items c.self.inside.image c.self.invariant.0 c.args.commands c.self.inside.longest c.in-Ok.calls ready_then last_then c.into_code.ensures.value refl first_then
   image_then = c.of-image-2.ensures ∙ image_of c.put_behind.new.code.items _ c.in-Ok.calls.runs.items c.into_parts-code.result.2.items c.self.inside.image.cells code_then c.into_parts-code.ensures.cells
 
   behind_then : c.len-behind.result ≡ length c.self.inside.image.code
   behind_then = c.len-behind.ensures ∙ c.reserve.new.self.ok.0 ∙ ap length (c.reserve.ensures.items ∙ c.into_parts-code.ensures.code)
 
-module _ (c : goal.After-start-run) where
+module _ (c : goal.After-none) where
   abbrev last_begun : LinkedModule
   last_begun = record { code = c.into_code.result; imports = c.in-Ok.calls.imports; cells = c.len.result }
 
-  ready_begun : AreReady c.self.inside.modules c.self.inside.known.items c.self.inside.image.cells c.args.commands.items c.in-Ok.calls
-  ready_begun = ready_for c.self.inside.modules _ _ _ _ _ _ c.in-Ok.calls c.as_slice.ensures.value c.cells.ensures.value c.as_slice-2.ensures.value c.in-Ok.ensures
+  ready_begun : AreReady c.self.inside.modules c.self.inside.known.items c.args.commands.items c.self.inside.longest c.in-Ok.calls
+  ready_begun = ready_for c.self.inside.modules _ _ _ _ c.self.inside.longest c.in-Ok.calls c.as_slice.ensures.value c.as_slice-2.ensures.value c.in-Ok.ensures
 
   first_begun : c.len.result ≡ length c.self.inside.image.cells
   first_begun = c.len.ensures ∙ c.into_parts-code.result.2.ok.0 ∙ ap length c.into_parts-code.ensures.cells
@@ -56,7 +59,7 @@ module _ (c : goal.After-start-run) where
   code_begun : c.put_behind.new.code.items ≡ c.self.inside.image.code ++ last_begun ∷ []
   code_begun = c.put_behind.ensures ∙ ap (λ (x : Code). x ++ last_begun ∷ []) (c.reserve.ensures.items ∙ c.into_parts-code.ensures.code)
 
-  image_begun : c.of-image-2.result ≡ now c.self.inside.modules c.self.inside.known.items c.self.inside.image c.self.invariant c.args.commands c.in-Ok.calls ready_begun last_begun c.into_code.ensures.value refl first_begun
+  image_begun : c.of-image-2.result ≡ now c.self.inside.modules c.self.inside.known.items c.self.inside.image c.self.invariant.0 c.args.commands c.self.inside.longest c.in-Ok.calls ready_begun last_begun c.into_code.ensures.value refl first_begun
   image_begun = c.of-image-2.ensures ∙ image_of c.put_behind.new.code.items _ c.in-Ok.calls.runs.items c.into_parts-code.result.2.items c.self.inside.image.cells code_begun c.into_parts-code.ensures.cells
 
   behind_begun : c.len-behind.result ≡ length c.self.inside.image.code
@@ -70,41 +73,112 @@ of-image-requires-clause-valid c =
 pub of-image-requires-2-clause-linked : goal.of-image-requires-2-clause-linked
 of-image-requires-2-clause-linked c =
     subst (λ (x : Code). IsLinked x (runs_of c.in-Ok.calls.runs.items)) (sym (code c))
-    (linked_now c.self.inside.modules c.self.inside.known.items c.self.inside.image c.self.invariant c.args.commands c.in-Ok.calls (ready c) (last c) c.into_code.ensures.value refl (first c))
+    (linked_now c.self.inside.modules c.self.inside.known.items c.self.inside.image c.self.invariant.0 c.args.commands c.self.inside.longest c.in-Ok.calls (ready c) (last c) c.into_code.ensures.value refl (first c))
 
 pub of-image-requires-2-clause-valid : goal.of-image-requires-2-clause-valid
 of-image-requires-2-clause-valid c =
     subst (λ (x : Code). vm.AreValid x (runs_of c.in-Ok.calls.runs.items)) (sym (code c))
-    (valid_now c.self.inside.modules c.self.inside.known.items c.self.inside.image c.self.invariant c.args.commands c.in-Ok.calls (ready c) (last c) c.into_code.ensures.value refl (first c))
+    (valid_now c.self.inside.modules c.self.inside.known.items c.self.inside.image c.self.invariant.0 c.args.commands c.self.inside.longest c.in-Ok.calls (ready c) (last c) c.into_code.ensures.value refl (first c))
 
 pub of-image-requires-2-clause-cells : goal.of-image-requires-2-clause-cells
 of-image-requires-2-clause-cells c =
     ap length c.into_parts-code.ensures.cells
-    ∙ many_now c.self.inside.modules c.self.inside.known.items c.self.inside.image c.self.invariant c.args.commands c.in-Ok.calls (ready c) (last c) c.into_code.ensures.value refl (first c)
+    ∙ many_now c.self.inside.modules c.self.inside.known.items c.self.inside.image c.self.invariant.0 c.args.commands c.self.inside.longest c.in-Ok.calls (ready c) (last c) c.into_code.ensures.value refl (first c)
     ∙ ap all_cells (sym (code c))
 
 pub start-run-requires-clause-runs : goal.start-run-requires-clause-runs
 start-run-requires-clause-runs c =
     subst (λ (x : vm.ImageState). vm.CanRun x c.len-behind.result) (sym (image_then c))
-    (can_run c.self.inside.modules c.self.inside.known.items c.self.inside.image c.self.invariant c.args.commands c.in-Ok.calls (ready_then c) (last_then c) c.into_code.ensures.value refl (first_then c) c.len-behind.result (behind_then c))
+    (can_run c.self.inside.modules c.self.inside.known.items c.self.inside.image c.self.invariant.0 c.args.commands c.self.inside.longest c.in-Ok.calls (ready_then c) (last_then c) c.into_code.ensures.value refl (first_then c) c.len-behind.result (behind_then c))
 
 pub start-run-requires-clause-cells : goal.start-run-requires-clause-cells
 start-run-requires-clause-cells c =
     subst (λ (x : vm.ImageState). length x.cells ≡ all_cells x.code) (sym (image_then c))
-    (many_now c.self.inside.modules c.self.inside.known.items c.self.inside.image c.self.invariant c.args.commands c.in-Ok.calls (ready_then c) (last_then c) c.into_code.ensures.value refl (first_then c))
+    (many_now c.self.inside.modules c.self.inside.known.items c.self.inside.image c.self.invariant.0 c.args.commands c.self.inside.longest c.in-Ok.calls (ready_then c) (last_then c) c.into_code.ensures.value refl (first_then c))
 
 pub start-run-requires-clause-room : goal.start-run-requires-clause-room
 start-run-requires-clause-room c =
     subst (λ (x : vm.ImageState). vm.IsRoomIn x c.len-behind.result c.in-Ok.calls.room) (sym (image_then c))
-    (room_now c.self.inside.modules c.self.inside.known.items c.self.inside.image c.self.invariant c.args.commands c.in-Ok.calls (ready_then c) (last_then c) c.into_code.ensures.value refl (first_then c) c.len-behind.result (behind_then c))
+    (room_now c.self.inside.modules c.self.inside.known.items c.self.inside.image c.self.invariant.0 c.args.commands c.self.inside.longest c.in-Ok.calls (ready_then c) (last_then c) c.into_code.ensures.value refl (first_then c) c.len-behind.result (behind_then c))
+
+module _ (c : goal.After-none) where
+  abbrev ms : List Module
+  ms = c.self.inside.modules
+
+  abbrev i : vm.ImageState
+  i = now c.self.inside.modules c.self.inside.known.items c.self.inside.image c.self.invariant.0 c.args.commands c.self.inside.longest c.in-Ok.calls (ready_begun c) (last_begun c) c.into_code.ensures.value refl (first_begun c)
+
+  cells_are : c.of-opening.result.value.items ≡ c.self.inside.image.cells
+  cells_are = ap (λ (v : Vec ℤ Global). v.items) c.of-opening.ensures ∙ c.into_parts-code.ensures.cells
+
+  fits : vm.IsOf i c.start-run.result
+  fits = subst (λ (x : vm.ImageState). vm.IsOf x c.start-run.result) (image_begun c) c.start-run.ensures.fits
+
+  begins : vm.machine_config i c.start-run.result ≡ start i.code c.len-behind.result (record { cells = i.cells; written = []; input = opened })
+  begins = subst (λ (x : vm.ImageState). vm.machine_config x c.start-run.result ≡ start x.code c.len-behind.result (record { cells = x.cells; written = []; input = opened })) (image_begun c) c.start-run.ensures.begins
+
+  running : IsRunning ms (store_of ms c.self.inside.image.cells) (Commands c.args.commands) [] i c.start-run.result false
+  running = runs_now c.self.inside.modules c.self.inside.known.items c.self.inside.image c.self.invariant.0 c.args.commands c.self.inside.longest c.in-Ok.calls (ready_begun c) (last_begun c) c.into_code.ensures.value refl (first_begun c) c.len-behind.result (behind_begun c) c.start-run.result fits begins c.start-run.ensures.used
+
+  begun : stands_at ms (store_of ms c.self.inside.image.cells) (Commands c.args.commands) [] c.start-run.result false false ≡ begun_in (session_of ms c.self.inside.image.cells) (Commands c.args.commands)
+  begun = state_now c.self.inside.modules c.self.inside.known.items c.self.inside.image c.self.invariant.0 c.args.commands c.self.inside.longest c.in-Ok.calls (ready_begun c) (last_begun c) c.into_code.ensures.value refl (first_begun c) c.len-behind.result (behind_begun c) c.start-run.result fits begins c.start-run.ensures.used
 
 pub invariant_of-result-2 : goal.invariant_of-result-2
-invariant_of-result-2 c =
-    let ms = c.self.inside.modules in
-    let is = image_begun c in
-    let i = now c.self.inside.modules c.self.inside.known.items c.self.inside.image c.self.invariant c.args.commands c.in-Ok.calls (ready_begun c) (last_begun c) c.into_code.ensures.value refl (first_begun c) in
-    let begins = subst (λ (x : vm.ImageState). vm.machine_config x c.start-run.result ≡ start x.code c.len-behind.result (record { cells = x.cells; written = []; input = opened })) is c.start-run.ensures.begins in (
-      subst (λ (x : vm.ImageState). IsHeld ms c.self.inside.known.items x) (sym is) (held_now c.self.inside.modules c.self.inside.known.items c.self.inside.image c.self.invariant c.args.commands c.in-Ok.calls (ready_begun c) (last_begun c) c.into_code.ensures.value refl (first_begun c)),
-      subst (λ (x : vm.ImageState). IsRunning ms (store_of ms c.in-Ok.calls.opening.items) (Commands c.args.commands) x c.start-run.result 0 false c.in-Ok.calls.names.items) (sym is)
-          (runs_now c.self.inside.modules c.self.inside.known.items c.self.inside.image c.self.invariant c.args.commands c.in-Ok.calls (ready_begun c) (last_begun c) c.into_code.ensures.value refl (first_begun c) c.len-behind.result (behind_begun c) c.start-run.result (subst (λ (x : vm.ImageState). vm.IsOf x c.start-run.result) is c.start-run.ensures.fits) begins c.start-run.ensures.used),
-    )
+invariant_of-result-2 c = (
+  subst (λ (x : vm.ImageState). IsHeld (ms c) c.self.inside.known.items x) (sym (image_begun c)) (held_now c.self.inside.modules c.self.inside.known.items c.self.inside.image c.self.invariant.0 c.args.commands c.self.inside.longest c.in-Ok.calls (ready_begun c) (last_begun c) c.into_code.ensures.value refl (first_begun c)),
+  subst (λ (x : vm.ImageState). IsRunning (ms c) (store_of (ms c) c.of-opening.result.value.items) (Commands c.args.commands) c.none.result x c.start-run.result false) (sym (image_begun c))
+      (subst (λ (ls : List Line). IsRunning (ms c) (store_of (ms c) c.of-opening.result.value.items) (Commands c.args.commands) ls (i c) c.start-run.result false) (sym c.none.ensures)
+      (subst (λ (cs : List ℤ). IsRunning (ms c) (store_of (ms c) cs) (Commands c.args.commands) [] (i c) c.start-run.result false) (sym (cells_are c)) (running c))),
+  c.self.invariant.1,
+  record {
+    empty = λ _. c.in-Ok.ensures.empty;
+    room = λ _. within_more (ms c) c.self.inside.longest (vec_capacity c.in-Ok.calls.name) c.in-Ok.ensures.named c.self.invariant.1;
+  },
+)
+
+module _ (c : goal.After-drop-may_run) where
+  abbrev last_told : LinkedModule
+  last_told = record { code = c.into_code.result; imports = c.in-Ok.calls.imports; cells = c.len.result }
+
+  ready_told : AreReady c.self.inside.modules c.self.inside.known.items c.args.commands.items c.self.inside.longest c.in-Ok.calls
+  ready_told = ready_for c.self.inside.modules _ _ _ _ c.self.inside.longest c.in-Ok.calls c.as_slice.ensures.value c.as_slice-2.ensures.value c.in-Ok.ensures
+
+  first_told : c.len.result ≡ length c.self.inside.image.cells
+  first_told = c.len.ensures ∙ c.into_parts-code.result.2.ok.0 ∙ ap length c.into_parts-code.ensures.cells
+
+  code_told : c.put_behind.new.code.items ≡ c.self.inside.image.code ++ last_told ∷ []
+  code_told = c.put_behind.ensures ∙ ap (λ (x : Code). x ++ last_told ∷ []) (c.reserve.ensures.items ∙ c.into_parts-code.ensures.code)
+
+  image_told : c.of-image-2.result ≡ now c.self.inside.modules c.self.inside.known.items c.self.inside.image c.self.invariant.0 c.args.commands c.self.inside.longest c.in-Ok.calls ready_told last_told c.into_code.ensures.value refl first_told
+  image_told = c.of-image-2.ensures ∙ image_of c.put_behind.new.code.items _ c.in-Ok.calls.runs.items c.into_parts-code.result.2.items c.self.inside.image.cells code_told c.into_parts-code.ensures.cells
+
+  behind_told : c.len-behind.result ≡ length c.self.inside.image.code
+  behind_told = c.len-behind.ensures ∙ c.reserve.new.self.ok.0 ∙ ap length (c.reserve.ensures.items ∙ c.into_parts-code.ensures.code)
+
+module _ (c : goal.After-drop-may_run) where
+  abbrev ms_told : List Module
+  ms_told = c.self.inside.modules
+
+  abbrev i_told : vm.ImageState
+  i_told = now c.self.inside.modules c.self.inside.known.items c.self.inside.image c.self.invariant.0 c.args.commands c.self.inside.longest c.in-Ok.calls (ready_told c) (last_told c) c.into_code.ensures.value refl (first_told c)
+
+  cells_are_told : c.of-opening.result.value.items ≡ c.self.inside.image.cells
+  cells_are_told = ap (λ (v : Vec ℤ Global). v.items) c.of-opening.ensures ∙ c.into_parts-code.ensures.cells
+
+  fits_told : vm.IsOf i_told c.start-run.result
+  fits_told = subst (λ (x : vm.ImageState). vm.IsOf x c.start-run.result) (image_told c) c.start-run.ensures.fits
+
+  begins_told : vm.machine_config i_told c.start-run.result ≡ start i_told.code c.len-behind.result (record { cells = i_told.cells; written = []; input = opened })
+  begins_told = subst (λ (x : vm.ImageState). vm.machine_config x c.start-run.result ≡ start x.code c.len-behind.result (record { cells = x.cells; written = []; input = opened })) (image_told c) c.start-run.ensures.begins
+
+  running_told : IsRunning ms_told (store_of ms_told c.self.inside.image.cells) (Commands c.args.commands) [] i_told c.start-run.result false
+  running_told = runs_now c.self.inside.modules c.self.inside.known.items c.self.inside.image c.self.invariant.0 c.args.commands c.self.inside.longest c.in-Ok.calls (ready_told c) (last_told c) c.into_code.ensures.value refl (first_told c) c.len-behind.result (behind_told c) c.start-run.result fits_told begins_told c.start-run.ensures.used
+
+  begun_told : stands_at ms_told (store_of ms_told c.self.inside.image.cells) (Commands c.args.commands) [] c.start-run.result false false ≡ begun_in (session_of ms_told c.self.inside.image.cells) (Commands c.args.commands)
+  begun_told = state_now c.self.inside.modules c.self.inside.known.items c.self.inside.image c.self.invariant.0 c.args.commands c.self.inside.longest c.in-Ok.calls (ready_told c) (last_told c) c.into_code.ensures.value refl (first_told c) c.len-behind.result (behind_told c) c.start-run.result fits_told begins_told c.start-run.ensures.used
+
+pub returns-clause-begun : goal.returns-clause-begun
+returns-clause-begun c =
+    ap (λ (ls : List Line). stands_at (ms_told c) (store_of (ms_told c) c.of-opening.result.value.items) (Commands c.args.commands) ls c.start-run.result false false) c.none.ensures
+    ∙ ap (λ (cs : List ℤ). stands_at (ms_told c) (store_of (ms_told c) cs) (Commands c.args.commands) [] c.start-run.result false false) (cells_are_told c)
+    ∙ begun_told c ∙ ap (λ (x : Session). begun_in x (Commands c.args.commands)) c.self.view_is

@@ -1,4 +1,5 @@
-use Rattle.std.proofs.Common.{◌≡◌, ℕ, ℤ, Bool, List, ap, sym, ◌∙◌, subst}
+use Rattle.std.proofs.Common.{◌≡◌, ℕ, ℤ, Bool, List, ap, sym, ◌∙◌, subst, arith, length}
+use Rattle.ob_types.specs.InterfaceTree.{InterfaceTree}
 use Rattle.ob_mean.specs.whole.Values.{Value}
 use Rattle.ob_code.specs.whole.Linked.{runs_of}
 use Rattle.ob_code.specs.whole.Machine.{Code}
@@ -8,39 +9,52 @@ use Rattle.ob_store.specs.Stores.{loaded_cells, session_of}
 use Rattle.ob_linked.specs.Compiled.{Known}
 use Rattle.ob_load.specs.declared.task.Task.TheVariants.{Body}
 use Rattle.ob_load.specs.Kept.{AreCheckable, IsKept}
-use Rattle.ob_load.specs.Loading.{begun_in}
-use Rattle.ob_load.proofs.Loaded.{checkable_with, same_image, store_is}
+use Rattle.ob_load.specs.MachineState.{begun_in}
+use Rattle.ob_load.specs.Names.{NamesWithin}
+use Rattle.ob_load.proofs.Loaded.{checkable_with, same_image, store_is, within_more, within_with}
 use Rattle.ob_load.proofs.session.Session.run_module.Goals as goal
 
 pub begin-requires-clause-checkable : goal.begin-requires-clause-checkable
 begin-requires-clause-checkable c =
-    subst (λ (ms : List Module). AreCheckable ms) (sym c.in-Ok.ensures.modules) (checkable_with c.self.inside.modules c.args.added c.self.invariant.checkable c.requires.solid)
+    subst (λ (ms : List Module). AreCheckable ms) (sym c.in-Ok-load.ensures.modules) (checkable_with c.self.inside.modules c.args.added c.self.invariant.0.checkable c.requires.solid)
 
 pub of-image-requires-clause-valid : goal.of-image-requires-clause-valid
 of-image-requires-clause-valid c =
-    let code = c.in-Err.ensures.err.1.1 ∙ c.into_parts-parts.ensures.code in
+    let code = c.in-Err-load.ensures.err.1.1 ∙ c.into_parts-parts.ensures.code in
     subst (λ (x : Code). vm.AreValid x (runs_of c.into_parts-parts.result.1.items)) (sym code)
     (subst (λ (fs : List Bool). vm.AreValid c.self.inside.image.code (runs_of fs)) (sym c.into_parts-parts.ensures.may_run) c.into_parts-parts.ensures.valid)
 
 pub invariant_of-result : goal.invariant_of-result
 invariant_of-result c =
     let i = c.self.inside.image in
-    let same = c.of-image.ensures ∙ same_image i c.load.new.code.items c.into_parts-parts.result.1.items c.into_parts-parts.result.2.items (c.in-Err.ensures.err.1.1 ∙ c.into_parts-parts.ensures.code) c.into_parts-parts.ensures.may_run c.into_parts-parts.ensures.cells in
-    subst (λ (x : vm.ImageState). IsKept c.load.new.modules c.load.new.known.items x) (sym same)
-    (subst (λ (ks : List Known). IsKept c.load.new.modules ks i) (sym c.in-Err.ensures.err.1.0)
-    (subst (λ (ms : List Module). IsKept ms c.self.inside.known.items i) (sym c.in-Err.ensures.err.0) c.self.invariant))
+    let same = c.of-image.ensures ∙ same_image i c.load.new.code.items c.into_parts-parts.result.1.items c.into_parts-parts.result.2.items (c.in-Err-load.ensures.err.1.1 ∙ c.into_parts-parts.ensures.code) c.into_parts-parts.ensures.may_run c.into_parts-parts.ensures.cells in (
+      subst (λ (x : vm.ImageState). IsKept c.load.new.modules c.load.new.known.items x) (sym same)
+          (subst (λ (ks : List Known). IsKept c.load.new.modules ks i) (sym c.in-Err-load.ensures.err.1.0)
+          (subst (λ (ms : List Module). IsKept ms c.self.inside.known.items i) (sym c.in-Err-load.ensures.err.0) c.self.invariant.0)),
+      subst (λ (ms : List Module). NamesWithin ms c.self.inside.longest) (sym c.in-Err-load.ensures.err.0) c.self.invariant.1,
+    )
 
-pub returns-in-Ok-clause-begun : goal.returns-in-Ok-clause-begun
-returns-in-Ok-clause-begun c =
+pub begin-requires-clause-named : goal.begin-requires-clause-named
+begin-requires-clause-named c =
+    let ms = c.self.inside.modules in
+    let m = c.args.added in
+    let longest = c.max-longest.result in
+    let is = c.max-longest.ensures in
+    let name = ap (λ (xs : List ℕ). length xs) (c.as_slice.ensures ∙ c.name.ensures ∙ ap (λ (i : InterfaceTree). i.name) c.interface.ensures) in
+    subst (λ (x : List Module). NamesWithin x longest) (sym c.in-Ok-load.ensures.modules)
+    (within_with ms m longest (within_more ms c.self.inside.longest longest (omega (arith, is)) c.self.invariant.1) (omega (arith, is, name)))
+
+pub returns-in-Ok-load-clause-begun : goal.returns-in-Ok-load-clause-begun
+returns-in-Ok-load-clause-begun c =
     let ms = c.self.inside.modules in
     let m = c.args.added in
     let old = c.self.inside.image.cells in
-    let b = c.in-Ok.beginning in
+    let b = c.in-Ok-load.beginning in
     let new = with_module ms m in
-    let cells = c.in-Ok.ensures.opening ∙ ap (loaded_cells ms m) (c.as_slice.ensures.value ∙ c.into_parts-parts.ensures.cells) in
+    let cells = c.in-Ok-load.ensures.cells ∙ ap (loaded_cells ms m) (c.as_slice-2.ensures.value ∙ c.into_parts-parts.ensures.cells) in
     subst (λ (s : Session). c.begin.result ≡ begun_in (installed s m) (Body (place_of s.modules (name_of m)))) c.self.view_is
     (c.begin.ensures
-    ∙ ap (λ (x : List Module). begun_in (session_of x b.opening.items) (Body b.number)) c.in-Ok.ensures.modules
+    ∙ ap (λ (x : List Module). begun_in (session_of x b.cells.items) (Body b.number)) c.in-Ok-load.ensures.modules
     ∙ ap (λ (x : List ℤ). begun_in (session_of new x) (Body b.number)) cells
-    ∙ ap (λ (n : ℕ). begun_in (session_of new (loaded_cells ms m old)) (Body n)) c.in-Ok.ensures.number
-    ∙ ap (λ (v : Value). begun_in (let s : Session = record { modules = new; store = v } in s) (Body (place_of ms (name_of m)))) (sym (store_is ms c.self.inside.known.items c.self.inside.image.code m old c.self.invariant.compiled.each c.self.invariant.cells)))
+    ∙ ap (λ (n : ℕ). begun_in (session_of new (loaded_cells ms m old)) (Body n)) c.in-Ok-load.ensures.number
+    ∙ ap (λ (v : Value). begun_in (let s : Session = record { modules = new; store = v } in s) (Body (place_of ms (name_of m)))) (sym (store_is ms c.self.inside.known.items c.self.inside.image.code m old c.self.invariant.0.compiled.each c.self.invariant.0.cells)))
