@@ -73,7 +73,10 @@ pub fn begin(
             Ok(fault) => Ok(Begun::Refused(session, Refusal::Link(fault))),
             Err(error) => Err((session, error)),
         },
-        Err(Refused::Fault(fault)) => Ok(Begun::Refused(session, Refusal::Compile(numbered(fault)))),
+        Err(Refused::Fault(fault)) => Ok(Begun::Refused(
+            session,
+            Refusal::Compile(numbered(fault)),
+        )),
         Err(Refused::Memory) => Err((session, AllocError)),
     }
 }
