@@ -3,3 +3,4 @@ pub mod NameLemmas
 pub mod MoveLemmas
 pub mod RefusalLemmas
 pub mod PlaceLemmas
+pub mod DeviceLemmas

@@ -4,7 +4,7 @@ use Rattle.std.specs.Prelude.{◌&&◌, is_some}
 use Rattle.js_shelf.specs.declared.item.Item.{Item}
 use Rattle.js_shelf.specs.declared.item.Item.TheVariants.{File, Folder}
 use Rattle.js_shelf.specs.declared.item.ShelfRefusal.{ShelfRefusal}
-use Rattle.js_shelf.specs.declared.item.ShelfRefusal.TheVariants.{Missing, Exists, BadPath, NotEmpty, Device, Memory}
+use Rattle.js_shelf.specs.declared.item.ShelfRefusal.TheVariants.{Missing, Exists, BadPath}
 use Rattle.js_shelf.specs.Paths.{is_path, is_root, parent_of}
 use Rattle.js_shelf.specs.Shelves.{Contents, is_folder, is_free_for, is_below, fault_below, put_fault, delete_fault, rename_fault}
 

@@ -1,5 +1,5 @@
 -- The items of a shelf in memory, as the list of their paths with what stands there.
-use Rattle.std.specs.Prelude.{ℕ, ◌||◌, Bool, false, List, [], ◌∷◌, ◌++◌, if◌then◌else◌, Option, Some, None, is_some, String, string_bytes}
+use Rattle.std.specs.Prelude.{ℕ, ◌||◌, Bool, false, List, [], ◌∷◌, if◌then◌else◌, Option, Some, None, is_some, String, string_bytes}
 use Rattle.std.specs.Str.{bytes_eq}
 use Rattle.js_shelf.specs.declared.item.Item.{Item}
 use Rattle.js_shelf.specs.Paths.{goes, name_in}

@@ -1,5 +1,4 @@
 -- What a shelf in memory holds.
-use Rattle.std.specs.Prelude.{ℕ, List, Option, string_bytes}
 use Rattle.std.specs.BTreeMap.{get_by_text}
 use Rattle.js_shelf.specs.declared.memory.MemoryShelf.{MemoryShelf}
 use Rattle.js_shelf.specs.Shelves.{Contents}

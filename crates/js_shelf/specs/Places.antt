@@ -7,7 +7,7 @@ use Rattle.js_shelf.specs.Paths.{is_segment, is_slash}
 abbrev pub is_step : List ℕ → Bool
 is_step segment = is_segment segment && not (list_any is_slash segment)
 
--- the steps, each behind a slash
-abbrev pub below : List (List ℕ) → List ℕ
-below [] = []
-below (step ∷ steps) = (47 ∷ step) ++ below steps
+-- where a path stands below a root: behind a slash, and the root itself where it is empty
+abbrev pub below_root : List ℕ → List ℕ → List ℕ
+below_root root [] = root
+below_root root (byte ∷ bytes) = root ++ 47 ∷ byte ∷ bytes

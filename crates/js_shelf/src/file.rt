@@ -1,158 +1,221 @@
-//! A shelf in a folder of the system.
-ghost use Rattle.std.specs.Prelude.{◌≡◌, None, IfOk};
-ghost use Rattle.js_shelf.specs.Shelves.{HasCause};
+//! A shelf over a device.
+ghost use Rattle.std.specs.Prelude.{◌≡◌, ◌&&◌, is_some, IfOk};
+ghost use Rattle.js_shelf.specs.Shelves.{HasCause, Tells, Gets, Lists, Puts, Renames, Deletes, is_folder, is_below};
+ghost use Rattle.js_shelf.specs.Devices.{Finds};
 
-use crate::path::{following, is_below_root};
-use crate::system::{
-    Kind, kind_at, list_folder, make_folder, move_item, parent_place, place_of, read_file,
-    remove_file, remove_folder, write_file,
-};
-use crate::{Item, Names, Shelf, ShelfRefusal, is_path};
-use std::alloc::AllocError;
+use crate::path::{is_below, is_below_root, is_path};
+use crate::system::SystemFolder;
+use crate::{Device, DeviceFault, Item, Kind, Names, Place, Shelf, ShelfRefusal};
+use std::alloc::{AllocError, Global};
 use std::rt::Files;
 
-/// The files and folders below one folder of the system, its root.
+/// The files and folders that a device keeps, or those below one folder of the system, its root.
 ///
-/// A put of a file writes a new file beside the old one, with its bytes on the disk, and then takes the old one's
-/// place, so that a crash leaves the old file or the new one. Links are not followed, and stand in the way: what is
-/// behind one is `Missing`, what would be put on one is `Exists`. A file over 2^30 bytes is a fault of the device. What
-/// the system does is its own: the shelf tells nothing of its contents.
+/// Where the device tells what it holds, the shelf tells the same, and each call is that of the map.
 #[derive(Drop)]
-pub struct FileShelf<R: Files + AllocGlobal + Clone + Drop> {
-    rt: R,
-    root: String,
+pub struct FileShelf<D: Device + Drop> {
+    alloc: Global,
+    device: D,
     failures: u64,
 }
 
-impl<R: Files + AllocGlobal + Clone + Drop> FileShelf<R> {
-    /// A shelf over that folder, which is there.
-    pub fn new(rt: R, root: &str) -> Result<FileShelf<R>, AllocError>
+impl<R: Files + AllocGlobal + Clone + Drop> FileShelf<SystemFolder<R>> {
+    /// A shelf over that folder of the system, which is there.
+    pub fn new(rt: R, root: &str) -> Result<FileShelf<SystemFolder<R>>, AllocError>
         ensures { IfOk result (λ shelf. shelf.failures ≡ 0) }
     {
-        let root = String::from_str(rt.alloc(), root)?;
-        Ok(FileShelf {
-            rt,
-            root,
-            failures: 0,
-        })
+        let alloc = rt.alloc();
+        let device = SystemFolder::new(rt, root)?;
+        Ok(FileShelf::over(alloc, device))
     }
+}
 
-    // Counts a fault of the device.
-    fn counted<T: Drop>(&mut self, outcome: Result<T, ShelfRefusal>) -> Result<T, ShelfRefusal>
-        ensures same { result ≡ outcome }
-        ensures cause { HasCause self.old.failures self.new.failures result }
+impl<D: Device + Drop> FileShelf<D> {
+    /// A shelf over that device.
+    pub fn over(alloc: Global, device: D) -> FileShelf<D>
+        ensures device { result.device ≡ device }
+        ensures failures { result.failures ≡ 0 }
     {
-        if let Err(ShelfRefusal::Device) = outcome {
-            self.failures = self.failures.saturating_add(1);
-        }
-        outcome
-    }
-
-    fn read_item(&self, path: &str) -> Result<Item, ShelfRefusal> {
-        if !is_path(path) {
-            return Err(ShelfRefusal::BadPath);
-        }
-        let place = place_of(&self.rt, self.root.as_str(), path)?;
-        match kind_at(&self.rt, &place)? {
-            Kind::File => read_file(&self.rt, &place),
-            Kind::Folder => Ok(Item::Folder),
-            Kind::Nothing | Kind::Other => Err(ShelfRefusal::Missing),
-        }
-    }
-
-    fn read_names(&self, path: &str) -> Result<Names, ShelfRefusal> {
-        if !is_path(path) {
-            return Err(ShelfRefusal::BadPath);
-        }
-        let place = place_of(&self.rt, self.root.as_str(), path)?;
-        match kind_at(&self.rt, &place)? {
-            Kind::Folder => list_folder(&self.rt, &place),
-            Kind::Nothing | Kind::File | Kind::Other => Err(ShelfRefusal::Missing),
-        }
-    }
-
-    fn write_item(&self, path: &str, item: &Item) -> Result<(), ShelfRefusal> {
-        if !is_below_root(path) {
-            return Err(ShelfRefusal::BadPath);
-        }
-        let folder = parent_place(&self.rt, self.root.as_str(), path)?;
-        let place = place_of(&self.rt, self.root.as_str(), path)?;
-        match (kind_at(&self.rt, &place)?, item) {
-            (Kind::Nothing | Kind::File, Item::File(bytes)) => {
-                write_file(&self.rt, &folder, &place, bytes.as_slice())
-            }
-            (Kind::Nothing, Item::Folder) => make_folder(&self.rt, &place),
-            _ => Err(ShelfRefusal::Exists),
-        }
-    }
-
-    // Whether a folder would be moved to a place below itself.
-    fn is_into_itself(&self, from: &str, to: &str) -> Result<bool, ShelfRefusal> {
-        match following(from, to) {
-            Some(rest) if !rest.is_empty() => {
-                let place = place_of(&self.rt, self.root.as_str(), from)?;
-                Ok(kind_at(&self.rt, &place)? == Kind::Folder)
-            }
-            _ => Ok(false),
-        }
-    }
-
-    fn move_to(&self, from: &str, to: &str) -> Result<(), ShelfRefusal> {
-        if !is_below_root(from) || !is_below_root(to) || self.is_into_itself(from, to)? {
-            return Err(ShelfRefusal::BadPath);
-        }
-        let source = place_of(&self.rt, self.root.as_str(), from)?;
-        if !matches!(kind_at(&self.rt, &source)?, Kind::File | Kind::Folder) {
-            return Err(ShelfRefusal::Missing);
-        }
-        let target = place_of(&self.rt, self.root.as_str(), to)?;
-        if kind_at(&self.rt, &target)? != Kind::Nothing {
-            return Err(ShelfRefusal::Exists);
-        }
-        move_item(&self.rt, &source, &target)
-    }
-
-    fn remove_item(&self, path: &str) -> Result<(), ShelfRefusal> {
-        if !is_below_root(path) {
-            return Err(ShelfRefusal::BadPath);
-        }
-        let place = place_of(&self.rt, self.root.as_str(), path)?;
-        match kind_at(&self.rt, &place)? {
-            Kind::File => remove_file(&self.rt, &place),
-            Kind::Folder => remove_folder(&self.rt, &place),
-            Kind::Nothing | Kind::Other => Err(ShelfRefusal::Missing),
+        FileShelf {
+            alloc,
+            device,
+            failures: 0,
         }
     }
 }
 
-impl<R: Files + AllocGlobal + Clone + Drop> Shelf for FileShelf<R> {
-    ghost contents = { λ _. None };
+// Counts a fault of the device.
+fn counted<T: Drop>(failures: &mut u64, outcome: Result<T, ShelfRefusal>) -> Result<T, ShelfRefusal>
+    ensures same { result ≡ outcome }
+    ensures cause { HasCause failures.old failures.new result }
+{
+    if let Err(ShelfRefusal::Device) = outcome {
+        *failures = failures.saturating_add(1);
+    }
+    outcome
+}
+
+fn read_item<D: Device>(device: &mut D, alloc: Global, path: &str) -> Result<Item, ShelfRefusal>
+    ensures { Tells (D.contents device.old) (D.contents device.new) (Gets path.now result) }
+{
+    if !is_path(path) {
+        return Err(ShelfRefusal::BadPath);
+    }
+    let place = Place::new(alloc, path)?;
+    match device.kind(&place)? {
+        Kind::File => Ok(Item::File(device.read(&place)?)),
+        Kind::Folder => Ok(Item::Folder),
+        Kind::Nothing | Kind::Other => Err(ShelfRefusal::Missing),
+    }
+}
+
+fn read_names<D: Device>(device: &mut D, alloc: Global, path: &str) -> Result<Names, ShelfRefusal>
+    ensures { Tells (D.contents device.old) (D.contents device.new) (Lists path.now result) }
+{
+    if !is_path(path) {
+        return Err(ShelfRefusal::BadPath);
+    }
+    let place = Place::new(alloc, path)?;
+    match device.kind(&place)? {
+        Kind::Folder => Ok(device.names(&place)?),
+        Kind::Nothing | Kind::File | Kind::Other => Err(ShelfRefusal::Missing),
+    }
+}
+
+fn write_item<D: Device>(
+    device: &mut D,
+    alloc: Global,
+    path: &str,
+    item: &Item,
+) -> Result<(), ShelfRefusal>
+    ensures { Tells (D.contents device.old) (D.contents device.new) (Puts path.now item.now result) }
+{
+    if !is_below_root(path) {
+        return Err(ShelfRefusal::BadPath);
+    }
+    let place = Place::new(alloc, path)?;
+    let folder = place.parent()?;
+    if !has_folder(device, &folder)? {
+        return Err(ShelfRefusal::Missing);
+    }
+    match (device.kind(&place)?, item) {
+        (Kind::Nothing | Kind::File, Item::File(bytes)) => {
+            Ok(device.write(&place, bytes.as_slice())?)
+        }
+        (Kind::Nothing, Item::Folder) => Ok(device.make_folder(&place)?),
+        _ => Err(ShelfRefusal::Exists),
+    }
+}
+
+// Whether a folder stands at the place.
+fn has_folder<D: Device>(device: &mut D, place: &Place) -> Result<bool, DeviceFault>
+    ensures { Tells (D.contents device.old) (D.contents device.new) (Finds (λ m found. found ≡ is_folder (m place.now)) result) }
+{
+    Ok(device.kind(place)? == Kind::Folder)
+}
+
+// Whether a file or a folder stands at the place.
+fn has_item<D: Device>(device: &mut D, place: &Place) -> Result<bool, DeviceFault>
+    ensures { Tells (D.contents device.old) (D.contents device.new) (Finds (λ m found. found ≡ is_some (m place.now)) result) }
+{
+    Ok(matches!(device.kind(place)?, Kind::File | Kind::Folder))
+}
+
+// Whether anything stands at the place, a link too.
+fn is_taken<D: Device>(device: &mut D, place: &Place) -> Result<bool, DeviceFault>
+    ensures { Tells (D.contents device.old) (D.contents device.new) (Finds (λ m found. found ≡ is_some (m place.now)) result) }
+{
+    Ok(device.kind(place)? != Kind::Nothing)
+}
+
+// Whether the place of a folder would be below itself.
+fn is_into_itself<D: Device>(device: &mut D, from: &Place, to: &Place) -> Result<bool, DeviceFault>
+    ensures { Tells (D.contents device.old) (D.contents device.new) (Finds (λ m found. found ≡ (is_folder (m from.now) && is_below from.now to.now)) result) }
+{
+    Ok(has_folder(device, from)? && is_below(from.as_str(), to.as_str()))
+}
+
+// Whether something stands at the place, and that is a folder.
+fn is_movable<D: Device>(device: &mut D, from: &Place, folder: &Place) -> Result<bool, DeviceFault>
+    ensures { Tells (D.contents device.old) (D.contents device.new) (Finds (λ m found. found ≡ (is_some (m from.now) && is_folder (m folder.now))) result) }
+{
+    Ok(has_item(device, from)? && has_folder(device, folder)?)
+}
+
+fn move_to<D: Device>(
+    device: &mut D,
+    alloc: Global,
+    from: &str,
+    to: &str,
+) -> Result<(), ShelfRefusal>
+    ensures { Tells (D.contents device.old) (D.contents device.new) (Renames from.now to.now result) }
+{
+    if !is_below_root(from) || !is_below_root(to) {
+        return Err(ShelfRefusal::BadPath);
+    }
+    let source = Place::new(alloc, from)?;
+    let target = Place::new(alloc, to)?;
+    let folder = target.parent()?;
+    if is_into_itself(device, &source, &target)? {
+        return Err(ShelfRefusal::BadPath);
+    }
+    if !is_movable(device, &source, &folder)? {
+        return Err(ShelfRefusal::Missing);
+    }
+    if is_taken(device, &target)? {
+        return Err(ShelfRefusal::Exists);
+    }
+    Ok(device.move_item(&source, &target)?)
+}
+
+fn remove_item<D: Device>(device: &mut D, alloc: Global, path: &str) -> Result<(), ShelfRefusal>
+    ensures { Tells (D.contents device.old) (D.contents device.new) (Deletes path.now result) }
+{
+    if !is_below_root(path) {
+        return Err(ShelfRefusal::BadPath);
+    }
+    let place = Place::new(alloc, path)?;
+    match device.kind(&place)? {
+        Kind::File => Ok(device.remove_file(&place)?),
+        Kind::Folder => {
+            if device.remove_folder(&place)? {
+                Ok(())
+            } else {
+                Err(ShelfRefusal::NotEmpty)
+            }
+        }
+        Kind::Nothing | Kind::Other => Err(ShelfRefusal::Missing),
+    }
+}
+
+impl<D: Device + Drop> Shelf for FileShelf<D> {
+    ghost contents = { λ shelf. D.contents shelf.device };
 
     ghost faults = { λ shelf. shelf.failures };
 
     fn get(&mut self, path: &str) -> Result<Item, ShelfRefusal> {
-        let result = self.read_item(path);
-        self.counted(result)
+        let result = read_item(&mut self.device, self.alloc, path);
+        counted(&mut self.failures, result)
     }
 
     fn list(&mut self, path: &str) -> Result<Names, ShelfRefusal> {
-        let result = self.read_names(path);
-        self.counted(result)
+        let result = read_names(&mut self.device, self.alloc, path);
+        counted(&mut self.failures, result)
     }
 
     fn put(&mut self, path: &str, item: Item) -> Result<(), ShelfRefusal> {
-        let result = self.write_item(path, &item);
-        self.counted(result)
+        let result = write_item(&mut self.device, self.alloc, path, &item);
+        counted(&mut self.failures, result)
     }
 
     fn rename(&mut self, from: &str, to: &str) -> Result<(), ShelfRefusal> {
-        let result = self.move_to(from, to);
-        self.counted(result)
+        let result = move_to(&mut self.device, self.alloc, from, to);
+        counted(&mut self.failures, result)
     }
 
     fn delete(&mut self, path: &str) -> Result<(), ShelfRefusal> {
-        let result = self.remove_item(path);
-        self.counted(result)
+        let result = remove_item(&mut self.device, self.alloc, path);
+        counted(&mut self.failures, result)
     }
 
     fn failures(&self) -> u64 {

@@ -2,9 +2,8 @@
 ghost use Rattle.std.specs.Prelude.{◌≡◌, IfOk, string_bytes};
 ghost use Rattle.js_shelf.specs.declared.item.ShelfRefusal.TheVariants.{Memory};
 
+use crate::DeviceFault;
 use std::alloc::{AllocError, AllocFailed, Global};
-use std::io;
-use std::io::ErrorKind;
 use std::marker::Model;
 
 /// The bytes of a file.
@@ -161,11 +160,16 @@ pub enum ShelfRefusal {
     Memory,
 }
 
-impl From<io::Error> for ShelfRefusal {
-    fn from(error: io::Error) -> ShelfRefusal {
-        match error.kind() {
-            ErrorKind::OutOfMemory => ShelfRefusal::Memory,
-            _ => ShelfRefusal::Device,
+impl From<DeviceFault> for ShelfRefusal {
+    ghost use Rattle.std.specs.Prelude.{◌≡◌};
+    ghost use Rattle.js_shelf.specs.Devices.{refusal_of};
+
+    ghost from_gives = { λ fault refusal. refusal ≡ refusal_of fault };
+
+    fn from(fault: DeviceFault) -> ShelfRefusal {
+        match fault {
+            DeviceFault::Failed => ShelfRefusal::Device,
+            DeviceFault::Memory => ShelfRefusal::Memory,
         }
     }
 }

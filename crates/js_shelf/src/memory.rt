@@ -9,7 +9,9 @@ ghost use Rattle.js_shelf.specs.Memory as memory;
 ghost use Rattle.js_shelf.specs.Shelves as spec;
 ghost use Rattle.js_shelf.specs.declared.item.Item.TheVariants as items;
 
-use crate::path::{following, is_below_root, name_in, parent_of};
+mod device;
+
+use crate::path::{following, is_below, is_below_root, name_in, parent_of};
 use crate::{Item, Name, Names, Shelf, ShelfRefusal, is_path};
 use std::alloc::{AllocError, Global};
 use std::collections::BTreeMap;
@@ -65,16 +67,6 @@ fn is_free_for(item: &Item, there: Option<&Item>) -> bool
     match there {
         None => true,
         Some(there) => matches!(item, Item::File(_)) && matches!(there, Item::File(_)),
-    }
-}
-
-// Whether `to` stands below `from`.
-fn is_below(from: &str, to: &str) -> bool
-    ensures { result ≡ spec.is_below from.now to.now }
-{
-    match following(from, to) {
-        Some(rest) => !rest.is_empty(),
-        None => false,
     }
 }
 

@@ -4,6 +4,7 @@ ghost use Rattle.std.specs.List.{list_all, list_any, position_or_len};
 ghost use Rattle.std.specs.Option.{option_copied};
 ghost use Rattle.js_shelf.specs.Paths as spec;
 ghost use Rattle.js_shelf.specs.Places as places;
+ghost use Rattle.js_shelf.specs.Shelves as shelves;
 
 /// A path has at most so many segments.
 pub const MAX_SEGMENTS: usize = 16;
@@ -159,5 +160,15 @@ pub(crate) fn name_in<'p>(folder: &str, path: &'p str) -> Option<&'p str>
     match name {
         Some(name) if is_name(name) => Some(name),
         _ => None,
+    }
+}
+
+/// Whether `to` stands below `from`.
+pub(crate) fn is_below(from: &str, to: &str) -> bool
+    ensures { result ≡ shelves.is_below from.now to.now }
+{
+    match following(from, to) {
+        Some(rest) => !rest.is_empty(),
+        None => false,
     }
 }

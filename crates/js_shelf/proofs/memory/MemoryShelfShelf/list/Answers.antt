@@ -1,8 +1,5 @@
-use Rattle.std.proofs.Common.{rules, refl, subst, ◌∙◌}
-use Rattle.js_shelf.specs.Shelves.{IsListing}
-use Rattle.js_shelf.specs.MemoryShelves.{contents_of}
+use Rattle.std.proofs.Common.{rules, refl, ◌∙◌}
 use Rattle.js_shelf.proofs.NameLemmas.{listing}
-use Rattle.js_shelf.proofs.MoveLemmas.{moved_is}
 use Rattle.js_shelf.proofs.memory.MemoryShelfShelf.list.Goals as goal
 
 pub returns-clause-answer : goal.returns-clause-answer

@@ -1,4 +1,4 @@
-use Rattle.std.proofs.Common.{rules, refl, true, false, ◌∙◌}
+use Rattle.std.proofs.Common.{rules, true, false, ◌∙◌}
 use Rattle.js_shelf.specs.MemoryShelves.{contents_of}
 use Rattle.js_shelf.proofs.MoveLemmas.{moved_is}
 use Rattle.js_shelf.proofs.RefusalLemmas.{rename_is}
