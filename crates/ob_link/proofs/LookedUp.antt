@@ -1,12 +1,11 @@
 -- Looking commands up.
-use Rattle.std.proofs.Common.{◌≡◌, ℕ, List, [], ◌∷◌, ◌++◌, map, Option, Some, None, refl, sym, ◌∙◌, ap, append_assoc, rules}
-use Rattle.std.specs.Prelude.{slice_index, slice_index_or}
+use Rattle.std.proofs.Common.{◌≡◌, ℕ, List, [], ◌∷◌, ◌++◌, Option, Some, None, refl, sym, ◌∙◌, ap, append_assoc, rules}
+use Rattle.std.specs.Prelude.{slice_index}
 use Rattle.ob_mean.specs.whole.Programs.{Command}
 use Rattle.ob_mean.specs.whole.Values.{Value}
 use Rattle.ob_session.specs.Session.{Module, find_module, place_of, link_fault}
 use Rattle.ob_session.specs.Cells.{CommandName, Looked, Found, Ready, Runs, Faulty, command_place, linked, looked_in, looked_by, looked_up, ready_with, all_ready}
 use Rattle.ob_link.specs.Looking.{in_store, storeless}
-use Rattle.ob_link.proofs.Rows.{at_place}
 
 -- ---- the store doesn't matter
 
@@ -32,15 +31,10 @@ all_stored ms store (c ∷ cs) =
 abbrev at : ℕ → ℕ → Command
 at home procedure = record { home = home; procedure = procedure }
 
--- of a module that is loaded, by the faults behind all
-pub looked_there : (ms : List Module) (faults : List (Option (List ℕ))) (c : CommandName) (m : Module) (place number procedure : ℕ) (fault : Option (List ℕ)) (command : Command) → faults ≡ map (λ (m : Module). link_fault ms m.imports) ms → find_module ms c.home ≡ Some m → command_place m.interface.exports c.name 0 ≡ Some place → number ≡ place_of ms c.home → procedure ≡ slice_index m.tree.exported place → fault ≡ slice_index_or faults number None → command ≡ record { home = number; procedure = procedure } → linked fault command ≡ looked_by (storeless ms) c (Some m)
-looked_there ms faults c m place number procedure fault command all e p n q f k =
+-- of a module that is loaded
+pub looked_there : (ms : List Module) (c : CommandName) (m : Module) (place number procedure : ℕ) (fault : Option (List ℕ)) (command : Command) → command_place m.interface.exports c.name 0 ≡ Some place → number ≡ place_of ms c.home → procedure ≡ slice_index m.tree.exported place → fault ≡ link_fault ms m.imports → command ≡ record { home = number; procedure = procedure } → linked fault command ≡ looked_by (storeless ms) c (Some m)
+looked_there ms c m place number procedure fault command p n q links k =
     let home = place_of ms c.home in
-    let links : fault ≡ link_fault ms m.imports =
-    f
-    ∙ ap (λ (x : ℕ). slice_index_or faults x None) n
-    ∙ ap (λ (row : List (Option (List ℕ))). slice_index_or row home None) all
-    ∙ at_place (λ (m : Module). link_fault ms m.imports) None ms c.home m e in
     let named : command ≡ at home (slice_index m.tree.exported place) = k ∙ ap (λ (x : ℕ). at x procedure) n ∙ ap (at home) q in
     ap (λ (x : Option (List ℕ)). linked x command) links
     ∙ ap (linked (link_fault ms m.imports)) named

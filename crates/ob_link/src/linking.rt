@@ -8,11 +8,12 @@ ghost use Rattle.ob_link.specs.Runs.{may_run};
 
 use crate::module::KeyedImport;
 use crate::modules::Modules;
+use crate::table::Table;
 use ob_base::Text;
 use std::alloc::{AllocError, Global};
 
 // What is behind the module of this number.
-pub(crate) fn fault_at(
+fn fault_at(
     alloc: Global,
     behind: &[Option<Text>],
     number: usize,
@@ -51,7 +52,7 @@ fn same_faults(row: &[Option<Text>], other: &[Option<Text>]) -> bool
     true
 }
 
-impl Modules {
+impl Table {
     // The fault of an import, where these are the faults behind each module.
     fn fault_of(
         &self,
@@ -73,7 +74,7 @@ impl Modules {
     }
 
     // The first that one of these imports has.
-    fn first_fault(
+    pub(crate) fn first_fault(
         &self,
         behind: &[Option<Text>],
         imports: &[KeyedImport],
@@ -100,7 +101,10 @@ impl Modules {
     }
 
     // The faults behind each module, through chains that are longer by an import.
-    fn next_faults(&self, behind: &[Option<Text>]) -> Result<Vec<Option<Text>>, AllocError>
+    pub(crate) fn next_faults(
+        &self,
+        behind: &[Option<Text>],
+    ) -> Result<Vec<Option<Text>>, AllocError>
         ensures { IfOk result (λ row. row.items ≡ spec.next_row self.now behind.now) }
     {
         let mut so_far = Vec::new(self.alloc());
@@ -112,7 +116,7 @@ impl Modules {
 
     // The faults behind each module, through chains of as many imports as there are modules. A row that gives itself gives no
     // other.
-    fn last_faults(&self) -> Result<Vec<Option<Text>>, AllocError>
+    pub(crate) fn last_faults(&self) -> Result<Vec<Option<Text>>, AllocError>
         ensures { IfOk result (λ row. row.items ≡ spec.fault_row self.now (length self.now)) }
     {
         let mut behind = self.no_faults()?;
@@ -125,9 +129,11 @@ impl Modules {
         }
         Ok(behind)
     }
+}
 
+impl Modules {
     /// Whether imports link: the name of the first module that is reached through them, in their order, depth first, and is
-    /// not loaded with the key that its client recorded; or none, where each is.
+    /// not loaded with the key that its client recorded; or none, where each is. It looks at these imports alone.
     ///
     /// # Errors
     ///
@@ -135,11 +141,10 @@ impl Modules {
     pub fn link_fault(&self, imports: &[KeyedImport]) -> Result<Option<Text>, AllocError>
         ensures { IfOk result (λ f. f ≡ session.link_fault self.now imports.now) }
     {
-        let behind = self.last_faults()?;
-        self.first_fault(behind.as_slice(), imports)
+        self.table.first_fault(self.faults.as_slice(), imports)
     }
 
-    /// What `link_fault` answers for the imports of each module, by the module's number. It costs no more than one such call.
+    /// What `link_fault` answers for the imports of each module, by the module's number.
     ///
     /// # Errors
     ///
@@ -147,8 +152,7 @@ impl Modules {
     pub fn faults(&self) -> Result<Vec<Option<Text>>, AllocError>
         ensures { IfOk result (λ row. row.items ≡ map (λ (m : Module). session.link_fault self.now m.imports) self.now) }
     {
-        let behind = self.last_faults()?;
-        self.next_faults(behind.as_slice())
+        self.table.next_faults(self.faults.as_slice())
     }
 
     /// Whether the imports of each module link, by the module's number.

@@ -1,15 +1,13 @@
 //! Looking commands up.
 
-ghost use Rattle.std.specs.Prelude.{◌≡◌, ◌<◌, ◌&&◌, IfOk, Some, None, map, slice_index};
+ghost use Rattle.std.specs.Prelude.{◌≡◌, ◌<◌, ◌&&◌, IfOk, Some, None, slice_index};
 ghost use Rattle.std.specs.Str.{bytes_eq};
 ghost use Rattle.ob_mean.specs.whole.Values.{Value};
 ghost use Rattle.ob_session.specs.Cells as cells;
-ghost use Rattle.ob_session.specs.Session.{Module};
 ghost use Rattle.ob_session.specs.Session as session;
 ghost use Rattle.ob_link.specs.Looking.{fault_seen, looked_seen, ready_seen, in_store, storeless};
 
 use crate::command::{Command, CommandName, LinkFault, Looked, Ready};
-use crate::linking::fault_at;
 use crate::module::SessionModule;
 use crate::modules::Modules;
 use ob_base::Text;
@@ -115,22 +113,20 @@ impl Modules {
         Ok(Looked::Missing(LinkFault::NotLoaded(home.copy(self.alloc())?)))
     }
 
-    // What a command of this module comes to, where these are the faults behind all of them.
+    // What a command of this module comes to.
     fn looked_inside(
         &self,
-        faults: &[Option<Text>],
         found: &SessionModule,
         home: &Text,
         name: &Text,
     ) -> Result<Looked, AllocError>
-        requires faults { faults.now ≡ map (λ (m : Module). session.link_fault self.now m.imports) self.now }
-        requires found { session.find_module self.now home.now ≡ Some found.now }
+        requires { session.find_module self.now home.now ≡ Some found.now }
         ensures { IfOk result (λ l. looked_seen l ≡ cells.looked_by (storeless self.now) (record { home = home.now; name = name.now }) (Some found.now)) }
     {
         match command_place(found.interface().exports(), name) {
             Some(place) => {
                 let number = self.place_of(home);
-                let fault = fault_at(self.alloc(), faults, number)?;
+                let fault = self.link_fault(found.imports())?;
                 let command = Command::new(number, procedure_at(found.tree(), place));
                 Ok(linked(fault, command))
             }
@@ -138,34 +134,23 @@ impl Modules {
         }
     }
 
-    // What a command comes to, where these are the faults behind all modules.
-    fn looked_up(
-        &self,
-        faults: &[Option<Text>],
-        home: &Text,
-        name: &Text,
-    ) -> Result<Looked, AllocError>
-        requires { faults.now ≡ map (λ (m : Module). session.link_fault self.now m.imports) self.now }
+    // What a command comes to.
+    fn looked_up(&self, home: &Text, name: &Text) -> Result<Looked, AllocError>
         ensures { IfOk result (λ l. looked_seen l ≡ cells.looked_up (storeless self.now) (record { home = home.now; name = name.now })) }
     {
         match self.find(home) {
-            Some(found) => self.looked_inside(faults, found, home, name),
+            Some(found) => self.looked_inside(found, home, name),
             None => self.looked_outside(home, name),
         }
     }
 
-    // Commands, where these are the faults behind all modules.
-    fn all_ready(
-        &self,
-        faults: &[Option<Text>],
-        commands: &[CommandName],
-    ) -> Result<Ready, AllocError>
-        requires { faults.now ≡ map (λ (m : Module). session.link_fault self.now m.imports) self.now }
+    // The same of commands.
+    fn all_ready(&self, commands: &[CommandName]) -> Result<Ready, AllocError>
         ensures { IfOk result (λ r. ready_seen r ≡ cells.all_ready (storeless self.now) commands.now) }
     {
         let mut so_far = Vec::new(self.alloc());
         for command in commands {
-            match self.looked_up(faults, command.home(), command.name())? {
+            match self.looked_up(command.home(), command.name())? {
                 Looked::Found(found) => so_far.push(found)?,
                 Looked::Missing(fault) => return Ok(Ready::Faulty(fault)),
             }
@@ -183,8 +168,7 @@ impl Modules {
     pub fn command(&self, home: &Text, name: &Text) -> Result<Looked, AllocError>
         ensures { IfOk result (λ l. (store : Value) → looked_seen l ≡ cells.looked_up (in_store self.now store) (record { home = home.now; name = name.now })) }
     {
-        let faults = self.faults()?;
-        self.looked_up(faults.as_slice(), home, name)
+        self.looked_up(home, name)
     }
 
     /// What commands come to: all of them, where each can run, or why the first that can't run can't. So each is looked up
@@ -196,7 +180,6 @@ impl Modules {
     pub fn ready(&self, commands: &[CommandName]) -> Result<Ready, AllocError>
         ensures { IfOk result (λ r. (store : Value) → ready_seen r ≡ cells.all_ready (in_store self.now store) commands.now) }
     {
-        let faults = self.faults()?;
-        self.all_ready(faults.as_slice(), commands)
+        self.all_ready(commands)
     }
 }

@@ -1,6 +1,6 @@
 -- Commands, the places of their procedures, and what is known of their modules, one after the other.
-use Rattle.std.proofs.Common.{◌≡◌, ℕ, suc, ◌+◌, ◌<◌, ◌≤◌, true, false, List, [], ◌∷◌, ◌++◌, length, get_or, take, Option, Some, None, refl, sym, ap, ◌∙◌, subst, arith}
-use Rattle.std.specs.Prelude.{is_some, slice_get}
+use Rattle.std.proofs.Common.{◌≡◌, ℕ, zero, suc, ◌+◌, ◌<◌, ◌≤◌, true, false, List, [], ◌∷◌, ◌++◌, length, get_or, take, Option, Some, None, refl, sym, ap, ◌∙◌, subst, arith}
+use Rattle.std.specs.Prelude.{is_some, slice_get, slice_index}
 use Rattle.std.proofs.lemmas.List.{take_more, take_all, length-take-le}
 use Rattle.ob_mean.specs.declared.whole.expression.Callee.TheVariants.{OfImport}
 use Rattle.ob_mean.specs.declared.whole.expression.TypedExpr.{TypedExpr}
@@ -22,6 +22,7 @@ use Rattle.ob_linked.specs.Compiled.{Known, face_in, AreCompiled, AreKnown}
 use Rattle.ob_linked.specs.CommandsCode.{IsCallable, AllCallable, AreCallable, calls_from, commands_tree, homes}
 use Rattle.ob_linked.proofs.Commands.{commands_form}
 use Rattle.ob_load.specs.Commanded.{IsCodeOfCalls}
+use Rattle.ob_load.proofs.Loaded.{known_many, some_within}
 
 -- ---- a procedure that takes and leaves nothing
 
@@ -56,6 +57,17 @@ known_behind known [] [] i f h k = (k, tt)
 known_behind known [] (g ∷ gs) i f h k = absurd h
 known_behind known (j ∷ js) [] i f h k = absurd h
 known_behind known (j ∷ js) (g ∷ gs) i f h k = (h.0, known_behind known js gs i f h.1 k)
+
+-- the modules of commands that can be called are known
+pub homes_within : (modules : List Module) (known : List Known) (all : Code) → AreCompiled modules known all → (cs : List Command) (ps : List ℕ) → AllCallable modules cs ps → (k : ℕ) → k < length (homes cs) → slice_index (homes cs) k < length known
+homes_within modules known all h [] [] calls k lt = absurd (omega (arith, lt))
+homes_within modules known all h [] (p ∷ ps) calls k lt = absurd calls
+homes_within modules known all h (c ∷ cs) [] calls k lt = absurd calls
+homes_within modules known all h (c ∷ cs) (p ∷ ps) calls zero lt =
+    let inside = some_within modules c.home calls.0.m calls.0.there in
+    let many = known_many modules modules known all 0 h.each in
+    omega (arith, inside, many)
+homes_within modules known all h (c ∷ cs) (p ∷ ps) calls (suc k) lt = homes_within modules known all h cs ps calls.1 k (omega (arith, lt))
 
 pub known_next : (known : List Known) (is : List ℕ) (fs : List Face) (n d : ℕ) (f : Face) → n < length is → AreKnown known (take n is) fs → face_in (slice_get known (get_or is n d)) ≡ Some f → AreKnown known (take (n + 1) is) (fs ++ f ∷ [])
 known_next known is fs n d f lt h k =

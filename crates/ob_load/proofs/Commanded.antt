@@ -1,7 +1,7 @@
 -- The machine of commands, before its first turn.
 use Rattle.std.proofs.Common.{◌≡◌, ℕ, ◌+◌, ◌<◌, ℤ, Bool, true, false, List, [], ◌∷◌, ◌++◌, length, take, sym, ap, ◌∙◌, subst, arith, length-append, Vec, Global}
 use Rattle.std.specs.Prelude.{◌||◌, nat_eq, slice_get}
-use Rattle.std.proofs.lemmas.List.{length-map, take_at}
+use Rattle.std.proofs.lemmas.List.{take_at}
 use mathlib.Core.Path.{fun_ext}
 use Rattle.ob_inout.specs.Reading.{opened}
 use Rattle.ob_mean.specs.whole.Programs.{Command}
@@ -14,7 +14,6 @@ use Rattle.ob_gen.specs.whole.Generated.{IsGenerated}
 use Rattle.ob_gen.proofs.machine.Places.{some_same}
 use Rattle.ob_vm.specs.whole.Images as vm
 use Rattle.ob_session.specs.Session.{Module, program_of}
-use Rattle.ob_link.specs.Runs.{may_run}
 use Rattle.ob_store.specs.Runs.{MayBeginWith}
 use Rattle.ob_store.specs.Stores.{store_of, session_of, AreCellsOf}
 use Rattle.ob_store.proofs.Runs.{each_may_begin}
@@ -22,7 +21,7 @@ use Rattle.ob_linked.specs.Compiled.{Known, AreCompiled, runs_in}
 use Rattle.ob_linked.specs.CommandsCode.{CommandsMayRun, IsBehind, commands_tree, runs_with}
 use Rattle.ob_linked.proofs.Behind.{last_at}
 use Rattle.ob_linked.proofs.Commands.{commands_run}
-use Rattle.ob_linked.proofs.Imports.{flags_run, flags_run_with}
+use Rattle.ob_linked.proofs.Imports.{flags_run_with}
 use Rattle.ob_linked.proofs.Sides.{as_long}
 use Rattle.ob_load.specs.Commanded.{AreReady}
 use Rattle.ob_load.specs.declared.commands.Calls.{Calls}
@@ -40,10 +39,11 @@ ready_for modules ks known ds cs longest c e g r =
     subst (λ (k : List Known). AreReady modules k cs longest c) e (subst (λ (d : List Command). AreReady modules ks d longest c) g r)
 
 -- an image of equal parts
-pub image_of : (code other : Code) (flags : List Bool) (xs cells : List ℤ) → code ≡ other → xs ≡ cells → (let a : vm.ImageState = record { code = code; may_run = flags; cells = xs } in a) ≡ record { code = other; may_run = flags; cells = cells }
-image_of code other flags xs cells e f =
+pub image_of : (code other : Code) (flags runs : List Bool) (xs cells : List ℤ) → code ≡ other → flags ≡ runs → xs ≡ cells → (let a : vm.ImageState = record { code = code; may_run = flags; cells = xs } in a) ≡ record { code = other; may_run = runs; cells = cells }
+image_of code other flags runs xs cells e f g =
     ap (λ (x : Code). let a : vm.ImageState = record { code = x; may_run = flags; cells = xs } in a) e
-    ∙ ap (λ (x : List ℤ). let a : vm.ImageState = record { code = other; may_run = flags; cells = x } in a) f
+    ∙ ap (λ (fs : List Bool). let a : vm.ImageState = record { code = other; may_run = fs; cells = xs } in a) f
+    ∙ ap (λ (x : List ℤ). let a : vm.ImageState = record { code = other; may_run = runs; cells = x } in a) g
 
 cells_behind : (code : Code) (l : LinkedModule) → all_cells (code ++ l ∷ []) ≡ all_cells code + l.code.cells
 cells_behind [] l = omega arith
@@ -54,7 +54,7 @@ module _ (modules : List Module) (known : List Known) (i : vm.ImageState) (h : I
   longer = i.code ++ l ∷ []
 
   abbrev pub now : vm.ImageState
-  now = record { code = longer; may_run = c.runs.items; cells = i.cells }
+  now = record { code = longer; may_run = i.may_run ++ true ∷ []; cells = i.cells }
 
   behind_is : IsBehind i.code v.items r.calls.places r.calls.faces l
   behind_is = record {
@@ -71,8 +71,8 @@ module _ (modules : List Module) (known : List Known) (i : vm.ImageState) (h : I
 
   -- ---- which modules may run
 
-  runs_say : (n : ℕ) → runs_of c.runs.items n ≡ runs_with modules n
-  runs_say n = ap (λ fs. runs_of fs n) r.runs ∙ flags_run_with modules (may_run modules) (length-map modules _) (flags_run modules) n
+  runs_say : (n : ℕ) → runs_of (i.may_run ++ true ∷ []) n ≡ runs_with modules n
+  runs_say n = flags_run_with modules i.may_run h.flags h.runs n
 
   others : (n : ℕ) → n < length modules → runs_with modules n ≡ runs_in modules n
   others n lt = ap (λ b. b || runs_in modules n) (let e : nat_eq n (length modules) ≡ false = grind (arith, lt) in e)
@@ -82,10 +82,10 @@ module _ (modules : List Module) (known : List Known) (i : vm.ImageState) (h : I
 
   -- ---- the image
 
-  pub linked_now : IsLinked longer (runs_of c.runs.items)
+  pub linked_now : IsLinked longer (runs_of (i.may_run ++ true ∷ []))
   linked_now = subst (λ (f : ℕ → Bool). IsLinked longer f) (sym (fun_ext runs_say)) law.linked
 
-  pub valid_now : vm.AreValid longer (runs_of c.runs.items)
+  pub valid_now : vm.AreValid longer (runs_of (i.may_run ++ true ∷ []))
   valid_now = subst (λ (f : ℕ → Bool). vm.AreValid longer f) (sym (fun_ext runs_say)) law.valid
 
   as_many : all_cells longer ≡ all_cells i.code
@@ -101,6 +101,7 @@ module _ (modules : List Module) (known : List Known) (i : vm.ImageState) (h : I
   held_now = record {
     compiled = subst (λ (x : Code). AreCompiled modules known x) (sym alone) h.compiled;
     runs = λ n lt. runs_say n ∙ others n lt;
+    flags = let more = length-append i.may_run (true ∷ []) in let same = h.flags in omega (arith, more, same);
     sized = as_many ∙ ap all_cells (sym alone);
     checkable = h.checkable;
   }
@@ -109,7 +110,7 @@ module _ (modules : List Module) (known : List Known) (i : vm.ImageState) (h : I
     pub can_run : vm.CanRun now behind
     can_run = (
       let more = length-append i.code (l ∷ []) in omega (arith, more, there),
-      ap (runs_of c.runs.items) (there ∙ count) ∙ runs_say (length modules) ∙ last_one,
+      ap (runs_of (i.may_run ++ true ∷ [])) (there ∙ count) ∙ runs_say (length modules) ∙ last_one,
     )
 
     pub room_now : vm.IsRoomIn now behind c.room

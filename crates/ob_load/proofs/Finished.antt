@@ -2,6 +2,7 @@
 use Rattle.std.proofs.Common.{◌≡◌, ℕ, zero, suc, ◌+◌, ◌≤◌, ◌<◌, Bool, false, List, [], ◌∷◌, length, take, sym, ap, ◌∙◌, subst, arith}
 use mathlib.Core.Path.{fun_ext}
 use Rattle.std.specs.Prelude.{slice_index_or}
+use Rattle.std.proofs.lemmas.List.{length-take-le}
 use Rattle.std.proofs.lemmas.Option.{slice_get_past}
 use Rattle.ob_inout.specs.Reading.{Line}
 use Rattle.ob_mean.specs.declared.whole.outcome.Outcome.{Outcome}
@@ -47,6 +48,9 @@ past modules k le = ap (links modules) (slice_get_past modules k le)
 
 pub flags_cut : (modules : List Module) (flags : List Bool) → ((n : ℕ) → n < length modules → runs_of flags n ≡ runs_in modules n) → (k : ℕ) → runs_of (take (length modules) flags) k ≡ runs_in modules k
 flags_cut modules flags h k = taken_flags (length modules) flags (runs_in modules) k h (past modules)
+
+pub as_many : (modules : List Module) (flags : List Bool) → length modules ≤ length flags → length (take (length modules) flags) ≡ length modules
+as_many modules flags le = length-take-le (length modules) flags le
 
 -- ---- the code of the modules alone
 

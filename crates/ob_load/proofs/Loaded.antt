@@ -76,7 +76,7 @@ take_all (x ∷ xs) = ap (λ ys. x ∷ ys) (take_all xs)
 is_some : {A : Type 0} (x y : A) → Some x ≡ Some y → x ≡ y
 is_some x y e = cc
 
-some_within : {A : Type 0} (xs : List A) (n : ℕ) (x : A) → slice_get xs n ≡ Some x → n < length xs
+pub some_within : {A : Type 0} (xs : List A) (n : ℕ) (x : A) → slice_get xs n ≡ Some x → n < length xs
 some_within [] n x e = absurd (let f : None ≡ Some x = e in cc)
 some_within (y ∷ ys) zero x e = omega arith
 some_within (y ∷ ys) (suc n) x e = let h = some_within ys n x e in omega (arith, h)
@@ -191,6 +191,7 @@ module _ (modules : List Module) (m : Module) (known : List Known) (k : Known) (
       begins_there is = record {
         compiled = record { each = each_now; agree = is.agree };
         runs = is.flags;
+        flags = is.count;
         row = many_now;
         may_run = is.may_run;
         room = room_there p.room prepared.room;
@@ -225,6 +226,7 @@ module _ (modules : List Module) (known : List Known) (code : Code) (b : Beginni
   held checkable = record {
     compiled = subst (λ (c : Code). AreCompiled modules known c) (sym alone) h.compiled;
     runs = λ n _. h.runs n;
+    flags = let same = h.flags in omega (arith, same);
     sized = ap all_cells (sym alone);
     checkable = checkable;
   }

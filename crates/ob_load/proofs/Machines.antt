@@ -272,6 +272,7 @@ pub held : (modules : List Module) (known : List Known) (i i' : vm.ImageState) �
 held modules known i i' e f h = record {
   compiled = subst (λ (c : Code). AreCompiled modules known (take (length modules) c)) (sym e) h.compiled;
   runs = λ n l. ap (λ fs. runs_of fs n) f ∙ h.runs n l;
+  flags = let same = ap (λ (fs : List Bool). length fs) f in let long = h.flags in omega (arith, same, long);
   sized = ap all_cells e ∙ h.sized ∙ ap (λ (c : Code). all_cells (take (length modules) c)) (sym e);
   checkable = h.checkable;
 }

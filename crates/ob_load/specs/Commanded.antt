@@ -1,12 +1,11 @@
 -- What commands take to begin in a session.
-use Rattle.std.specs.Prelude.{◌≡◌, ℕ, ◌≤◌, List, [], ◌∷◌, ◌++◌, true, vec_capacity}
+use Rattle.std.specs.Prelude.{◌≡◌, ℕ, ◌≤◌, List, [], vec_capacity}
 use Rattle.ob_mean.specs.declared.whole.face.Face.{Face}
 use Rattle.ob_mean.specs.whole.Programs.{Command}
 use Rattle.ob_code.specs.declared.whole.instr.CodeModule.{CodeModule}
 use Rattle.ob_gen.specs.whole.Generated.{IsGenerated}
 use Rattle.ob_vm.specs.whole.Images.{IsRoomFor}
 use Rattle.ob_session.specs.Session.{Module}
-use Rattle.ob_link.specs.Runs.{may_run}
 use Rattle.ob_linked.specs.Compiled.{Known}
 use Rattle.ob_linked.specs.CommandsCode.{AreCallable, commands_tree, homes}
 use Rattle.ob_load.specs.declared.commands.Calls.{Calls}
@@ -19,11 +18,10 @@ pub record IsCodeOfCalls (modules : List Module) (known : List Known) (cs : List
   pub callable : AreCallable modules known cs places faces
   pub generated : IsGenerated faces (commands_tree places) code
 
--- that code and its imports, which modules may run with it, and room for a name of this length
+-- that code and its imports, and room for a name of this length
 pub record AreReady (modules : List Module) (known : List Known) (cs : List Command) (longest : ℕ) (c : Calls) : Type 0 where
   pub calls : IsCodeOfCalls modules known cs c.code
   pub imports : c.imports.items ≡ homes cs
-  pub runs : c.runs.items ≡ may_run modules ++ true ∷ []
   pub empty : c.name.items ≡ []
   pub named : longest ≤ vec_capacity c.name
   pub room : IsRoomFor c.code c.room

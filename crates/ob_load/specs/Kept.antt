@@ -1,5 +1,5 @@
 -- What ties a session, and a machine that runs in it, to their code.
-use Rattle.std.specs.Prelude.{◌≡◌, ℕ, ◌<◌, Bool, true, List, [], ◌++◌, length, take}
+use Rattle.std.specs.Prelude.{◌≡◌, ℕ, ◌<◌, ◌≤◌, Bool, true, List, [], ◌++◌, length, take}
 use Rattle.ob_inout.specs.Reading.{Line}
 use Rattle.ob_mean.specs.whole.Runs.{supply}
 use Rattle.ob_mean.specs.whole.Values.{Value}
@@ -27,6 +27,7 @@ AreCheckable modules = AllSolid modules × AllDistinct modules
 pub record IsKept (modules : List Module) (known : List Known) (i : ImageState) : Type 0 where
   pub compiled : AreCompiled modules known i.code
   pub runs : (n : ℕ) → runs_of i.may_run n ≡ runs_in modules n
+  pub flags : length i.may_run ≡ length modules
   pub cells : length i.cells ≡ all_cells i.code
   pub checkable : AreCheckable modules
 
@@ -34,6 +35,7 @@ pub record IsKept (modules : List Module) (known : List Known) (i : ImageState) 
 pub record IsHeld (modules : List Module) (known : List Known) (i : ImageState) : Type 0 where
   pub compiled : AreCompiled modules known (take (length modules) i.code)
   pub runs : (n : ℕ) → n < length modules → runs_of i.may_run n ≡ runs_in modules n
+  pub flags : length modules ≤ length i.may_run
   pub sized : all_cells i.code ≡ all_cells (take (length modules) i.code)
   pub checkable : AreCheckable modules
 

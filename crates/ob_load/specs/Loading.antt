@@ -20,6 +20,7 @@ pub record IsPrepared (modules : List Module) (cells : List ℤ) (m : Module) (c
 -- which modules may run, that of a number among them; what was known of imports is so
 pub record HasLoaded (modules : List Module) (known : List Known) (number : ℕ) (runs : List Bool) : Type 0 where
   pub flags : (n : ℕ) → runs_of runs n ≡ runs_in modules n
+  pub count : length runs ≡ length modules
   pub agree : FacesAgree modules known
   pub may_run : runs_in modules number ≡ true
 
@@ -28,6 +29,7 @@ pub record HasLoaded (modules : List Module) (known : List Known) (number : ℕ)
 pub record BodyMayBegin (modules : List Module) (known : List Known) (code : Code) (b : Beginning) : Type 0 where
   pub compiled : AreCompiled modules known code
   pub runs : (n : ℕ) → runs_of b.runs.items n ≡ runs_in modules n
+  pub flags : length b.runs.items ≡ length modules
   pub row : length b.cells.items ≡ all_cells code
   pub may_run : runs_in modules b.number ≡ true
   pub room : (l : LinkedModule) → slice_get code b.number ≡ Some l → IsRoomFor l.code b.room

@@ -1,6 +1,6 @@
 //! Commands, and the machine that runs them one after the other.
 
-ghost use Rattle.std.specs.Prelude.{◌≡◌, ℕ, ◌<◌, [], ◌∷◌, ◌++◌, false, true, length, vec_capacity, slice_get, IsTrue, IfSome, IfOk, IfErr, Some};
+ghost use Rattle.std.specs.Prelude.{◌≡◌, ℕ, ◌<◌, [], ◌∷◌, ◌++◌, false, true, length, vec_capacity, slice_get, IsTrue, IfSome, IfOk, IfErr, Some, EachIndex, slice_index, OnOk};
 ghost use Rattle.ob_code.specs.whole.Linked.{runs_of};
 ghost use Rattle.ob_code.specs.whole.Machine.{Code};
 ghost use Rattle.ob_linked.specs.CommandsCode as code;
@@ -109,18 +109,17 @@ fn homes_of(alloc: Global, commands: &[Command]) -> Result<Vec<usize>, AllocErro
     Ok(numbers)
 }
 
-// What is known of the module of this number. Where nothing is, the answer is want of memory.
+// What is known of the module of this number.
 fn face_at(alloc: Global, known: &[KnownFaces], number: usize) -> Result<Face, AllocError>
+    requires { number < length known.now }
     ensures { IfOk result (λ face. face_in (slice_get known.now number) ≡ Some face) }
 {
-    match known.get(number) {
-        Some(known) => copy_face(alloc, known.face()),
-        None => Err(AllocError),
-    }
+    copy_face(alloc, known[number].face())
 }
 
 // The same of the modules of these numbers.
 fn faces_of(alloc: Global, known: &[KnownFaces], numbers: &[usize]) -> Result<Vec<Face>, AllocError>
+    requires { EachIndex numbers.now (λ k. slice_index numbers.now k < length known.now) }
     ensures { IfOk result (λ faces. AreKnown known.now numbers.now faces.items) }
 {
     let mut faces = Vec::new(alloc);
@@ -182,51 +181,54 @@ pub(crate) struct Calls {
     // Of a module that calls them one after the other.
     pub code: Checked,
     pub imports: Vec<usize>,
-    pub runs: Vec<bool>,
     pub name: Vec<u8>,
     pub room: Room,
 }
 
-fn ready(
+fn calls_of(
     modules: &Modules,
     known: &[KnownFaces],
+    runs: &[bool],
     commands: &[Command],
     longest: usize,
 ) -> Result<Calls, AllocError>
-    requires { (all : Code) × AreCompiled modules.now known.now all }
+    requires compiled { (all : Code) × AreCompiled modules.now known.now all }
+    requires flags { (n : ℕ) → runs_of runs.now n ≡ runs_in modules.now n }
     ensures { IfOk result (AreReady modules.now known.now commands.now longest) }
 {
     let alloc = modules.alloc();
-    let mut runs = modules.may_run()?;
     let imports = homes_of(alloc, commands)?;
-    let code = commands_code(
-        modules,
-        known,
-        runs.as_slice(),
-        commands,
-        imports.as_slice(),
-    )?;
-    runs.push(true)?;
+    let code = commands_code(modules, known, runs, commands, imports.as_slice())?;
     let name = Vec::with_capacity(alloc, longest)?;
     let room = ob_vm::whole::Machine::room(alloc, &code)?;
     Ok(Calls {
         code,
         imports,
-        runs,
         name,
         room,
     })
 }
 
-// Behind the others, where there is room.
-fn put_behind(code: &mut Vec<LinkedModule>, last: LinkedModule)
-    requires { length code.old.items < vec_capacity code.old }
-    ensures { code.new.items ≡ code.old.items ++ last ∷ [] }
+// The same, and room for one module more behind the others.
+fn ready(
+    modules: &Modules,
+    known: &[KnownFaces],
+    code: &mut Vec<LinkedModule>,
+    runs: &mut Vec<bool>,
+    commands: &[Command],
+    longest: usize,
+) -> Result<Calls, AllocError>
+    requires compiled { AreCompiled modules.now known.now code.old.items }
+    requires flags { (n : ℕ) → runs_of runs.old.items n ≡ runs_in modules.now n }
+    ensures ready { IfOk result (AreReady modules.now known.now commands.now longest) }
+    ensures code { code.new.items ≡ code.old.items }
+    ensures flags { runs.new.items ≡ runs.old.items }
+    ensures room { OnOk result (length code.new.items < vec_capacity code.new) }
+    ensures flag { OnOk result (length runs.new.items < vec_capacity runs.new) }
 {
-    match code.push(last) {
-        Ok(()) => {}
-        Err(_) => unreachable!(),
-    }
+    code.reserve(1)?;
+    runs.reserve(1)?;
+    calls_of(modules, known, runs.as_slice(), commands, longest)
 }
 
 impl Session {
@@ -247,41 +249,39 @@ impl Session {
             image,
             longest,
         } = self;
-        let calls = match ready(&modules, known.as_slice(), commands.as_slice(), longest) {
+        let (mut code, mut may_run, cells) = image.into_parts();
+        let calls = match ready(
+            &modules,
+            known.as_slice(),
+            &mut code,
+            &mut may_run,
+            commands.as_slice(),
+            longest,
+        ) {
             Ok(calls) => calls,
-            Err(error) => return Err((
-                Session {
-                    modules,
-                    known,
-                    image,
-                    longest,
-                },
-                error,
-            )),
+            Err(error) => {
+                let image = Image::of(code, may_run, cells);
+                return Err((
+                    Session {
+                        modules,
+                        known,
+                        image,
+                        longest,
+                    },
+                    error,
+                ));
+            }
         };
-        let (mut code, may_run, cells) = image.into_parts();
-        if code.reserve(1).is_err() {
-            let image = Image::of(code, may_run, cells);
-            return Err((
-                Session {
-                    modules,
-                    known,
-                    image,
-                    longest,
-                },
-                AllocError,
-            ));
-        }
         let alloc = modules.alloc();
         let behind = code.len();
-        let linked = LinkedModule {
+        code.push_reserved(LinkedModule {
             code: calls.code.into_code(),
             imports: calls.imports,
             cells: cells.len(),
-        };
-        put_behind(&mut code, linked);
+        });
+        may_run.push_reserved(true);
         let opening = Snapshot::of(&cells);
-        let image = Image::of(code, calls.runs, cells);
+        let image = Image::of(code, may_run, cells);
         let run = ob_vm::whole::Machine::start(alloc, &image, behind, calls.room);
         Ok(Machine {
             modules,

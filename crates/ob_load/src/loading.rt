@@ -62,6 +62,7 @@ fn prepare(
 // Which modules may run. What was known of their imports is so; where it were not, the answer is want of memory.
 fn running(modules: &Modules, known: &[KnownFaces]) -> Result<Vec<bool>, AllocError>
     ensures runs { IfOk result (λ flags. (n : ℕ) → runs_of flags.items n ≡ runs_in modules.now n) }
+    ensures count { IfOk result (λ flags. length flags.items ≡ length modules.now) }
     ensures agree { IfOk result (λ flags. FacesAgree modules.now known.now) }
 {
     let flags = modules.may_run()?;

@@ -27,3 +27,9 @@ returns-in-Err-clause-err c =
       c.put_known_back.ensures ∙ ap₂ (λ (ks : List Known) (o : Option Known). put_back_at ks c.place_of-number.result o) c.put_known-before.ensures.put c.put_known-before.ensures.back
           ∙ back_again c.reserve.new.self.items c.place_of-number.result c.args.faces within ∙ c.in_ok-reserve.ensures.items,
     )
+
+pub restore-requires : goal.restore-requires
+restore-requires c = record {
+  exchanged = record { before = c.args.modules.now; loaded = c.args.added; now = c.in_ok-back.ensures.new; taken = c.in_ok-back.ensures.ok };
+  faults = c.in_ok-back.ensures.faults;
+}

@@ -6,9 +6,6 @@ use Rattle.ob_link.specs.Looking.{looked_seen, in_store, storeless}
 use Rattle.ob_link.proofs.LookedUp.{stored}
 use Rattle.ob_link.proofs.modules.Modules.command.Goals as goal
 
-pub looked_up-requires : goal.looked_up-requires
-looked_up-requires c = c.as_slice.ensures.value ∙ c.in_ok-faults.ensures
-
 pub returns : goal.returns
 returns c =
     IfOk-weaker c.looked_up.result

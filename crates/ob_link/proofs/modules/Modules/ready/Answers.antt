@@ -6,9 +6,6 @@ use Rattle.ob_link.specs.Looking.{ready_seen, in_store, storeless}
 use Rattle.ob_link.proofs.LookedUp.{all_stored}
 use Rattle.ob_link.proofs.modules.Modules.ready.Goals as goal
 
-pub all_ready-requires : goal.all_ready-requires
-all_ready-requires c = c.as_slice.ensures.value ∙ c.in_ok-faults.ensures
-
 pub returns : goal.returns
 returns c =
     IfOk-weaker c.all_ready.result

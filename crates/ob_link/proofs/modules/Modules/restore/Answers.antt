@@ -1,10 +1,12 @@
-use Rattle.std.proofs.Common.{subst}
-use Rattle.ob_link.specs.Exchange.{IsExchanged}
-use Rattle.ob_link.proofs.Exchanged.{has_name, ends_new}
+use Rattle.std.proofs.Common.{List, length, sym, ap, ap₂, ◌∙◌}
+use Rattle.ob_session.specs.Session.{Module}
+use Rattle.ob_link.specs.Exchange.{put_back}
+use Rattle.ob_link.specs.Faults.{fault_row}
+use Rattle.ob_link.proofs.Exchanged.{goes_back}
 use Rattle.ob_link.proofs.modules.Modules.restore.Goals as goal
 
-pub put_again-requires : goal.put_again-requires
-put_again-requires c = has_name c.args.self.now c.in-Some.before (subst (IsExchanged c.args.self.now) c.in-Some.is c.requires)
-
-pub drop_last-requires : goal.drop_last-requires
-drop_last-requires c = ends_new c.args.self.now (subst (IsExchanged c.args.self.now) c.in-None.is c.requires)
+pub invariant_of-self : goal.invariant_of-self
+invariant_of-self c =
+    let h = c.requires.exchanged in
+    let restored = c.restore.ensures ∙ ap₂ put_back (c.self.view_is ∙ h.now) h.taken ∙ goes_back h.before h.loaded in
+    c.requires.faults ∙ ap (λ (ms : List Module). fault_row ms (length ms)) (sym restored)

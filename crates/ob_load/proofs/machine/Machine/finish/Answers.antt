@@ -10,7 +10,7 @@ use Rattle.ob_load.specs.Kept.{IsKept, IsHeld}
 use Rattle.jk_language.specs.MachineState.{here}
 use Rattle.ob_load.specs.MachineState.{MachineState, state_of}
 use Rattle.ob_load.proofs.Machines.{held}
-use Rattle.ob_load.proofs.Finished.{flags_cut, linked_by, valid_by, leaves}
+use Rattle.ob_load.proofs.Finished.{as_many, flags_cut, linked_by, valid_by, leaves}
 use Rattle.ob_load.proofs.machine.Machine.finish.Goals as goal
 
 none_of : (u : ℕ) → min 0 u ≡ 0
@@ -85,6 +85,7 @@ invariant_of-result c =
       subst (λ (x : vm.ImageState). IsKept c.self.inside.modules c.self.inside.known.items x) (sym c.of-image.ensures) (record {
         compiled = subst (λ (x : Code). AreCompiled c.self.inside.modules c.self.inside.known.items x) (sym (code_is_then c)) h.compiled;
         runs = λ n. ap (λ (fs : List Bool). runs_of fs n) (flags_are_then c) ∙ flags_cut c.self.inside.modules c.turns-turned.new.image.may_run h.runs n;
+        flags = ap (λ (fs : List Bool). length fs) (flags_are_then c) ∙ as_many c.self.inside.modules c.turns-turned.new.image.may_run h.flags;
         cells = many_then c;
         checkable = h.checkable;
       }),

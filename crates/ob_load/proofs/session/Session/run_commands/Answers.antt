@@ -1,4 +1,4 @@
-use Rattle.std.proofs.Common.{◌≡◌, ℤ, Bool, false, List, [], ◌∷◌, ◌++◌, length, refl, sym, ap, ◌∙◌, subst, Vec, Global, vec_capacity}
+use Rattle.std.proofs.Common.{◌≡◌, ℤ, Bool, true, false, List, [], ◌∷◌, ◌++◌, length, refl, sym, ap, ◌∙◌, subst, Vec, Global, vec_capacity}
 use Rattle.ob_inout.specs.Reading.{Line, opened}
 use Rattle.ob_code.specs.declared.whole.instr.LinkedModule.{LinkedModule}
 use Rattle.ob_code.specs.whole.Linked.{all_cells, runs_of, IsLinked}
@@ -19,66 +19,77 @@ module _ (c : goal.After-of-opening) where
   last = record { code = c.into_code.result; imports = c.in-Ok.calls.imports; cells = c.len.result }
 
   ready : AreReady c.self.inside.modules c.self.inside.known.items c.args.commands.items c.self.inside.longest c.in-Ok.calls
-  ready = ready_for c.self.inside.modules _ _ _ _ c.self.inside.longest c.in-Ok.calls c.as_slice.ensures.value c.as_slice-2.ensures.value c.in-Ok.ensures
+  ready = ready_for c.self.inside.modules _ _ _ _ c.self.inside.longest c.in-Ok.calls c.as_slice.ensures.value c.as_slice-2.ensures.value c.in-Ok.ensures.ready
 
   first : c.len.result ≡ length c.self.inside.image.cells
   first = c.len.ensures ∙ c.into_parts-code.result.2.ok.0 ∙ ap length c.into_parts-code.ensures.cells
 
-  code : c.put_behind.new.code.items ≡ c.self.inside.image.code ++ last ∷ []
-  code = c.put_behind.ensures ∙ ap (λ (x : Code). x ++ last ∷ []) (c.reserve.ensures.items ∙ c.into_parts-code.ensures.code)
+  code : c.push_reserved.new.self.items ≡ c.self.inside.image.code ++ last ∷ []
+  code = c.push_reserved.ensures.items ∙ ap (λ (x : Code). x ++ last ∷ []) (c.in-Ok.ensures.code ∙ c.into_parts-code.ensures.code)
+
+  flags : c.push_reserved-2.new.self.items ≡ c.self.inside.image.may_run ++ true ∷ []
+  flags = c.push_reserved-2.ensures.items ∙ ap (λ (x : List Bool). x ++ true ∷ []) (c.in-Ok.ensures.flags ∙ c.into_parts-code.ensures.may_run)
 
 module _ (c : goal.After-image-1) where
   abbrev last_then : LinkedModule
   last_then = record { code = c.into_code.result; imports = c.in-Ok.calls.imports; cells = c.len.result }
 
   ready_then : AreReady c.self.inside.modules c.self.inside.known.items c.args.commands.items c.self.inside.longest c.in-Ok.calls
-  ready_then = ready_for c.self.inside.modules _ _ _ _ c.self.inside.longest c.in-Ok.calls c.as_slice.ensures.value c.as_slice-2.ensures.value c.in-Ok.ensures
+  ready_then = ready_for c.self.inside.modules _ _ _ _ c.self.inside.longest c.in-Ok.calls c.as_slice.ensures.value c.as_slice-2.ensures.value c.in-Ok.ensures.ready
 
   first_then : c.len.result ≡ length c.self.inside.image.cells
   first_then = c.len.ensures ∙ c.into_parts-code.result.2.ok.0 ∙ ap length c.into_parts-code.ensures.cells
 
-  code_then : c.put_behind.new.code.items ≡ c.self.inside.image.code ++ last_then ∷ []
-  code_then = c.put_behind.ensures ∙ ap (λ (x : Code). x ++ last_then ∷ []) (c.reserve.ensures.items ∙ c.into_parts-code.ensures.code)
+  code_then : c.push_reserved.new.self.items ≡ c.self.inside.image.code ++ last_then ∷ []
+  code_then = c.push_reserved.ensures.items ∙ ap (λ (x : Code). x ++ last_then ∷ []) (c.in-Ok.ensures.code ∙ c.into_parts-code.ensures.code)
+
+  flags_then : c.push_reserved-2.new.self.items ≡ c.self.inside.image.may_run ++ true ∷ []
+  flags_then = c.push_reserved-2.ensures.items ∙ ap (λ (x : List Bool). x ++ true ∷ []) (c.in-Ok.ensures.flags ∙ c.into_parts-code.ensures.may_run)
 
   image_then : c.of-image-2.result ≡ now c.self.inside.modules c.self.inside.known.items c.self.inside.image c.self.invariant.0 c.args.commands c.self.inside.longest c.in-Ok.calls ready_then last_then c.into_code.ensures.value refl first_then
-  image_then = c.of-image-2.ensures ∙ image_of c.put_behind.new.code.items _ c.in-Ok.calls.runs.items c.into_parts-code.result.2.items c.self.inside.image.cells code_then c.into_parts-code.ensures.cells
+  image_then = c.of-image-2.ensures ∙ image_of c.push_reserved.new.self.items _ c.push_reserved-2.new.self.items _ c.into_parts-code.result.2.items c.self.inside.image.cells code_then flags_then c.into_parts-code.ensures.cells
 
   behind_then : c.len-behind.result ≡ length c.self.inside.image.code
-  behind_then = c.len-behind.ensures ∙ c.reserve.new.self.ok.0 ∙ ap length (c.reserve.ensures.items ∙ c.into_parts-code.ensures.code)
+  behind_then = c.len-behind.ensures ∙ c.ready.new.code.ok.0 ∙ ap length (c.in-Ok.ensures.code ∙ c.into_parts-code.ensures.code)
 
 module _ (c : goal.After-none) where
   abbrev last_begun : LinkedModule
   last_begun = record { code = c.into_code.result; imports = c.in-Ok.calls.imports; cells = c.len.result }
 
   ready_begun : AreReady c.self.inside.modules c.self.inside.known.items c.args.commands.items c.self.inside.longest c.in-Ok.calls
-  ready_begun = ready_for c.self.inside.modules _ _ _ _ c.self.inside.longest c.in-Ok.calls c.as_slice.ensures.value c.as_slice-2.ensures.value c.in-Ok.ensures
+  ready_begun = ready_for c.self.inside.modules _ _ _ _ c.self.inside.longest c.in-Ok.calls c.as_slice.ensures.value c.as_slice-2.ensures.value c.in-Ok.ensures.ready
 
   first_begun : c.len.result ≡ length c.self.inside.image.cells
   first_begun = c.len.ensures ∙ c.into_parts-code.result.2.ok.0 ∙ ap length c.into_parts-code.ensures.cells
 
-  code_begun : c.put_behind.new.code.items ≡ c.self.inside.image.code ++ last_begun ∷ []
-  code_begun = c.put_behind.ensures ∙ ap (λ (x : Code). x ++ last_begun ∷ []) (c.reserve.ensures.items ∙ c.into_parts-code.ensures.code)
+  code_begun : c.push_reserved.new.self.items ≡ c.self.inside.image.code ++ last_begun ∷ []
+  code_begun = c.push_reserved.ensures.items ∙ ap (λ (x : Code). x ++ last_begun ∷ []) (c.in-Ok.ensures.code ∙ c.into_parts-code.ensures.code)
+
+  flags_begun : c.push_reserved-2.new.self.items ≡ c.self.inside.image.may_run ++ true ∷ []
+  flags_begun = c.push_reserved-2.ensures.items ∙ ap (λ (x : List Bool). x ++ true ∷ []) (c.in-Ok.ensures.flags ∙ c.into_parts-code.ensures.may_run)
 
   image_begun : c.of-image-2.result ≡ now c.self.inside.modules c.self.inside.known.items c.self.inside.image c.self.invariant.0 c.args.commands c.self.inside.longest c.in-Ok.calls ready_begun last_begun c.into_code.ensures.value refl first_begun
-  image_begun = c.of-image-2.ensures ∙ image_of c.put_behind.new.code.items _ c.in-Ok.calls.runs.items c.into_parts-code.result.2.items c.self.inside.image.cells code_begun c.into_parts-code.ensures.cells
+  image_begun = c.of-image-2.ensures ∙ image_of c.push_reserved.new.self.items _ c.push_reserved-2.new.self.items _ c.into_parts-code.result.2.items c.self.inside.image.cells code_begun flags_begun c.into_parts-code.ensures.cells
 
   behind_begun : c.len-behind.result ≡ length c.self.inside.image.code
-  behind_begun = c.len-behind.ensures ∙ c.reserve.new.self.ok.0 ∙ ap length (c.reserve.ensures.items ∙ c.into_parts-code.ensures.code)
+  behind_begun = c.len-behind.ensures ∙ c.ready.new.code.ok.0 ∙ ap length (c.in-Ok.ensures.code ∙ c.into_parts-code.ensures.code)
 
 pub of-image-requires-clause-valid : goal.of-image-requires-clause-valid
 of-image-requires-clause-valid c =
-    subst (λ (x : Code). vm.AreValid x (runs_of c.into_parts-code.result.1.items)) (sym (c.reserve.ensures.items ∙ c.into_parts-code.ensures.code))
-    (subst (λ (fs : List Bool). vm.AreValid c.self.inside.image.code (runs_of fs)) (sym c.into_parts-code.ensures.may_run) c.into_parts-code.ensures.valid)
+    subst (λ (x : Code). vm.AreValid x (runs_of c.ready.new.runs.items)) (sym (c.in-Err.ensures.code ∙ c.into_parts-code.ensures.code))
+    (subst (λ (fs : List Bool). vm.AreValid c.self.inside.image.code (runs_of fs)) (sym (c.in-Err.ensures.flags ∙ c.into_parts-code.ensures.may_run)) c.into_parts-code.ensures.valid)
 
 pub of-image-requires-2-clause-linked : goal.of-image-requires-2-clause-linked
 of-image-requires-2-clause-linked c =
-    subst (λ (x : Code). IsLinked x (runs_of c.in-Ok.calls.runs.items)) (sym (code c))
-    (linked_now c.self.inside.modules c.self.inside.known.items c.self.inside.image c.self.invariant.0 c.args.commands c.self.inside.longest c.in-Ok.calls (ready c) (last c) c.into_code.ensures.value refl (first c))
+    subst (λ (x : Code). IsLinked x (runs_of c.push_reserved-2.new.self.items)) (sym (code c))
+    (subst (λ (fs : List Bool). IsLinked (c.self.inside.image.code ++ last c ∷ []) (runs_of fs)) (sym (flags c))
+    (linked_now c.self.inside.modules c.self.inside.known.items c.self.inside.image c.self.invariant.0 c.args.commands c.self.inside.longest c.in-Ok.calls (ready c) (last c) c.into_code.ensures.value refl (first c)))
 
 pub of-image-requires-2-clause-valid : goal.of-image-requires-2-clause-valid
 of-image-requires-2-clause-valid c =
-    subst (λ (x : Code). vm.AreValid x (runs_of c.in-Ok.calls.runs.items)) (sym (code c))
-    (valid_now c.self.inside.modules c.self.inside.known.items c.self.inside.image c.self.invariant.0 c.args.commands c.self.inside.longest c.in-Ok.calls (ready c) (last c) c.into_code.ensures.value refl (first c))
+    subst (λ (x : Code). vm.AreValid x (runs_of c.push_reserved-2.new.self.items)) (sym (code c))
+    (subst (λ (fs : List Bool). vm.AreValid (c.self.inside.image.code ++ last c ∷ []) (runs_of fs)) (sym (flags c))
+    (valid_now c.self.inside.modules c.self.inside.known.items c.self.inside.image c.self.invariant.0 c.args.commands c.self.inside.longest c.in-Ok.calls (ready c) (last c) c.into_code.ensures.value refl (first c)))
 
 pub of-image-requires-2-clause-cells : goal.of-image-requires-2-clause-cells
 of-image-requires-2-clause-cells c =
@@ -131,54 +142,13 @@ invariant_of-result-2 c = (
       (subst (λ (cs : List ℤ). IsRunning (ms c) (store_of (ms c) cs) (Commands c.args.commands) [] (i c) c.start-run.result false) (sym (cells_are c)) (running c))),
   c.self.invariant.1,
   record {
-    empty = λ _. c.in-Ok.ensures.empty;
-    room = λ _. within_more (ms c) c.self.inside.longest (vec_capacity c.in-Ok.calls.name) c.in-Ok.ensures.named c.self.invariant.1;
+    empty = λ _. c.in-Ok.ensures.ready.empty;
+    room = λ _. within_more (ms c) c.self.inside.longest (vec_capacity c.in-Ok.calls.name) c.in-Ok.ensures.ready.named c.self.invariant.1;
   },
 )
 
-module _ (c : goal.After-drop-may_run) where
-  abbrev last_told : LinkedModule
-  last_told = record { code = c.into_code.result; imports = c.in-Ok.calls.imports; cells = c.len.result }
-
-  ready_told : AreReady c.self.inside.modules c.self.inside.known.items c.args.commands.items c.self.inside.longest c.in-Ok.calls
-  ready_told = ready_for c.self.inside.modules _ _ _ _ c.self.inside.longest c.in-Ok.calls c.as_slice.ensures.value c.as_slice-2.ensures.value c.in-Ok.ensures
-
-  first_told : c.len.result ≡ length c.self.inside.image.cells
-  first_told = c.len.ensures ∙ c.into_parts-code.result.2.ok.0 ∙ ap length c.into_parts-code.ensures.cells
-
-  code_told : c.put_behind.new.code.items ≡ c.self.inside.image.code ++ last_told ∷ []
-  code_told = c.put_behind.ensures ∙ ap (λ (x : Code). x ++ last_told ∷ []) (c.reserve.ensures.items ∙ c.into_parts-code.ensures.code)
-
-  image_told : c.of-image-2.result ≡ now c.self.inside.modules c.self.inside.known.items c.self.inside.image c.self.invariant.0 c.args.commands c.self.inside.longest c.in-Ok.calls ready_told last_told c.into_code.ensures.value refl first_told
-  image_told = c.of-image-2.ensures ∙ image_of c.put_behind.new.code.items _ c.in-Ok.calls.runs.items c.into_parts-code.result.2.items c.self.inside.image.cells code_told c.into_parts-code.ensures.cells
-
-  behind_told : c.len-behind.result ≡ length c.self.inside.image.code
-  behind_told = c.len-behind.ensures ∙ c.reserve.new.self.ok.0 ∙ ap length (c.reserve.ensures.items ∙ c.into_parts-code.ensures.code)
-
-module _ (c : goal.After-drop-may_run) where
-  abbrev ms_told : List Module
-  ms_told = c.self.inside.modules
-
-  abbrev i_told : vm.ImageState
-  i_told = now c.self.inside.modules c.self.inside.known.items c.self.inside.image c.self.invariant.0 c.args.commands c.self.inside.longest c.in-Ok.calls (ready_told c) (last_told c) c.into_code.ensures.value refl (first_told c)
-
-  cells_are_told : c.of-opening.result.value.items ≡ c.self.inside.image.cells
-  cells_are_told = ap (λ (v : Vec ℤ Global). v.items) c.of-opening.ensures ∙ c.into_parts-code.ensures.cells
-
-  fits_told : vm.IsOf i_told c.start-run.result
-  fits_told = subst (λ (x : vm.ImageState). vm.IsOf x c.start-run.result) (image_told c) c.start-run.ensures.fits
-
-  begins_told : vm.machine_config i_told c.start-run.result ≡ start i_told.code c.len-behind.result (record { cells = i_told.cells; written = []; input = opened })
-  begins_told = subst (λ (x : vm.ImageState). vm.machine_config x c.start-run.result ≡ start x.code c.len-behind.result (record { cells = x.cells; written = []; input = opened })) (image_told c) c.start-run.ensures.begins
-
-  running_told : IsRunning ms_told (store_of ms_told c.self.inside.image.cells) (Commands c.args.commands) [] i_told c.start-run.result false
-  running_told = runs_now c.self.inside.modules c.self.inside.known.items c.self.inside.image c.self.invariant.0 c.args.commands c.self.inside.longest c.in-Ok.calls (ready_told c) (last_told c) c.into_code.ensures.value refl (first_told c) c.len-behind.result (behind_told c) c.start-run.result fits_told begins_told c.start-run.ensures.used
-
-  begun_told : stands_at ms_told (store_of ms_told c.self.inside.image.cells) (Commands c.args.commands) [] c.start-run.result false false ≡ begun_in (session_of ms_told c.self.inside.image.cells) (Commands c.args.commands)
-  begun_told = state_now c.self.inside.modules c.self.inside.known.items c.self.inside.image c.self.invariant.0 c.args.commands c.self.inside.longest c.in-Ok.calls (ready_told c) (last_told c) c.into_code.ensures.value refl (first_told c) c.len-behind.result (behind_told c) c.start-run.result fits_told begins_told c.start-run.ensures.used
-
 pub returns-clause-begun : goal.returns-clause-begun
 returns-clause-begun c =
-    ap (λ (ls : List Line). stands_at (ms_told c) (store_of (ms_told c) c.of-opening.result.value.items) (Commands c.args.commands) ls c.start-run.result false false) c.none.ensures
-    ∙ ap (λ (cs : List ℤ). stands_at (ms_told c) (store_of (ms_told c) cs) (Commands c.args.commands) [] c.start-run.result false false) (cells_are_told c)
-    ∙ begun_told c ∙ ap (λ (x : Session). begun_in x (Commands c.args.commands)) c.self.view_is
+    ap (λ (ls : List Line). stands_at (ms c) (store_of (ms c) c.of-opening.result.value.items) (Commands c.args.commands) ls c.start-run.result false false) c.none.ensures
+    ∙ ap (λ (cs : List ℤ). stands_at (ms c) (store_of (ms c) cs) (Commands c.args.commands) [] c.start-run.result false false) (cells_are c)
+    ∙ begun c ∙ ap (λ (x : Session). begun_in x (Commands c.args.commands)) c.self.view_is

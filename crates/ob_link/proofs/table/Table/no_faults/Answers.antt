@@ -1,0 +1,13 @@
+use Rattle.std.proofs.Common.{rules, ◌≡◌, ◌≤◌, None, length, map, sym, ◌∙◌, ap}
+use Rattle.std.proofs.lemmas.List.{take_all}
+use Rattle.ob_session.specs.Session.{Module}
+use Rattle.ob_link.proofs.Faults.{row_zero}
+use Rattle.ob_link.proofs.table.Table.no_faults.Goals as goal
+
+pub returns : goal.returns
+returns c =
+    let items : c.as_slice-module-items.result.now ≡ c.args.self.now = search rules in
+    let ended : length c.as_slice-module-items.result.now ≤ c.loop-module._module-index = search rules in
+    c.loop-module.invariant
+    ∙ ap (map (λ (m : Module). None)) (take_all c.loop-module._module-index c.as_slice-module-items.result.now ended ∙ items)
+    ∙ sym (row_zero c.args.self.now)
