@@ -1,7 +1,9 @@
--- A follower may go to another thread.
+-- A follower may go to another thread, whatever the language.
 use denote.Param.Send.{IsSend, IsSync, sendable}
+use denote.RattleType.{RattleType}
 use Rattle.std.proofs.Crossing.{crosses}
 use Rattle.left_right.proofs.reader.Reader.TheSendSync as reader
+use Rattle.jk_language.specs.declared.language.Language as language
 use Rattle.jk_core.proofs.Crossing.{entry_send, entry_sync}
 use Rattle.jk_board.specs.contracts.posted.Part as Part
 use Rattle.jk_board.specs.contracts.posted.Posted as Posted
@@ -16,5 +18,5 @@ part_sync = search (entry_send, entry_sync, crosses, sendable) depth 60 fits 200
 posted_sync : IsSync Posted.the_row
 posted_sync = search (part_send, part_sync, crosses, sendable) depth 60 fits 20000
 
-pub follower_send : IsSend Follower.the_row
-follower_send = search (posted_sync, reader.the_field_send, crosses, sendable) depth 60 fits 20000
+pub follower_send : (L S T M : RattleType) (g : language.Ghosts L.Denot S.Denot T.Denot M.Denot) → IsSend (Follower.the_row L S T M g)
+follower_send L S T M g = search (posted_sync, reader.the_field_send, crosses, sendable) depth 60 fits 20000

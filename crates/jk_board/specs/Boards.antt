@@ -1,5 +1,6 @@
--- What boards are: beginnings of what a legal log of the kernel shows.
+-- What boards are: beginnings of what a legal log of a kernel shows.
 use Rattle.std.specs.Prelude.{◌≡◌, List, ◌++◌}
+use Rattle.jk_language.specs.Spoken.{Spoken}
 use Rattle.jk_core.specs.declared.entry.Entry.{Entry}
 use Rattle.jk_core.specs.Log.{Log}
 use Rattle.jk_core.specs.Legal.{IsLegal}
@@ -10,5 +11,5 @@ abbrev pub StartsWith : List Entry → List Entry → Type 0
 StartsWith all first = (rest : List Entry) × (all ≡ first ++ rest)
 
 -- a board is a beginning of what some legal log shows
-unfoldable pub IsBoard : List Entry → Type 0
-IsBoard xs = (log : Log) × IsLegal log × StartsWith (render log) xs
+unfoldable pub IsBoard : {S T : Type 0} → Spoken S T → List Entry → Type 0
+IsBoard spoken xs = (log : Log) × IsLegal spoken log × StartsWith (render log) xs

@@ -1,4 +1,4 @@
--- What a clause sees of the ends of a board.
+-- What a clause sees of the ends of a board. L is the language, and S, T, M are its sessions, trees and machines.
 use Rattle.std.specs.Prelude.{◌≡◌, List, [], take}
 use Rattle.jk_core.specs.declared.entry.Entry.{Entry}
 use Rattle.atomic_table.specs.Seated.{TableId}
@@ -8,31 +8,32 @@ use Rattle.jk_board.specs.declared.publisher.Publisher.{Publisher}
 use Rattle.jk_board.specs.declared.follower.Follower.{Follower}
 use Rattle.jk_board.specs.declared.board.Followers.{Followers}
 
--- all that was published, in order
-abbrev pub published : Publisher → List Entry
-published p = all_of p.copies.desk.shown.value
+module _ {L S T M : Type 0} where
+  -- all that was published, in order
+  abbrev pub published : Publisher L S T M → List Entry
+  published p = all_of p.copies.desk.shown.value
 
-abbrev pub publisher_board : Publisher → TableId
-publisher_board p = p.copies.desk.place.table_id
+  abbrev pub publisher_board : Publisher L S T M → TableId
+  publisher_board p = p.copies.desk.place.table_id
 
--- the board that this follower found last, and those that it was told of
-abbrev pub found_by : Follower → List Entry
-found_by f = (view f.reader.place).seen
+  -- the board that this follower found last, and those that it was told of
+  abbrev pub found_by : Follower L S T M → List Entry
+  found_by f = (view f.reader.place).seen
 
-abbrev pub told_to : Follower → List (List Entry)
-told_to f = (view f.reader.place).told
+  abbrev pub told_to : Follower L S T M → List (List Entry)
+  told_to f = (view f.reader.place).told
 
-abbrev pub follower_board : Follower → TableId
-follower_board f = f.reader.place.table_id
+  abbrev pub follower_board : Follower L S T M → TableId
+  follower_board f = f.reader.place.table_id
 
--- all that this follower has read, in order
-abbrev pub read_by : Follower → List Entry
-read_by f = take f.place (found_by f)
+  -- all that this follower has read, in order
+  abbrev pub read_by : Follower L S T M → List Entry
+  read_by f = take f.place (found_by f)
 
--- it follows this board, and has read nothing
-abbrev pub IsNewFollower : TableId → Follower → Type 0
-IsNewFollower id f = (follower_board f ≡ id) × (found_by f ≡ []) × (told_to f ≡ []) × (f.place ≡ 0)
+  -- it follows this board, and has read nothing
+  abbrev pub IsNewFollower : TableId → Follower L S T M → Type 0
+  IsNewFollower id f = (follower_board f ≡ id) × (found_by f ≡ []) × (told_to f ≡ []) × (f.place ≡ 0)
 
-abbrev pub AreNew : TableId → Followers → Type 0
-AreNew id f = IsNewFollower id f.zero × IsNewFollower id f.one × IsNewFollower id f.two × IsNewFollower id f.three × IsNewFollower id f.four
-    × IsNewFollower id f.five × IsNewFollower id f.six × IsNewFollower id f.seven × IsNewFollower id f.recorder
+  abbrev pub AreNew : TableId → Followers L S T M → Type 0
+  AreNew id f = IsNewFollower id f.zero × IsNewFollower id f.one × IsNewFollower id f.two × IsNewFollower id f.three × IsNewFollower id f.four
+      × IsNewFollower id f.five × IsNewFollower id f.six × IsNewFollower id f.seven × IsNewFollower id f.recorder

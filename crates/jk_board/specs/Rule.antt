@@ -2,6 +2,7 @@
 use Rattle.std.specs.Prelude.{◌≡◌, ℕ, List, [], ◌∷◌}
 use mathlib.Core.Option.{some}
 use lib.ListN.{get_elem?}
+use Rattle.jk_language.specs.Spoken.{Spoken}
 use Rattle.jk_core.specs.declared.entry.Entry.{Entry}
 use Rattle.jk_board.specs.declared.posted.Posted.{Posted}
 use Rattle.jk_board.specs.declared.rule.Seen.{Seen}
@@ -18,9 +19,9 @@ sees s t = record { seen = s; told = t }
 abbrev pub Begins : List Entry → Seen → Type 0
 Begins all v = StartsWith all v.seen × Each (StartsWith all) v.told
 
-abbrev pub Grows : Posted → List Seen → Type 0
-Grows b views = IsBoard (all_of b) × ((j : ℕ) (v : Seen) → get_elem? views j ≡ some v → Begins (all_of b) v)
+abbrev pub Grows : {S T : Type 0} → Spoken S T → Posted → List Seen → Type 0
+Grows spoken b views = IsBoard spoken (all_of b) × ((j : ℕ) (v : Seen) → get_elem? views j ≡ some v → Begins (all_of b) v)
 
 -- the board that is found begins with all that was seen and told of, and is what was seen from now on
-abbrev pub Finds : Seen → Posted → Posted → Seen → Type 0
-Finds v x y w = IsBoard (all_of y) × Begins (all_of y) v × (w ≡ sees (all_of y) v.told)
+abbrev pub Finds : {S T : Type 0} → Spoken S T → Seen → Posted → Posted → Seen → Type 0
+Finds spoken v x y w = IsBoard spoken (all_of y) × Begins (all_of y) v × (w ≡ sees (all_of y) v.told)

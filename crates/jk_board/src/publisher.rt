@@ -6,6 +6,7 @@ ghost use Rattle.jk_board.specs.Posted.{all_of};
 use crate::posted::Posted;
 use crate::rule::{Grows, Seen};
 use jk_core::Entry;
+use jk_language::Language;
 use left_right::Absorb;
 use left_right::writer::Writer;
 use std::alloc::AllocError;
@@ -39,11 +40,11 @@ impl Absorb<Replace> for Posted {
 }
 
 /// The two copies that followers read.
-pub type Copies = Writer<Posted, Replace, Seen, Grows>;
+pub type Copies<L> = Writer<Posted, Replace, Seen, Grows<L>>;
 
 /// Publishes entries to all followers. End it by `end`: followers find nothing from then on.
-pub struct Publisher {
-    pub(crate) copies: Copies,
+pub struct Publisher<L: Language> {
+    pub(crate) copies: Copies<L>,
     ghost nothing_pending: { drop copies.behind copies.log.items ≡ [] },
     ghost saw_all: { (view copies.desk.place).seen ≡ all_of copies.desk.shown.value },
 }

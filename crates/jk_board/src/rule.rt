@@ -4,7 +4,9 @@ use crate::posted::Posted;
 use atomic_table::{Join, Split};
 use crossbeam_utils::rule::{Outcome, Protocol};
 use jk_core::Entry;
+use jk_language::Language;
 use std::collections::LinkedList;
+use std::marker::PhantomData;
 
 /// What a reader or the writer knows: the board that it saw last, and the boards that it was told of. No value of it is made.
 pub struct Seen {
@@ -12,25 +14,29 @@ pub struct Seen {
     pub told: LinkedList<LinkedList<Entry>>,
 }
 
-/// The board is a beginning of what a legal log shows, and it only grows.
-pub struct Grows;
+/// The board is a beginning of what a legal log of the language shows, and it only grows.
+pub struct Grows<L> {
+    language: PhantomData<L>,
+}
 
-impl Protocol<Posted, Seen> for Grows {
+impl<L: Language> Protocol<Posted, Seen> for Grows<L> {
     ghost use Rattle.std.specs.Prelude.{[]};
     ghost use Rattle.jk_board.specs.Rule as rule;
 
-    ghost holds = { rule.Grows };
+    ghost holds = { rule.Grows L.spoken };
 
     ghost first = { rule.sees [] [] };
 }
 
 /// The board that is published, or found.
-pub struct Finds;
+pub struct Finds<L> {
+    language: PhantomData<L>,
+}
 
-impl Outcome<Posted, Seen> for Finds {
+impl<L: Language> Outcome<Posted, Seen> for Finds<L> {
     ghost use Rattle.jk_board.specs.Rule as rule;
 
-    ghost then = { rule.Finds };
+    ghost then = { rule.Finds L.spoken };
 }
 
 /// What the writer saw, for a reader to learn.

@@ -1,333 +1,504 @@
 -- What stands beside the script is what the log answers.
-use Rattle.std.proofs.Common.{◌≡◌, ℕ, ◌+◌, Bool, List, [], ◌∷◌, length, drop, refl, sym, ◌∙◌, ap, subst, Option, None, Some, Result, Ok, Err, OnOk, IfErr, inl, inr}
-use Rattle.ob_cell.specs.declared.outcome.Refusal.{Refusal}
-use Rattle.ob_cell.specs.Parts.{SessionState, Meaning}
-use Rattle.ob_cell.specs.Cell.{IsRefusedFor}
-use Rattle.ob_cell.specs.MachineState.{MachineState}
-use Rattle.ob_cell.specs.Runs.{meaning_of, unshown, HasTurned, IsGiven, OutcomeIs, tells_end}
-use Rattle.ob_cell.specs.declared.outcome.Turned.{Turned}
-use Rattle.ob_cell.specs.declared.outcome.Turned.TheVariants as turned
-use Rattle.ob_cell.proofs.Laws.{cell-lawful, refused-stands, meaning-same}
+use Rattle.std.proofs.Common.{◌≡◌, ◌≢◌, ℕ, ◌+◌, ◌≤◌, Bool, true, false, List, [], ◌∷◌, ◌++◌, length, drop, refl, sym, ◌∙◌, ap, subst, arith, Option, None, Some, Result, Ok, Err, OnOk, IfErr, inl, inr}
+use Rattle.std.specs.Prelude.{IsTrue, is_some, ◌&&◌, ◌==◌, not}
+use Rattle.std.proofs.lemmas.List.{append-nil}
+use Rattle.jk_language.specs.declared.outcome.Refusal.{Refusal}
+use Rattle.jk_language.specs.Parts.{Line as AsLine, Meaning}
+use Rattle.jk_language.specs.MachineState.{MachineState, here}
+use Rattle.jk_language.specs.Runs.{unshown, line_given, output_taken, HasTurned, IsGiven, OutcomeIs, tells_end, tells_line}
+use Rattle.jk_language.specs.declared.outcome.Outcome.TheVariants as outcome
+use Rattle.jk_language.specs.declared.outcome.Turned.{Turned}
+use Rattle.jk_language.specs.declared.outcome.Turned.TheVariants as turned
+use Rattle.jk_language.specs.Spoken.{Spoken, IsLanguage}
+use Rattle.jk_language.specs.Beginning.{IsFresh}
 use Rattle.jp_msg.specs.declared.message.Execute.{Execute}
 use Rattle.jk_core.specs.declared.arrival.Arrival.{Arrival}
-use Rattle.jk_core.specs.declared.run.Active.{Active}
-use Rattle.jk_core.specs.declared.run.Place.{Place}
-use Rattle.jk_core.specs.declared.run.Place.TheVariants.{Resting, Running as Runs}
-use Rattle.jk_core.specs.declared.run.Desk.{Desk}
-use Rattle.jk_core.specs.declared.run.Opening.{Opening}
-use Rattle.jk_core.specs.declared.run.Opening.TheVariants as opening
+use Rattle.jk_core.specs.declared.arrival.Sort.{Sort}
+use Rattle.jk_core.specs.declared.arrival.Sort.TheVariants as sort
+use Rattle.jk_core.specs.Asked.{input_in, sort_as}
+use Rattle.jk_core.specs.declared.desk.Active.{Active}
+use Rattle.jk_core.specs.declared.desk.Wants.{Wants}
+use Rattle.jk_core.specs.declared.desk.Wants.TheVariants as wants
+use Rattle.jk_core.specs.declared.desk.Place.{Place}
+use Rattle.jk_core.specs.declared.desk.Place.TheVariants.{Resting, Running as Runs}
+use Rattle.jk_core.specs.declared.desk.Desk.{Desk}
+use Rattle.jk_core.specs.declared.start.Opening.{Opening}
+use Rattle.jk_core.specs.declared.start.Opening.TheVariants as opening
 use Rattle.jk_core.specs.declared.job.Parsed.{Parsed}
 use Rattle.jk_core.specs.declared.job.Parsed.TheVariants as parsed
 use Rattle.jk_core.specs.Results.{IsResult}
-use Rattle.jk_core.specs.declared.mark.Kind.TheVariants.{Begin, End, Flush, Refuse, Stop}
+use Rattle.jk_core.specs.declared.mark.Item.{Item}
+use Rattle.jk_core.specs.declared.mark.Item.TheVariants.{Took, Marked}
+use Rattle.jk_core.specs.declared.mark.Kind.TheVariants.{Abort, Ask, Begin, End, Flush, Interrupt, Line, Refuse, Stop}
 use Rattle.jk_core.specs.declared.mark.Ending.TheVariants as ending
 use Rattle.jk_core.specs.declared.mark.Cause.{Cause}
 use Rattle.jk_core.specs.declared.mark.Cause.TheVariants as cause
+use Rattle.jk_core.specs.declared.kernel.Work.{Work}
+use Rattle.jk_core.specs.declared.kernel.Work.TheVariants as work
 use Rattle.jk_core.specs.declared.script.Waiting.{Waiting}
-use Rattle.jk_core.specs.Log.{Log, Running, running, session, count as count_of, meaning, meaning_in, next_count, option_or, option_with, flushed_at, execute_at}
+use Rattle.jk_core.specs.Log.{Log, Running, running, running_with, session, count as count_of, meaning, meaning_in, shown_in, stood, stood_in, next_count, option_or, option_with, opened, flushed_at, asking, lined, unread, nones, left, asker, asked_of, execute_at, input_at, seat_at}
+use Rattle.jk_core.specs.Legal.{IsLineless, MayAsk}
 use Rattle.jk_core.specs.State.{KernelState, first_of}
-use Rattle.jk_core.specs.Steps.{allowed, begun, broken, closed, failing, flushed as flushed_to, noted, stopped, stops_at, taken, with_waits, BeginsAt, GoesOn, IsBrokenAt, Starts, StartsFirst}
-use Rattle.jk_core.specs.Kept.{IsKept, IsFresh, IsResultOf, IsRunBy, Opens, Stands, StandsAt, AllWait, IsWaiting}
-use Rattle.jk_core.proofs.Keeps.{failing_moves, flushed_runs, kept-taken, some_same, stops_same}
-
--- the same answers are told by a log that differs in nothing of it
-place_same : (log next : Log) (p : Place) → running next ≡ running log → session next ≡ session log → StandsAt log p → StandsAt next p
-place_same log next (Resting s) r e h = (r ∙ h.0, h.1 ∙ sym e)
-place_same log next (Runs a) r e h = record {
-  cell = h.cell;
-  runs = r ∙ h.runs;
-  at = h.at;
-  turns = h.turns;
-  shown = h.shown;
-  on = h.on;
-  goes = λ n. h.goes n ∙ ap (λ (s : SessionState). meaning_in s h.cell n) (sym e);
-  stops = h.stops;
-}
-
-stands_same : (log next : Log) (d : Desk) → running next ≡ running log → session next ≡ session log → count_of next ≡ count_of log → Stands log d → Stands next d
-stands_same log next d r s c h = record { count = h.count ∙ sym c; place = place_same log next d.place r s h.place }
-
--- aborting changes nothing beside the script
-stands_failing : (b : Bool) (k : KernelState) (d : Desk) → Stands k.log d → Stands (failing b k).log d
-stands_failing b k d h = failing_moves (λ k. Stands k.log d) (λ at k h. stands_same k.log _ d refl refl refl h) (λ ws k h. h) b k h
-
-pub stands_fails : (b : Bool) (k fin : KernelState) (d : Desk) → fin ≡ failing b k → Stands k.log d → Stands fin.log d
-stands_fails b k fin d e h = subst (λ (k : KernelState). Stands k.log d) (sym e) (stands_failing b k d h)
-
--- an arrival that was handed back has changed nothing
-pub kept_by : {B : Type 0} (P : B → Type 0) (a : Arrival) (old new : KernelState) (r : Result (Unit {0}) B) → IsKept old → OnOk r (new ≡ taken a old) → IfErr r (λ back. P back × (new ≡ old)) → IsKept new
-kept_by P a old new (Ok u) kept e f = rw e (kept-taken a old kept)
-kept_by P a old new (Err back) kept e f = rw f.1 kept
-
--- A slice, as the machine made it.
-
--- what a machine's turns and the flush after them come to
-pub record HasRun (k mid : KernelState) (r : Running) (slice given gone : ℕ) (answer : Turned) (after : MachineState) : Type 0 where
-  pub all : IsGiven answer (allowed r.turns slice) given
-  pub outcome : OutcomeIs answer (meaning k.log r (r.turns + given)).outcome
-  pub flushed : mid ≡ flushed_to r.at (meaning k.log r) r.turns (r.turns + given) k
-  pub used : gone ≡ (meaning k.log r (r.turns + given)).turns
-  pub turns : after.turns ≡ (meaning k.log r (r.turns + given)).turns
-  pub shown : after.shown ≡ (meaning k.log r (r.turns + given)).turns
-  pub over : after.over ≡ tells_end answer
-  pub goes : (n : ℕ) → meaning_of after n ≡ meaning k.log r n
-
-flush_same : (at at' used t : ℕ) (text T : List ℕ) (k : KernelState) → at ≡ at' → used ≡ t → text ≡ T → noted at (Flush used text) k ≡ noted at' (Flush t T) k
-flush_same at at' used t text T k e u v = rw (e, u, v) refl
-
--- the output that the flush shows
-shown_text : (m : MachineState) (goes : ℕ → Meaning) (text : List ℕ) (from n : ℕ) → text ≡ unshown m → m.shown ≡ from → m.turns ≡ (goes n).turns → ((j : ℕ) → meaning_of m j ≡ goes j) → goes (goes n).turns ≡ goes n → text ≡ drop (length (goes from).output) (goes n).output
-shown_text m goes text from n e s t same here =
-    e ∙ ap (λ (p : Meaning). drop (length p.output) (meaning_of m m.turns).output) (same m.shown ∙ ap goes s)
-    ∙ ap (λ (p : Meaning). drop (length (goes from).output) p.output) (same m.turns ∙ ap goes t ∙ here)
-
-pub has_run : (k mid : KernelState) (a : Active) (h : IsRunBy k.log a) (turns most used : ℕ) (answer : Turned) (gone after : MachineState) (text : List ℕ) → most ≡ allowed a.machine.turns turns → (w : HasTurned a.machine most answer gone) → used ≡ gone.turns → text ≡ unshown gone → after ≡ record gone { shown = gone.turns } → mid ≡ noted a.at (Flush used text) k → HasRun k mid h.cell turns w.0 used answer after
-has_run k mid a h turns most used answer gone after text all w u t took_it noted_mid =
-    let r = h.cell in
-    let goes = meaning k.log r in
-    let n = r.turns + w.0 in
-    let place : a.machine.turns + w.0 ≡ n = ap (λ (x : ℕ). x + w.0) h.turns in
-    let come : meaning_of a.machine (a.machine.turns + w.0) ≡ goes n = h.goes (a.machine.turns + w.0) ∙ ap goes place in
-    let here = (cell-lawful (session k.log) r.request.code []).settled n in
-    let stood : gone.turns ≡ (goes n).turns = ap (λ (m : MachineState). m.turns) w.3 ∙ ap (λ (p : Meaning). p.turns) come in
-    let same : (j : ℕ) → meaning_of gone j ≡ goes j = λ j.
-    ap (λ (m : MachineState). meaning_of m j) w.3 ∙ meaning-same a.machine (meaning_of a.machine (a.machine.turns + w.0)).turns a.machine.shown j (tells_end answer) ∙ h.goes j in
-    let from : gone.shown ≡ r.turns = ap (λ (m : MachineState). m.shown) w.3 ∙ h.shown in
-    record {
-      all = subst (λ (x : ℕ). IsGiven answer x w.0) (all ∙ ap (λ (x : ℕ). allowed x turns) h.turns) w.1;
-      outcome = subst (λ (p : Meaning). OutcomeIs answer p.outcome) come w.2;
-      flushed = noted_mid ∙ flush_same a.at r.at used _ text _ k h.at (u ∙ stood) (shown_text gone goes text r.turns n t from stood same here);
-      used = u ∙ stood;
-      turns = ap (λ (m : MachineState). m.turns) took_it ∙ stood;
-      shown = ap (λ (m : MachineState). m.shown) took_it ∙ stood;
-      over = ap (λ (m : MachineState). m.over) took_it ∙ ap (λ (m : MachineState). m.over) w.3;
-      goes = λ j. ap (λ (m : MachineState). meaning_of m j) took_it ∙ meaning-same gone gone.turns gone.turns j gone.over ∙ same j;
-    }
-
-closed_same : (answer : Turned) (at at' : ℕ) (b b' : Bool) (t t' n n' : ℕ) (k k' : KernelState) → at ≡ at' → b ≡ b' → t ≡ t' → n ≡ n' → k ≡ k' → closed answer at b t n k ≡ closed answer at' b' t' n' k'
-closed_same answer at at' b b' t t' n n' k k' e f g h i =
-    ap (λ (x : ℕ). closed answer x b t n k) e ∙ ap (λ (x : Bool). closed answer at' x t n k) f ∙ ap (λ (x : ℕ). closed answer at' b' x n k) g
-    ∙ ap (λ (x : ℕ). closed answer at' b' t' x k) h ∙ ap (closed answer at' b' t' n') i
-
--- the end of a slice, as the log tells it
-closed_as : (k mid new : KernelState) (a : Active) (h : IsRunBy k.log a) (turns given used n : ℕ) (answer : Turned) (after : MachineState) → HasRun k mid h.cell turns given used answer after → n ≡ count_of k.log → new ≡ closed answer a.at a.stops used n mid → new ≡ closed answer h.cell.at h.cell.request.stop_on_error (meaning k.log h.cell (h.cell.turns + given)).turns (count_of k.log) (flushed_to h.cell.at (meaning k.log h.cell) h.cell.turns (h.cell.turns + given) k)
-closed_as k mid new a h turns given used n answer after r c e =
-    e ∙ closed_same answer a.at _ a.stops _ used _ n _ mid _ h.at h.stops r.used c r.flushed
-
-pub goes_from : (k mid new : KernelState) (a : Active) (h : IsRunBy k.log a) (turns given used n : ℕ) (answer : Turned) (after : MachineState) → HasRun k mid h.cell turns given used answer after → n ≡ count_of k.log → new ≡ closed answer a.at a.stops used n mid → (r : Running) × (running k.log ≡ Some r) × GoesOn turns r k new
-goes_from k mid new a h turns given used n answer after r c e =
-    (h.cell, h.runs, (answer, given, (r.all, r.outcome, closed_as k mid new a h turns given used n answer after r c e)))
-
--- a cell that goes on
-pub on_stands : (k mid : KernelState) (d : Desk) (a : Active) (h : IsRunBy k.log a) (turns given used : ℕ) (after : MachineState) → HasRun k mid h.cell turns given used turned.Stopped after → d.count ≡ count_of k.log → Stands mid.log (record d { place = Runs (record { at = a.at; stops = a.stops; machine = after }) })
-on_stands k mid d a h turns given used after r c =
-    subst (λ (k : KernelState). Stands k.log (record d { place = Runs (record { at = a.at; stops = a.stops; machine = after }) })) (sym r.flushed)
-    (record {
-      count = c;
-      place = record {
-        cell = flushed_at (meaning k.log h.cell (h.cell.turns + given)).turns h.cell;
-        runs = flushed_runs (running k.log) h.cell _ h.runs;
-        at = h.at;
-        turns = r.turns;
-        shown = r.shown;
-        on = r.over;
-        goes = r.goes;
-        stops = h.stops;
-      };
-    })
-
--- the session after an end
-ended_session : (log : Log) (r : Running) (t : ℕ) (s : SessionState) → running log ≡ Some r → s ≡ (meaning log r t).session → s ≡ option_or (λ r. (meaning_in (session log) r r.turns).session) (session log) (option_with (flushed_at t) (running log))
-ended_session log r t s runs e = rw runs e
-
-over_session : (k mid : KernelState) (r : Running) (turns given used : ℕ) (answer : Turned) (after : MachineState) (s : SessionState) → running k.log ≡ Some r → HasRun k mid r turns given used answer after → s ≡ (meaning_of after after.turns).session → s ≡ option_or (λ r. (meaning_in (session k.log) r r.turns).session) (session k.log) (option_with (flushed_at (meaning k.log r (r.turns + given)).turns) (running k.log))
-over_session k mid r turns given used answer after s runs h e =
-    ended_session k.log r (meaning k.log r (r.turns + given)).turns s runs
-    (e ∙ ap (λ (m : Meaning). m.session) (h.goes after.turns ∙ ap (meaning k.log r) h.turns))
+use Rattle.jk_core.specs.Steps.{allows_at, allowed, answered, begun, broken, closed, failing, flushed as flushed_to, given_to, gone_on, has_lines, limit, noted, sliced, took, written, written_out, stopped, stops_at, taken, with_waits, BeginsAt, Closes, GoesOn, GoesWithout, IsAsking, IsBrokenAt, Moves, Starts, StartsFirst, Works}
+use Rattle.jk_core.specs.Kept.{CanStop, HoldsAt, IsKept, IsLineFor, IsOf, IsResultOf, IsRunBy, IsWanting, Opens, RunsBy, Stands, StartsOr, WantsAt, AllWait, IsWaiting, is_asking, line_to, lined_up}
+use Rattle.jk_core.specs.Slices.{HasAsked, HasCome, HasStuck, IsAtWork, IsInSlice, may_ask}
+use Rattle.jk_core.proofs.Keeps.{failing_moves, flushed_runs, asking_runs, lined_runs, no_lines, meaning_shown, runs_as, silent_slice, kept-taken, some_same, stops_same}
+use Rattle.jk_core.proofs.Logs.{input_grows, input_newest}
+use Rattle.jk_core.proofs.Turns.{count_same, here_is, lacks, law_of, lineless, may_by, not_lineless, not_stopped, ran_same, seat_left, stood_at}
 
 -- answers after which no cell runs
 abbrev pub IsOver : Turned → Type 0
 IsOver turned.Stopped = ⊥
+IsOver turned.NeedsLine = ⊥
 IsOver turned.Ended = Unit {0}
 IsOver (turned.Trapped trap) = Unit {0}
 IsOver turned.NoMemory = Unit {0}
 
-over_at : (answer : Turned) (k flush : KernelState) (d : Desk) (at turns n : ℕ) (b : Bool) (s : SessionState) → IsOver answer → count_of flush.log ≡ count_of k.log → d.count ≡ count_of k.log → s ≡ option_or (λ r. (meaning_in (session flush.log) r r.turns).session) (session flush.log) (running flush.log) → Stands (closed answer at b turns n flush).log (record d { place = Resting s })
-over_at turned.Stopped k flush d at turns n b s o f c e = absurd o
-over_at turned.Ended k flush d at turns n b s o f c e = record { count = c ∙ sym f; place = (refl, e) }
-over_at (turned.Trapped trap) k flush d at turns n b s o f c e =
-    stands_failing b (noted at (End (ending.Trapped trap) n) flush) (record d { place = Resting s }) (record { count = c ∙ sym f; place = (refl, e) })
-over_at turned.NoMemory k flush d at turns n b s o f c e =
-    stands_failing b (noted at (Stop turns cause.Memory n) flush) (record d { place = Resting s }) (record { count = c ∙ sym f; place = (refl, e) })
+pub no_given : (o : Option Running) (r : Running) (P : Type 0) → o ≡ None → o ≡ Some r → P
+no_given o r P e f = cc
 
--- a cell that is over
-pub over_stands : (k mid new : KernelState) (d : Desk) (a : Active) (h : IsRunBy k.log a) (turns given used n : ℕ) (answer : Turned) (after : MachineState) (s : SessionState) → HasRun k mid h.cell turns given used answer after → IsOver answer → n ≡ count_of k.log → d.count ≡ count_of k.log → new ≡ closed answer a.at a.stops used n mid → s ≡ (meaning_of after after.turns).session → Stands new.log (record d { place = Resting s })
-over_stands k mid new d a h turns given used n answer after s r o c dc e f =
-    subst (λ (k : KernelState). Stands k.log (record d { place = Resting s })) (sym (closed_as k mid new a h turns given used n answer after r c e))
-    (over_at answer k (flushed_to h.cell.at (meaning k.log h.cell) h.cell.turns (h.cell.turns + given) k) d h.cell.at (meaning k.log h.cell (h.cell.turns + given)).turns (count_of k.log) h.cell.request.stop_on_error s o refl dc (over_session k mid h.cell turns given used answer after s h.runs r f))
+-- answers that ask for no line
+pub stopped_not : turned.Stopped ≢ turned.NeedsLine
+stopped_not e = cc
 
--- The cell that runs is stopped.
+pub over_not : (answer : Turned) → IsOver answer → answer ≢ turned.NeedsLine
+over_not turned.Stopped o e = absurd o
+over_not turned.NeedsLine o e = absurd o
+over_not turned.Ended o e = cc
+over_not (turned.Trapped trap) o e = cc
+over_not turned.NoMemory o e = cc
 
-stop_same : (at at' turns turns' : ℕ) (why : Cause) (n n' : ℕ) (b b' : Bool) (text : List ℕ) (k : KernelState) → at ≡ at' → turns ≡ turns' → n ≡ n' → b ≡ b' → text ≡ [] → failing b (noted at (Stop turns why n) (noted at (Flush turns text) k)) ≡ failing b' (noted at' (Stop turns' why n') (noted at' (Flush turns' []) k))
-stop_same at at' turns turns' why n n' b b' text k e f g h i =
-    ap (λ (x : ℕ). failing b (noted x (Stop turns why n) (noted x (Flush turns text) k))) e
-    ∙ ap (λ (x : ℕ). failing b (noted at' (Stop x why n) (noted at' (Flush x text) k))) f
-    ∙ ap (λ (x : ℕ). failing b (noted at' (Stop turns' why x) (noted at' (Flush turns' text) k))) g
-    ∙ ap (λ (x : Bool). failing x (noted at' (Stop turns' why n') (noted at' (Flush turns' text) k))) h
-    ∙ ap (λ (x : List ℕ). failing b' (noted at' (Stop turns' why n') (noted at' (Flush turns' x) k))) i
+module _ {T : Type 0} where
+  closed_same : (answer : Turned) (at at' : ℕ) (b b' : Bool) (t t' n n' : ℕ) (k k' : KernelState T) → at ≡ at' → b ≡ b' → t ≡ t' → n ≡ n' → k ≡ k' → closed answer at b t n k ≡ closed answer at' b' t' n' k'
+  closed_same answer at at' b b' t t' n n' k k' e f g h i =
+      ap (λ (x : ℕ). closed answer x b t n k) e ∙ ap (λ (x : Bool). closed answer at' x t n k) f ∙ ap (λ (x : ℕ). closed answer at' b' x n k) g
+      ∙ ap (λ (x : ℕ). closed answer at' b' t' x k) h ∙ ap (closed answer at' b' t' n') i
 
--- what stopping comes to
-pub stop_moves : (k one two new : KernelState) (d : Desk) (a : Active) (turns n : ℕ) (text : List ℕ) (why : Cause) → d.count ≡ count_of k.log → IsRunBy k.log a → turns ≡ a.machine.turns → text ≡ [] → n ≡ d.count → one ≡ noted a.at (Flush turns text) k → two ≡ noted a.at (Stop turns why n) one → new ≡ failing a.stops two → new ≡ stopped why (running k.log) k
-stop_moves k one two new d a turns n text why counted h u t c b1 b2 b3 =
-    b3 ∙ ap (failing a.stops) (b2 ∙ ap (λ (k : KernelState). noted a.at (Stop turns why n) k) b1)
-    ∙ stop_same a.at h.cell.at turns h.cell.turns why n _ a.stops h.cell.request.stop_on_error text k h.at (u ∙ h.turns) (c ∙ counted) h.stops t
-    ∙ ap (λ (o : Option Running). stopped why o k) (sym h.runs)
+  stop_same : (at at' turns turns' : ℕ) (why : Cause) (n n' : ℕ) (b b' : Bool) (text : List ℕ) (k : KernelState T) → at ≡ at' → turns ≡ turns' → n ≡ n' → b ≡ b' → text ≡ [] → failing b (noted at (Stop turns why n) (noted at (Flush turns text) k)) ≡ failing b' (noted at' (Stop turns' why n') (noted at' (Flush turns' []) k))
+  stop_same at at' turns turns' why n n' b b' text k e f g h i =
+      ap (λ (x : ℕ). failing b (noted x (Stop turns why n) (noted x (Flush turns text) k))) e
+      ∙ ap (λ (x : ℕ). failing b (noted at' (Stop x why n) (noted at' (Flush x text) k))) f
+      ∙ ap (λ (x : ℕ). failing b (noted at' (Stop turns' why x) (noted at' (Flush turns' text) k))) g
+      ∙ ap (λ (x : Bool). failing x (noted at' (Stop turns' why n') (noted at' (Flush turns' text) k))) h
+      ∙ ap (λ (x : List ℕ). failing b' (noted at' (Stop turns' why n') (noted at' (Flush turns' x) k))) i
 
-pub stop_stands : (k new : KernelState) (d : Desk) (a : Active) (s : SessionState) (why : Cause) → d.count ≡ count_of k.log → IsRunBy k.log a → new ≡ stopped why (running k.log) k → s ≡ (meaning_of a.machine a.machine.turns).session → Stands new.log (record d { place = Resting s })
-stop_stands k new d a s why counted h e f =
-    let told = f ∙ ap (λ (m : Meaning). m.session) (h.goes a.machine.turns) ∙ ap (λ (n : ℕ). (meaning k.log h.cell n).session) h.turns in
-    stands_fails h.cell.request.stop_on_error (noted h.cell.at (Stop h.cell.turns why (count_of k.log)) (noted h.cell.at (Flush h.cell.turns []) k)) new (record d { place = Resting s })
-    (e ∙ ap (λ (o : Option Running). stopped why o k) h.runs)
-    (record { count = counted; place = (refl, ended_session k.log h.cell h.cell.turns s h.runs told) })
+  pub none_stops : (k : KernelState T) (why : Cause) → running k.log ≡ None → k ≡ stopped why (running k.log) k
+  none_stops k why e = rw e refl
 
-pub none_stops : (k : KernelState) (why : Cause) → running k.log ≡ None → k ≡ stopped why (running k.log) k
-none_stops k why e = rw e refl
+  pub begun_as : (k mid : KernelState T) (at n : ℕ) → n ≡ next_count at k.log → mid ≡ noted at (Begin n) k → mid ≡ begun at k
+  begun_as k mid at n c e = e ∙ ap (λ (n : ℕ). noted at (Begin n) k) c
 
--- The first that waits is begun, or refused.
+  -- a cell that does not run
+  pub broken_as : (k one two three new : KernelState T) (at n : ℕ) (b : Bool) (text : List ℕ) (refusal : Refusal) → n ≡ next_count at k.log → b ≡ stops_at at k.log → text ≡ [] → one ≡ noted at (Begin n) k → two ≡ noted at (Flush 0 text) one → three ≡ noted at (End (ending.Refused refusal) n) two → new ≡ failing b three → new ≡ broken at refusal k
+  broken_as k one two three new at n b text refusal c s t e1 e2 e3 e =
+      e ∙ ap (failing b) (e3 ∙ ap (noted at (End (ending.Refused refusal) n)) (e2 ∙ ap (noted at (Flush 0 text)) e1))
+      ∙ ap (λ (x : Bool). failing x (noted at (End (ending.Refused refusal) n) (noted at (Flush 0 text) (noted at (Begin n) k)))) s
+      ∙ ap (λ (x : List ℕ). failing (stops_at at k.log) (noted at (End (ending.Refused refusal) n) (noted at (Flush 0 x) (noted at (Begin n) k)))) t
+      ∙ ap (λ (x : ℕ). failing (stops_at at k.log) (noted at (End (ending.Refused refusal) x) (noted at (Flush 0 []) (noted at (Begin x) k)))) c
 
-pub first_wait : (log : Log) (ws : List Waiting) (w : Waiting) → AllWait log ws → Some w ≡ first_of ws → IsWaiting log w
-first_wait log [] w all e = none_first w _ e
-  where
-    none_first : (w : Waiting) (P : Type 0) → Some w ≡ None → P
-    none_first w P e = cc
-first_wait log (v ∷ ws) w all e = subst (IsWaiting log) (sym (some_same w v e)) all.0
+  -- the state in which the first no longer waits
+  popped_as : (old got popped : KernelState T) → got ≡ old → popped ≡ with_waits (drop 1 got.waits) got → popped ≡ with_waits (drop 1 old.waits) old
+  popped_as old got popped g p = p ∙ ap (λ (k : KernelState T). with_waits (drop 1 k.waits) k) g
 
--- the machine of a cell that was begun
-pub begin_runs : (k mid : KernelState) (at n : ℕ) (stops : Bool) (m : MachineState) (b : (e : Execute) × (execute_at at k.log ≡ Some e) × IsFresh (session k.log) e.code m) → stops ≡ stops_at at k.log → mid ≡ noted at (Begin n) k → IsRunBy mid.log (record { at = at; stops = stops; machine = m })
-begin_runs k mid at n stops m (e, there, f) s b =
-    subst (λ (k : KernelState). IsRunBy k.log (record { at = at; stops = stops; machine = m })) (sym b) (record {
-      cell = record { at = at; request = e; turns = 0 };
-      runs = ap (option_with (λ (e : Execute). record { at = at; request = e; turns = 0 })) there;
-      at = refl;
-      turns = f.turns;
-      shown = f.shown;
-      on = f.on;
-      goes = f.goes;
-      stops = s ∙ stops_same (execute_at at k.log) e there;
-    })
+  pub same_log : (old got popped : KernelState T) → got ≡ old → popped ≡ with_waits (drop 1 got.waits) got → old.log ≡ popped.log
+  same_log old got popped g p = sym (ap (λ (k : KernelState T). k.log) (popped_as old got popped g p))
 
-pub begun_as : (k mid : KernelState) (at n : ℕ) → n ≡ next_count at k.log → mid ≡ noted at (Begin n) k → mid ≡ begun at k
-begun_as k mid at n c e = e ∙ ap (λ (n : ℕ). noted at (Begin n) k) c
+module _ {S T M : Type 0} (spoken : Spoken S T) (laws : IsLanguage spoken) (state : M → MachineState S) where
+  -- what a cell wants of its lines stays so as the log goes on
+  wanting_grows : (w : Wants) (log : Log) (e : Item) (r : Running) (m : MachineState S) → IsWanting log w r m → IsWanting (e ∷ log) w r m
+  wanting_grows wants.Nothing log e r m h = h
+  wanting_grows wants.Asked log e r m h = h
+  wanting_grows (wants.Given place) log e r m (asked, asks, text, there, fresh) = (asked, asks, text, input_grows log e place text there, fresh)
 
--- a cell that does not run
-pub broken_as : (k one two three new : KernelState) (at n : ℕ) (b : Bool) (text : List ℕ) (refusal : Refusal) → n ≡ next_count at k.log → b ≡ stops_at at k.log → text ≡ [] → one ≡ noted at (Begin n) k → two ≡ noted at (Flush 0 text) one → three ≡ noted at (End (ending.Refused refusal) n) two → new ≡ failing b three → new ≡ broken at refusal k
-broken_as k one two three new at n b text refusal c s t e1 e2 e3 e =
-    e ∙ ap (failing b) (e3 ∙ ap (noted at (End (ending.Refused refusal) n)) (e2 ∙ ap (noted at (Flush 0 text)) e1))
-    ∙ ap (λ (x : Bool). failing x (noted at (End (ending.Refused refusal) n) (noted at (Flush 0 text) (noted at (Begin n) k)))) s
-    ∙ ap (λ (x : List ℕ). failing (stops_at at k.log) (noted at (End (ending.Refused refusal) n) (noted at (Flush 0 x) (noted at (Begin n) k)))) t
-    ∙ ap (λ (x : ℕ). failing (stops_at at k.log) (noted at (End (ending.Refused refusal) x) (noted at (Flush 0 []) (noted at (Begin x) k)))) c
+  pub wants_grows : (log : Log) (e : Item) (o : Option Running) (p : Place S M) → WantsAt state log o p → WantsAt state (e ∷ log) o p
+  wants_grows log e o (Resting s) h = tt
+  wants_grows log e o (Runs a) (r, runs, read, w) = (r, runs, read, wanting_grows a.wants log e r (state a.machine) w)
 
-refused_session : (s : SessionState) (at : ℕ) (o : Option Execute) (refusal : Refusal) (e : Execute) → o ≡ Some e → IsRefusedFor s e.code refusal → s ≡ option_or (λ r. (meaning_in s r r.turns).session) s (option_with (flushed_at 0) (option_with (λ e. record { at = at; request = e; turns = 0 }) o))
-refused_session s at o refusal e there wrong = rw there (sym (ap (λ (m : Meaning). m.session) (refused-stands s e.code refusal wrong [] 0)))
+  -- aborting changes nothing beside the script
+  abort_stands : (at : ℕ) (k : KernelState T) (d : Desk S M) → Stands spoken state k d → Stands spoken state (noted at Abort k) d
+  abort_stands at k d h = record { count = h.count; place = h.place; wants = wants_grows k.log (Marked (record { at = at; kind = Abort })) (running k.log) d.place h.wants }
 
-pub broken_stands : (k new : KernelState) (d : Desk) (at n : ℕ) (s : SessionState) (refusal : Refusal) → IsBrokenAt at refusal k.log → n ≡ next_count at k.log → s ≡ session k.log → new ≡ broken at refusal k → Stands new.log (record d { count = n; place = Resting s })
-broken_stands k new d at n s refusal wrong c e b =
-    stands_fails (stops_at at k.log) (noted at (End (ending.Refused refusal) (next_count at k.log)) (noted at (Flush 0 []) (begun at k))) new (record d { count = n; place = Resting s }) b
-    (record { count = c; place = (refl, e ∙ refused_session (session k.log) at (execute_at at k.log) refusal wrong.request wrong.there wrong.breaks) })
+  stands_failing : (b : Bool) (k : KernelState T) (d : Desk S M) → Stands spoken state k d → Stands spoken state (failing b k) d
+  stands_failing b k d h = failing_moves (λ k. Stands spoken state k d) (λ at k h. abort_stands at k d h) (λ ws k h. record { count = h.count; place = h.place; wants = h.wants }) b k h
 
--- What comes of the first that waits, which has its result.
+  pub stands_fails : (b : Bool) (k fin : KernelState T) (d : Desk S M) → fin ≡ failing b k → Stands spoken state k d → Stands spoken state fin d
+  stands_fails b k fin d e h = subst (λ (k : KernelState T). Stands spoken state k d) (sym e) (stands_failing b k d h)
 
--- the first that waits, what came of reading it, and what comes of that
-pub record IsOpened (k : KernelState) (w : Waiting) (outcome : Parsed) (o : Opening) : Type 0 where
-  pub wait : IsWaiting k.log w
-  pub opens : Opens (session k.log) wait.request.code outcome o
+  -- an arrival that was handed back has changed nothing
+  pub kept_by : {B : Type 0} (P : B → Type 0) (a : Arrival) (old new : KernelState T) (r : Result (Unit {0}) B) → IsKept spoken old → OnOk r (new ≡ taken a old) → IfErr r (λ back. P back × (new ≡ old)) → IsKept spoken new
+  kept_by P a old new (Ok u) kept e f = rw e (kept-taken spoken laws a old kept)
+  kept_by P a old new (Err back) kept e f = rw f.1 kept
 
-pub is_opened : (old got : KernelState) (w : Waiting) (outcome : Parsed) (s : SessionState) (o : Opening) → IsKept old → s ≡ session old.log → got ≡ old → Some w ≡ first_of got.waits → w.result ≡ Some outcome → ((text : List ℕ) → IsResult text outcome → Opens s text outcome o) → IsOpened old w outcome o
-is_opened old got w outcome s o kept e g f r opens =
-    let wait = first_wait old.log old.waits w kept.going.wait (subst (λ (k : KernelState). Some w ≡ first_of k.waits) g f) in
-    let right : IsResult wait.request.code outcome = subst (IsResultOf wait.request.code) r wait.result in
-    record { wait = wait; opens = subst (λ (s : SessionState). Opens s wait.request.code outcome o) e (opens wait.request.code right) }
+  -- the end of a slice, as the log tells it
+  closed_as : (old k mid new : KernelState T) (n used c : ℕ) (answer : Turned) (a : Active M) → (h : HasCome spoken state old k n answer a) → used ≡ (state a.machine).turns → c ≡ count_of old.log → mid ≡ written_out spoken answer h.stands.cell h.turns k → new ≡ closed answer a.at a.stops used c mid → new ≡ sliced spoken answer h.stands.cell h.turns k
+  closed_as old k mid new n used c answer a h u counted m e =
+      let s = h.stands in
+      e ∙ closed_same answer a.at _ a.stops _ used _ c _ mid _ s.of.at s.of.stops (u ∙ h.here) (counted ∙ sym (count_same spoken s.nones n s.first old s.cell k s.without)) m
 
-breaks_for : (s : SessionState) (text : List ℕ) (outcome : Parsed) (back : SessionState) (refusal : Refusal) → Opens s text outcome (opening.Broken back refusal) → (back ≡ s) × IsRefusedFor s text refusal
-breaks_for s text parsed.Memory back refusal h = absurd h
-breaks_for s text (parsed.Fault found) back refusal h = (h.0, h.2)
-breaks_for s text (parsed.Tree tree) back refusal h = h
+  abbrev GoesTo : ℕ → Running → KernelState T → Work → KernelState T → Type 0
+  GoesTo n r old work new = (nones : ℕ) × (now : Running) × (k : KernelState T) × GoesWithout spoken nones n r old now k × Closes spoken n now k work new
 
-pub is_broken : (k : KernelState) (w : Waiting) (outcome : Parsed) (back : SessionState) (refusal : Refusal) → IsOpened k w outcome (opening.Broken back refusal) → IsBrokenAt w.at refusal k.log
-is_broken k w outcome back refusal h = record {
-  request = h.wait.request;
-  there = h.wait.there;
-  breaks = (breaks_for (session k.log) h.wait.request.code outcome back refusal h.opens).1;
-}
+  pub goes_ran : (turns : ℕ) (old k mid new : KernelState T) (n used c : ℕ) (answer : Turned) (a : Active M) → (h : HasCome spoken state old k n answer a) → n ≡ limit turns old → answer ≢ turned.NeedsLine → used ≡ (state a.machine).turns → c ≡ count_of old.log → mid ≡ written_out spoken answer h.stands.cell h.turns k → new ≡ closed answer a.at a.stops used c mid → (r : Running) × (running old.log ≡ Some r) × GoesOn spoken turns r old work.Ran new
+  goes_ran turns old k mid new n used c answer a h most last u counted m e =
+      let s = h.stands in
+      let onward : k.ran ≤ h.turns = subst (λ (x : ℕ). x ≤ h.turns) (sym (ran_same spoken s.nones n s.first old s.cell k s.without)) h.onward in
+      (s.first, s.began, subst (λ (n : ℕ). GoesTo n s.first old work.Ran new) most
+      (s.nones, s.cell, k, s.without, (answer, h.turns, last, onward, h.all, h.outcome, closed_as old k mid new n used c answer a h u counted m e)))
 
-pub broken_back : (k : KernelState) (w : Waiting) (outcome : Parsed) (back : SessionState) (refusal : Refusal) → IsOpened k w outcome (opening.Broken back refusal) → back ≡ session k.log
-broken_back k w outcome back refusal h = (breaks_for (session k.log) h.wait.request.code outcome back refusal h.opens).0
+  may_ask_is : (k : KernelState T) (r : Running) (a : Active M) → IsOf r a → HasAsked a.wants r → (r.asked ≡ true → IsLineless k.log r) → IsTrue (may_ask a k.log) → MayAsk k.log r
+  may_ask_is k r a of asked none may = by a.wants asked
+    where
+      by : (w : Wants) → HasAsked w r → MayAsk k.log r
+      by wants.Nothing free = may_by a.allows (left a.seat a.at k.log) k.log r free of.allows (seat_left k.log r a of) may
+      by wants.Asked asked = absurd (not_lineless a.allows (left a.seat a.at k.log) k.log r of.allows (seat_left k.log r a of) may (none asked))
+      by (wants.Given place) asked = absurd asked
 
-fresh_for : (s : SessionState) (text : List ℕ) (outcome : Parsed) (m : MachineState) → Opens s text outcome (opening.Runs m) → IsFresh s text m
-fresh_for s text parsed.Memory m h = absurd h
-fresh_for s text (parsed.Fault found) m h = absurd h
-fresh_for s text (parsed.Tree tree) m h = h
+  pub goes_asks : (turns : ℕ) (old k mid new : KernelState T) (n used c : ℕ) (a : Active M) → (h : HasCome spoken state old k n turned.NeedsLine a) → n ≡ limit turns old → IsTrue (may_ask a k.log) → used ≡ (state a.machine).turns → c ≡ count_of old.log → mid ≡ written_out spoken turned.NeedsLine h.stands.cell h.turns k → new ≡ noted a.at Ask mid → (r : Running) × (running old.log ≡ Some r) × GoesOn spoken turns r old work.NeedsLine new
+  goes_asks turns old k mid new n used c a h most may u counted m e =
+      let s = h.stands in
+      (s.first, s.began, subst (λ (n : ℕ). GoesTo n s.first old work.NeedsLine new) most
+      (s.nones, s.cell, k, s.without, (may_ask_is k s.cell a s.of s.asked (λ e. (s.left e).0) may,
+      ap (λ (t : ℕ). (meaning spoken k.log s.cell t).outcome) (sym h.all) ∙ h.outcome,
+      closed_as old k mid new n used c turned.NeedsLine a h u counted m e ∙ ap (λ (t : ℕ). sliced spoken turned.NeedsLine s.cell t k) h.all)))
 
-pub is_fresh : (k : KernelState) (w : Waiting) (outcome : Parsed) (m : MachineState) → IsOpened k w outcome (opening.Runs m) → (e : Execute) × (execute_at w.at k.log ≡ Some e) × IsFresh (session k.log) e.code m
-is_fresh k w outcome m h = (h.wait.request, h.wait.there, fresh_for (session k.log) h.wait.request.code outcome m h.opens)
+  pub goes_stuck : (turns : ℕ) (old k new : KernelState T) (n used : ℕ) (a : Active M) → (h : HasCome spoken state old k n turned.NeedsLine a) → n ≡ limit turns old → IsLineless k.log h.stands.cell → new ≡ written_out spoken turned.NeedsLine h.stands.cell h.turns k → (r : Running) × (running old.log ≡ Some r) × GoesOn spoken turns r old work.NoMemory new
+  goes_stuck turns old k new n used a h most none e =
+      let s = h.stands in
+      (s.first, s.began, subst (λ (n : ℕ). GoesTo n s.first old work.NoMemory new) most
+      (s.nones, s.cell, k, s.without, (lacks spoken laws state old k n a h none, e ∙ ap (λ (t : ℕ). written_out spoken turned.NeedsLine s.cell t k) h.all)))
 
-refused_for : (s : SessionState) (text : List ℕ) (outcome : Parsed) (back : SessionState) → Opens s text outcome (opening.Refused back) → (back ≡ s) × (outcome ≡ parsed.Memory)
-refused_for s text parsed.Memory back h = (h, refl)
-refused_for s text (parsed.Fault found) back h = absurd h
-refused_for s text (parsed.Tree tree) back h = absurd h
+  -- the machine after its output was taken, and the cell after the flush of it
+  flush_runs : (old k : KernelState T) (n : ℕ) (answer : Turned) (a b : Active M) (o : Option Running) → (h : HasCome spoken state old k n answer a) → tells_end answer ≡ false → IsOf h.stands.cell b → state b.machine ≡ output_taken (state a.machine) → o ≡ Some (flushed_at (meaning spoken k.log h.stands.cell h.turns).turns h.stands.cell) → IsRunBy spoken state (session spoken k.log) o (meaning spoken k.log h.stands.cell h.turns).turns b
+  flush_runs old k n answer a b o h on of same runs =
+      let s = h.stands in
+      let goes = meaning spoken k.log s.cell in
+      let stands = stood_at spoken laws state old k n answer a h in
+      let settled = (law_of spoken laws state k s.cell).settled h.turns in
+      record {
+        cell = flushed_at (goes h.turns).turns s.cell;
+        runs = runs;
+        of = record { at = of.at; seat = of.seat; stops = of.stops; allows = of.allows };
+        machine = record {
+          goes = λ ls j. ap (λ (x : MachineState S). x.goes ls j) same ∙ s.goes ls j;
+          shown = ap (λ (x : MachineState S). x.shown) same ∙ ap (λ (p : Meaning S). length p.output) (stands ∙ sym settled);
+          used = ap (λ (x : MachineState S). (here x).turns) same ∙ s.used ∙ sym (ap (λ (x : MachineState S). x.turns) same);
+          on = ap (λ (x : MachineState S). x.over) same ∙ h.over ∙ on;
+        };
+        turns = ap (λ (x : MachineState S). x.turns) same ∙ h.here;
+        onward = omega arith;
+        lines = ap (λ (x : MachineState S). x.lines) same ∙ s.lines;
+      }
 
-first_from : (turns : ℕ) (all : List Waiting) (w : Waiting) (o : Option Parsed) (k new : KernelState) → Some w ≡ first_of all → w.result ≡ o → Starts turns w.at o (with_waits (drop 1 all) k) new → StartsFirst turns all k new
-first_from turns [] w o k new e r s = none_first w _ e
-  where
-    none_first : (w : Waiting) (P : Type 0) → Some w ≡ None → P
-    none_first w P e = cc
-first_from turns (v ∷ ws) w o k new e r s =
-    subst (λ (v : Waiting). Starts turns v.at v.result (with_waits ws k) new) (some_same w v e)
-    (subst (λ (o : Option Parsed). Starts turns w.at o (with_waits ws k) new) (sym r) s)
+  -- a cell that was not asked for a line since goes on
+  not_asked : (old k : KernelState T) (n : ℕ) (a : Active M) (h : HasCome spoken state old k n turned.Stopped a) → h.stands.cell.asked ≡ true → ⊥
+  not_asked old k n a h e =
+      not_stopped _ (ap (λ (p : Meaning S). p.outcome) (sym (stood_at spoken laws state old k n turned.Stopped a h)) ∙ (h.stands.left e).1) h.outcome
 
--- the state in which the first no longer waits
-popped_as : (old got popped : KernelState) → got ≡ old → popped ≡ with_waits (drop 1 got.waits) got → popped ≡ with_waits (drop 1 old.waits) old
-popped_as old got popped g p = p ∙ ap (λ (k : KernelState). with_waits (drop 1 k.waits) k) g
+  wanting_on : (w : Wants) (log : Log) (r q : Running) (m : MachineState S) → HasAsked w r → (r.asked ≡ true → ⊥) → q.asked ≡ r.asked → q.fresh ≡ [] → IsWanting log w q m
+  wanting_on wants.Nothing log r q m free never e fresh = (e ∙ free, fresh)
+  wanting_on wants.Asked log r q m asked never e fresh = absurd (never asked)
+  wanting_on (wants.Given place) log r q m asked never e fresh = absurd asked
 
-pub same_log : (old got popped : KernelState) → got ≡ old → popped ≡ with_waits (drop 1 got.waits) got → old.log ≡ popped.log
-same_log old got popped g p = sym (ap (λ (k : KernelState). k.log) (popped_as old got popped g p))
+  -- a cell that was flushed, and is not over
+  flush_stands : (old k : KernelState T) (n : ℕ) (answer : Turned) (d : Desk S M) (a b : Active M) (text : List ℕ) → (h : HasCome spoken state old k n answer a) → tells_end answer ≡ false → IsOf h.stands.cell b → state b.machine ≡ output_taken (state a.machine) → b.read ≡ false → d.count ≡ count_of old.log → IsWanting (noted h.stands.cell.at (Flush (meaning spoken k.log h.stands.cell h.turns).turns text) k).log b.wants (flushed_at (meaning spoken k.log h.stands.cell h.turns).turns h.stands.cell) (state b.machine) → Stands spoken state (noted h.stands.cell.at (Flush (meaning spoken k.log h.stands.cell h.turns).turns text) k) (record d { place = Runs b })
+  flush_stands old k n answer d a b text h on of same read counted w =
+      let s = h.stands in
+      let runs = flushed_runs (running k.log) s.cell (meaning spoken k.log s.cell h.turns).turns s.runs in
+      record {
+        count = counted ∙ sym (count_same spoken s.nones n s.first old s.cell k s.without);
+        place = flush_runs old k n answer a b _ h on of same runs;
+        wants = (flushed_at (meaning spoken k.log s.cell h.turns).turns s.cell, runs, read, w);
+      }
 
-starts_popped : (turns : ℕ) (old got popped new : KernelState) (w : Waiting) (outcome : Parsed) → got ≡ old → Some w ≡ first_of got.waits → popped ≡ with_waits (drop 1 got.waits) got → w.result ≡ Some outcome → Starts turns w.at (Some outcome) popped new → StartsFirst turns old.waits old new
-starts_popped turns old got popped new w outcome g f p r s =
-    first_from turns old.waits w (Some outcome) old new (subst (λ (k : KernelState). Some w ≡ first_of k.waits) g f) r
-    (subst (λ (k : KernelState). Starts turns w.at (Some outcome) k new) (popped_as old got popped g p) s)
+  of_same : (r : Running) (a : Active M) (w : Wants) (read : Bool) (m : M) → IsOf r a → IsOf r (record a { wants = w; read = read; machine = m })
+  of_same r a w read m of = record { at = of.at; seat = of.seat; stops = of.stops; allows = of.allows }
 
-broken_starts : (turns at : ℕ) (s : SessionState) (text : List ℕ) (outcome : Parsed) (back : SessionState) (refusal : Refusal) (k new : KernelState) → Opens s text outcome (opening.Broken back refusal) → IsBrokenAt at refusal k.log → new ≡ broken at refusal k → Starts turns at (Some outcome) k new
-broken_starts turns at s text parsed.Memory back refusal k new h wrong e = absurd h
-broken_starts turns at s text (parsed.Fault found) back refusal k new h wrong e = e ∙ ap (λ (f : Refusal). broken at f k) h.1
-broken_starts turns at s text (parsed.Tree tree) back refusal k new h wrong e = inr (refusal, wrong, e)
+  -- a cell that wrote nothing and read no line
+  silent_stands : (old k : KernelState T) (n : ℕ) (d : Desk S M) (a : Active M) (m : M) → (h : HasCome spoken state old k n turned.Stopped a) → false ≡ has_lines h.stands.cell.fresh → [] ≡ written spoken k.log h.stands.cell h.turns → state m ≡ output_taken (state a.machine) → d.count ≡ count_of old.log → Stands spoken state (gone_on false h.stands.cell.at (meaning spoken k.log h.stands.cell h.turns).turns [] k) (record d { place = Runs (record a { read = false; machine = m }) })
+  silent_stands old k n d a m h f is same counted =
+      let s = h.stands in
+      let fresh = no_lines s.cell.fresh f in
+      let goes = meaning spoken k.log s.cell in
+      let t = (goes h.turns).turns in
+      let le : s.cell.turns ≤ t = (let behind = s.behind in let on = s.onward in let here = h.here in omega arith) in
+      let before : s.cell.turns ≤ h.turns = (let behind = s.behind in let on = h.onward in omega arith) in
+      let quiet = silent_slice spoken laws (session spoken k.log) s.cell h.turns fresh before le is in
+      let stands = stood_at spoken laws state old k n turned.Stopped a h in
+      let all : goes h.turns ≡ shown_in spoken (session spoken k.log) s.cell t = sym ((law_of spoken laws state k s.cell).settled h.turns) ∙ meaning_shown spoken laws (session spoken k.log) s.cell t fresh in
+      record {
+        count = counted ∙ sym (count_same spoken s.nones n s.first old s.cell k s.without);
+        place = record {
+          cell = s.cell;
+          runs = s.runs;
+          of = of_same s.cell a a.wants false m s.of;
+          machine = record {
+            goes = λ ls j. ap (λ (x : MachineState S). x.goes ls j) same ∙ s.goes ls j;
+            shown = ap (λ (x : MachineState S). x.shown) same ∙ ap (λ (p : Meaning S). length p.output) (stands ∙ all) ∙ ap (λ (text : List ℕ). length text) quiet.silent;
+            used = ap (λ (x : MachineState S). (here x).turns) same ∙ s.used ∙ sym (ap (λ (x : MachineState S). x.turns) same);
+            on = ap (λ (x : MachineState S). x.over) same ∙ h.over;
+          };
+          turns = ap (λ (x : MachineState S). x.turns) same ∙ h.here;
+          onward = le;
+          lines = ap (λ (x : MachineState S). x.lines) same ∙ s.lines ∙ ap (λ (ls : List AsLine). s.cell.lines ++ ls) fresh ∙ append-nil s.cell.lines;
+        };
+        wants = (s.cell, s.runs, f, wanting_on a.wants k.log s.cell s.cell (state m) s.asked (not_asked old k n a h) refl fresh);
+      }
 
-pub first_broken : (turns : ℕ) (old got popped new : KernelState) (w : Waiting) (outcome : Parsed) (back : SessionState) (refusal : Refusal) → got ≡ old → Some w ≡ first_of got.waits → popped ≡ with_waits (drop 1 got.waits) got → w.result ≡ Some outcome → IsOpened old w outcome (opening.Broken back refusal) → new ≡ broken w.at refusal popped → StartsFirst turns old.waits old new
-first_broken turns old got popped new w outcome back refusal g f p r h e =
-    starts_popped turns old got popped new w outcome g f p r
-    (broken_starts turns w.at (session old.log) h.wait.request.code outcome back refusal popped new h.opens
-    (subst (IsBrokenAt w.at refusal) (same_log old got popped g p) (is_broken old w outcome back refusal h)) e)
+  -- a cell that goes on
+  on_at : (text : List ℕ) (read : Bool) (old k : KernelState T) (n : ℕ) (d : Desk S M) (a : Active M) (m : M) → (h : HasCome spoken state old k n turned.Stopped a) → read ≡ has_lines h.stands.cell.fresh → text ≡ written spoken k.log h.stands.cell h.turns → state m ≡ output_taken (state a.machine) → d.count ≡ count_of old.log → Stands spoken state (gone_on read h.stands.cell.at (meaning spoken k.log h.stands.cell h.turns).turns text k) (record d { place = Runs (record a { read = false; machine = m }) })
+  on_at (x ∷ text) read old k n d a m h f is same counted =
+      flush_stands old k n turned.Stopped d a (record a { read = false; machine = m }) (x ∷ text) h refl (of_same h.stands.cell a a.wants false m h.stands.of) same refl counted
+      (wanting_on a.wants (noted h.stands.cell.at (Flush (meaning spoken k.log h.stands.cell h.turns).turns (x ∷ text)) k).log h.stands.cell (flushed_at (meaning spoken k.log h.stands.cell h.turns).turns h.stands.cell) (state m) h.stands.asked (not_asked old k n a h) refl refl)
+  on_at [] true old k n d a m h f is same counted =
+      flush_stands old k n turned.Stopped d a (record a { read = false; machine = m }) [] h refl (of_same h.stands.cell a a.wants false m h.stands.of) same refl counted
+      (wanting_on a.wants (noted h.stands.cell.at (Flush (meaning spoken k.log h.stands.cell h.turns).turns []) k).log h.stands.cell (flushed_at (meaning spoken k.log h.stands.cell h.turns).turns h.stands.cell) (state m) h.stands.asked (not_asked old k n a h) refl refl)
+  on_at [] false old k n d a m h f is same counted = silent_stands old k n d a m h f is same counted
 
-begins_starts : (turns at : ℕ) (s : SessionState) (text : List ℕ) (outcome : Parsed) (m : MachineState) (k new : KernelState) → Opens s text outcome (opening.Runs m) → BeginsAt turns at k new → Starts turns at (Some outcome) k new
-begins_starts turns at s text parsed.Memory m k new h e = absurd h
-begins_starts turns at s text (parsed.Fault found) m k new h e = absurd h
-begins_starts turns at s text (parsed.Tree tree) m k new h e = inl e
+  pub on_stands : (old k mid : KernelState T) (n : ℕ) (d : Desk S M) (a : Active M) (m : M) → (h : HasCome spoken state old k n turned.Stopped a) → mid ≡ written_out spoken turned.Stopped h.stands.cell h.turns k → state m ≡ output_taken (state a.machine) → d.count ≡ count_of old.log → Stands spoken state mid (record d { place = Runs (record a { read = false; machine = m }) })
+  on_stands old k mid n d a m h e same counted =
+      subst (λ (k : KernelState T). Stands spoken state k (record d { place = Runs (record a { read = false; machine = m }) })) (sym e)
+      (on_at _ _ old k n d a m h refl refl same counted)
 
-pub first_begins : (turns : ℕ) (old got popped new : KernelState) (w : Waiting) (outcome : Parsed) (m : MachineState) → got ≡ old → Some w ≡ first_of got.waits → popped ≡ with_waits (drop 1 got.waits) got → w.result ≡ Some outcome → IsOpened old w outcome (opening.Runs m) → BeginsAt turns w.at popped new → StartsFirst turns old.waits old new
-first_begins turns old got popped new w outcome m g f p r h e =
-    starts_popped turns old got popped new w outcome g f p r (begins_starts turns w.at (session old.log) h.wait.request.code outcome m popped new h.opens e)
+  -- where the machine stands it needs a line
+  needs_line : (old k : KernelState T) (n : ℕ) (a : Active M) (m : M) → (h : HasCome spoken state old k n turned.NeedsLine a) → state m ≡ output_taken (state a.machine) → (here (state m)).outcome ≡ outcome.NeedsLine
+  needs_line old k n a m h same =
+      ap (λ (x : MachineState S). (here x).outcome) same ∙ ap (λ (p : Meaning S). p.outcome) (stood_at spoken laws state old k n turned.NeedsLine a h) ∙ h.outcome
 
-refused_starts : (turns at n : ℕ) (outcome : Parsed) (k new : KernelState) → outcome ≡ parsed.Memory → n ≡ count_of k.log → new ≡ noted at (Refuse n) k → Starts turns at (Some outcome) k new
-refused_starts turns at n outcome k new o c e =
-    subst (λ (p : Parsed). Starts turns at (Some p) k new) (sym o) (e ∙ ap (λ (x : ℕ). noted at (Refuse x) k) c)
+  -- a cell that lacks a line, where the log has no room to say so
+  wanting_stuck : (w : Wants) (log : Log) (r q : Running) (m : MachineState S) → HasAsked w r → q.asked ≡ r.asked → q.fresh ≡ [] → m.asks ≡ true → (here m).outcome ≡ outcome.NeedsLine → IsWanting log w q m
+  wanting_stuck wants.Nothing log r q m free e fresh asks needs = (e ∙ free, fresh)
+  wanting_stuck wants.Asked log r q m asked e fresh asks needs = (e ∙ asked, fresh, asks, needs)
+  wanting_stuck (wants.Given place) log r q m asked e fresh asks needs = absurd asked
 
-pub first_refused : (turns : ℕ) (old got popped new : KernelState) (w : Waiting) (outcome : Parsed) (back : SessionState) (n : ℕ) → got ≡ old → Some w ≡ first_of got.waits → popped ≡ with_waits (drop 1 got.waits) got → w.result ≡ Some outcome → IsOpened old w outcome (opening.Refused back) → n ≡ count_of old.log → new ≡ noted w.at (Refuse n) popped → StartsFirst turns old.waits old new
-first_refused turns old got popped new w outcome back n g f p r h c e =
-    starts_popped turns old got popped new w outcome g f p r
-    (refused_starts turns w.at n outcome popped new (refused_for (session old.log) h.wait.request.code outcome back h.opens).1 (c ∙ ap count_of (same_log old got popped g p)) e)
+  pub stuck_stands : (old k new : KernelState T) (n : ℕ) (d : Desk S M) (a : Active M) (m : M) → (h : HasCome spoken state old k n turned.NeedsLine a) → new ≡ written_out spoken turned.NeedsLine h.stands.cell h.turns k → state m ≡ output_taken (state a.machine) → d.count ≡ count_of old.log → Stands spoken state new (record d { place = Runs (record a { read = false; machine = m }) })
+  stuck_stands old k new n d a m h e same counted =
+      subst (λ (k : KernelState T). Stands spoken state k (record d { place = Runs (record a { read = false; machine = m }) })) (sym e)
+      (flush_stands old k n turned.NeedsLine d a (record a { read = false; machine = m }) (written spoken k.log h.stands.cell h.turns) h refl (of_same h.stands.cell a a.wants false m h.stands.of) same refl counted
+      (wanting_stuck a.wants (noted h.stands.cell.at (Flush (meaning spoken k.log h.stands.cell h.turns).turns (written spoken k.log h.stands.cell h.turns)) k).log h.stands.cell (flushed_at (meaning spoken k.log h.stands.cell h.turns).turns h.stands.cell) (state m) h.stands.asked refl refl (ap (λ (x : MachineState S). x.asks) same ∙ h.asks) (needs_line old k n a m h same)))
 
--- what stands after a request was refused
-pub refused_stands : (old got popped new : KernelState) (d : Desk) (w : Waiting) (outcome : Parsed) (back : SessionState) (n : ℕ) → got ≡ old → popped ≡ with_waits (drop 1 got.waits) got → IsOpened old w outcome (opening.Refused back) → running old.log ≡ None → d.count ≡ count_of old.log → new ≡ noted w.at (Refuse n) popped → Stands new.log (record d { place = Resting back })
-refused_stands old got popped new d w outcome back n g p h idle c e =
-    subst (λ (k : KernelState). Stands k.log (record d { place = Resting back })) (sym (e ∙ ap (noted w.at (Refuse n)) (popped_as old got popped g p)))
-    (record { count = c; place = (idle, (refused_for (session old.log) h.wait.request.code outcome back h.opens).0) })
+  -- a cell that asks
+  asks_at : (k : KernelState T) (r : Running) (d : Desk S M) (b : Active M) → running k.log ≡ Some r → Stands spoken state k (record d { place = Runs b }) → IsWanting (noted r.at Ask k).log wants.Asked (asking r) (state b.machine) → b.read ≡ has_lines r.fresh → Stands spoken state (noted r.at Ask k) (record d { place = Runs (record b { wants = wants.Asked }) })
+  asks_at k r d b runs h w read =
+      let now = asking_runs (running k.log) r runs in
+      let same : h.place.cell ≡ r = some_same h.place.cell r (sym h.place.runs ∙ runs) in
+      let of = subst (λ (q : Running). IsOf q b) same h.place.of in
+      record {
+        count = h.count;
+        place = record {
+          cell = asking r;
+          runs = now;
+          of = record { at = of.at; seat = of.seat; stops = of.stops; allows = of.allows };
+          machine = record {
+            goes = subst (λ (q : Running). (lines : List AsLine) (n : ℕ) → (state b.machine).goes lines n ≡ spoken.cell (session spoken k.log) q.request.code lines n) same h.place.machine.goes;
+            shown = subst (λ (q : Running). (state b.machine).shown ≡ length (stood_in spoken (session spoken k.log) q).output) same h.place.machine.shown;
+            used = h.place.machine.used;
+            on = h.place.machine.on;
+          };
+          turns = h.place.turns;
+          onward = subst (λ (q : Running). q.turns ≤ k.ran) same h.place.onward;
+          lines = h.place.lines ∙ ap (λ (q : Running). q.lines) same;
+        };
+        wants = (asking r, now, read, w);
+      }
+
+  pub asks_stands : (old k mid new : KernelState T) (n : ℕ) (d : Desk S M) (a : Active M) (m : M) → (h : HasCome spoken state old k n turned.NeedsLine a) → mid ≡ written_out spoken turned.NeedsLine h.stands.cell h.turns k → new ≡ noted a.at Ask mid → state m ≡ output_taken (state a.machine) → d.count ≡ count_of old.log → Stands spoken state new (record d { place = Runs (record a { wants = wants.Asked; read = false; machine = m }) })
+  asks_stands old k mid new n d a m h e f same counted =
+      let s = h.stands in
+      let flat = written_out spoken turned.NeedsLine s.cell h.turns k in
+      let b = record a { read = false; machine = m } in
+      subst (λ (k : KernelState T). Stands spoken state k (record d { place = Runs (record b { wants = wants.Asked }) }))
+      (sym (f ∙ ap (λ (at : ℕ). noted at Ask mid) s.of.at ∙ ap (noted s.cell.at Ask) e))
+      (asks_at flat (flushed_at (meaning spoken k.log s.cell h.turns).turns s.cell) d b (flushed_runs (running k.log) s.cell _ s.runs) (stuck_stands old k flat n d a m h refl same counted)
+      (refl, refl, ap (λ (x : MachineState S). x.asks) same ∙ h.asks, needs_line old k n a m h same) refl)
+
+  -- the session after an end
+  ended_session : (log : Log) (r : Running) (t : ℕ) (s : S) → running log ≡ Some r → s ≡ (meaning spoken log r t).session → s ≡ option_or (λ r. (stood_in spoken (session spoken log) r).session) (session spoken log) (option_with (flushed_at t) (running log))
+  ended_session log r t s runs e = rw runs e
+
+  -- a desk at rest, where the last flush was at so many turns
+  abbrev IsAtRest : KernelState T → Desk S M → ℕ → S → Type 0
+  IsAtRest k d t s = (d.count ≡ count_of k.log) × (d.place ≡ Resting s) × (s ≡ option_or (λ r. (stood_in spoken (session spoken k.log) r).session) (session spoken k.log) (option_with (flushed_at t) (running k.log)))
+
+  rests_stands : (k : KernelState T) (d : Desk S M) (s : S) → d.count ≡ count_of k.log → d.place ≡ Resting s → running k.log ≡ None → s ≡ session spoken k.log → Stands spoken state k d
+  rests_stands k d s counted rests idle is = record {
+    count = counted;
+    place = subst (HoldsAt spoken state (session spoken k.log) (running k.log) k.ran) (sym rests) (idle, is);
+    wants = subst (WantsAt state k.log (running k.log)) (sym rests) tt;
+  }
+
+  over_at : (answer : Turned) (read : Bool) (k : KernelState T) (d : Desk S M) (at t n : ℕ) (text : List ℕ) (b : Bool) (s : S) → IsOver answer → IsAtRest k d t s → Stands spoken state (closed answer at b t n (flushed_to answer read at t text k)) d
+  over_at turned.Stopped read k d at t n text b s o h = absurd o
+  over_at turned.NeedsLine read k d at t n text b s o h = absurd o
+  over_at turned.Ended read k d at t n text b s o (counted, rests, is) = rests_stands (noted at (End ending.Completed n) (noted at (Flush t text) k)) d s counted rests refl is
+  over_at (turned.Trapped trap) read k d at t n text b s o (counted, rests, is) =
+      stands_failing b (noted at (End (ending.Trapped trap) n) (noted at (Flush t text) k)) d (rests_stands (noted at (End (ending.Trapped trap) n) (noted at (Flush t text) k)) d s counted rests refl is)
+  over_at turned.NoMemory read k d at t n text b s o (counted, rests, is) =
+      stands_failing b (noted at (Stop t cause.Memory n) (noted at (Flush t text) k)) d (rests_stands (noted at (Stop t cause.Memory n) (noted at (Flush t text) k)) d s counted rests refl is)
+
+  -- a cell that is over
+  pub over_stands : (old k mid new : KernelState T) (n used c : ℕ) (answer : Turned) (d e : Desk S M) (a : Active M) (m : M) → (h : HasCome spoken state old k n answer a) → IsOver answer → used ≡ (state a.machine).turns → c ≡ count_of old.log → mid ≡ written_out spoken answer h.stands.cell h.turns k → new ≡ closed answer a.at a.stops used c mid → state m ≡ output_taken (state a.machine) → d.count ≡ count_of old.log → e.count ≡ d.count → e.place ≡ Resting (here (state m)).session → Stands spoken state new e
+  over_stands old k mid new n used c answer d e a m h over u counted w f same dc ec place =
+      let s = h.stands in
+      let t = (meaning spoken k.log s.cell h.turns).turns in
+      let left : (here (state m)).session ≡ (meaning spoken k.log s.cell t).session = ap (λ (x : MachineState S). (here x).session) same
+      ∙ ap (λ (p : Meaning S). p.session) (stood_at spoken laws state old k n answer a h ∙ sym ((law_of spoken laws state k s.cell).settled h.turns)) in
+      subst (λ (k : KernelState T). Stands spoken state k e) (sym (closed_as old k mid new n used c answer a h u counted w f))
+      (over_at answer _ k e s.cell.at t (count_of k.log) _ s.cell.request.stop_on_error (here (state m)).session over
+      (ec ∙ dc ∙ sym (count_same spoken s.nones n s.first old s.cell k s.without), place, ended_session k.log s.cell t _ s.runs left))
+
+  -- what stopping comes to
+  pub stop_moves : (k one two new : KernelState T) (d : Desk S M) (a : Active M) (turns n : ℕ) (text : List ℕ) (why : Cause) → d.count ≡ count_of k.log → IsRunBy spoken state (session spoken k.log) (running k.log) k.ran a → turns ≡ (state a.machine).turns → text ≡ [] → n ≡ d.count → one ≡ noted a.at (Flush turns text) k → two ≡ noted a.at (Stop turns why n) one → new ≡ failing a.stops two → new ≡ stopped why (running k.log) k
+  stop_moves k one two new d a turns n text why counted h u t c b1 b2 b3 =
+      b3 ∙ ap (failing a.stops) (b2 ∙ ap (λ (k : KernelState T). noted a.at (Stop turns why n) k) b1)
+      ∙ stop_same a.at h.cell.at turns k.ran why n _ a.stops h.cell.request.stop_on_error text k h.of.at (u ∙ h.turns) (c ∙ counted) h.of.stops t
+      ∙ ap (λ (o : Option Running). stopped why o k) (sym h.runs)
+
+  pub stop_stands : (k new : KernelState T) (d : Desk S M) (a : Active M) (s : S) (why : Cause) → d.count ≡ count_of k.log → IsRunBy spoken state (session spoken k.log) (running k.log) k.ran a → ((r : Running) → running k.log ≡ Some r → r.fresh ≡ []) → new ≡ stopped why (running k.log) k → s ≡ (here (state a.machine)).session → Stands spoken state new (record d { place = Resting s })
+  stop_stands k new d a s why counted h read e f =
+      let r = h.cell in
+      let fresh = read r h.runs in
+      let told : s ≡ (meaning spoken k.log r k.ran).session = f ∙ ap (λ (p : Meaning S). p.session) (h.machine.goes (state a.machine).lines (state a.machine).turns
+      ∙ ap (λ (ls : List AsLine). spoken.cell (session spoken k.log) r.request.code ls (state a.machine).turns) (h.lines ∙ sym (ap (λ (fresh : List AsLine). r.lines ++ fresh) fresh ∙ append-nil r.lines))
+      ∙ ap (meaning spoken k.log r) h.turns) in
+      stands_fails r.request.stop_on_error (noted r.at (Stop k.ran why (count_of k.log)) (noted r.at (Flush k.ran []) k)) new (record d { place = Resting s })
+      (e ∙ ap (λ (o : Option Running). stopped why o k) h.runs)
+      (record { count = counted; place = (refl, ended_session k.log r k.ran s h.runs told); wants = tt })
+
+  pub first_wait : (log : Log) (ws : List (Waiting T)) (w : Waiting T) → AllWait spoken log ws → Some w ≡ first_of ws → IsWaiting spoken log w
+  first_wait log [] w all e = none_first w _ e
+    where
+      none_first : (w : Waiting T) (P : Type 0) → Some w ≡ None → P
+      none_first w P e = cc
+  first_wait log (v ∷ ws) w all e = subst (IsWaiting spoken log) (sym (some_same w v e)) all.0
+
+  -- the machine of a cell that was begun
+  pub begin_runs : (turns : ℕ) (k mid : KernelState T) (at n : ℕ) (a : Active M) (b : (e : Execute) × (execute_at at k.log ≡ Some e) × IsFresh spoken (session spoken k.log) e.code (state a.machine)) → a.at ≡ at → a.seat ≡ seat_at at k.log → a.stops ≡ stops_at at k.log → a.allows ≡ allows_at at k.log → a.wants ≡ wants.Nothing → a.read ≡ false → mid ≡ noted at (Begin n) k → IsAtWork spoken state mid mid (limit turns mid) a
+  begin_runs turns k mid at n a (e, there, f) is_at is_seat stops allows w read b =
+      let r = opened at (seat_at at k.log) e in
+      let law = laws.lawful (session spoken k.log) e.code [] in
+      let few = law.few 0 in
+      let mine = f.turns in
+      subst (λ (k : KernelState T). IsAtWork spoken state k k (limit turns k) a) (sym b) (record {
+        stands = record {
+          first = r;
+          began = ap (option_with (opened at (seat_at at k.log))) there;
+          nones = 0;
+          cell = r;
+          without = (refl, refl);
+          runs = ap (option_with (opened at (seat_at at k.log))) there;
+          of = record { at = is_at; seat = is_seat; stops = stops ∙ stops_same (execute_at at k.log) e there; allows = allows ∙ allows_same (execute_at at k.log) e there };
+          goes = f.goes;
+          lines = f.lines;
+          shown = f.shown ∙ sym (ap (λ (text : List ℕ). length text) law.silent);
+          used = ap (λ (ls : List AsLine). ((state a.machine).goes ls (state a.machine).turns).turns) f.lines ∙ ap (λ (j : ℕ). ((state a.machine).goes [] j).turns) f.turns
+              ∙ ap (λ (p : Meaning S). p.turns) (f.goes [] 0) ∙ omega (arith, few, mine);
+          behind = omega arith;
+          onward = omega arith;
+          within = omega (arith, mine);
+          read = read;
+          asked = subst (λ (w : Wants). HasAsked w r) (sym w) refl;
+          left = λ e. absurd (was_not e);
+        };
+        on = f.on;
+      })
+    where
+      was_not : false ≡ true → ⊥
+      was_not e = cc
+      allows_same : (o : Option Execute) (e : Execute) → o ≡ Some e → option_or (λ (e : Execute). e.allow_stdin) false o ≡ e.allow_stdin
+      allows_same o e there = rw there refl
+
+  refused_session : (s : S) (at seat : ℕ) (o : Option Execute) (refusal : Refusal) (e : Execute) → o ≡ Some e → spoken.IsRefusedFor s e.code refusal → s ≡ option_or (λ r. (stood_in spoken s r).session) s (option_with (flushed_at 0) (option_with (opened at seat) o))
+  refused_session s at seat o refusal e there wrong = rw there (sym (ap (λ (m : Meaning S). m.session) (laws.stands s e.code refusal wrong [] 0)))
+
+  pub broken_stands : (k new : KernelState T) (d : Desk S M) (at n : ℕ) (s : S) (refusal : Refusal) → IsBrokenAt spoken at refusal k.log → n ≡ next_count at k.log → s ≡ session spoken k.log → new ≡ broken at refusal k → Stands spoken state new (record d { count = n; place = Resting s })
+  broken_stands k new d at n s refusal wrong c e b =
+      stands_fails (stops_at at k.log) (noted at (End (ending.Refused refusal) (next_count at k.log)) (noted at (Flush 0 []) (begun at k))) new (record d { count = n; place = Resting s }) b
+      (record { count = c; place = (refl, e ∙ refused_session (session spoken k.log) at (seat_at at k.log) (execute_at at k.log) refusal wrong.request wrong.there wrong.breaks); wants = tt })
+
+  -- the first that waits, what came of reading it, and what comes of that
+  pub record IsOpened (k : KernelState T) (w : Waiting T) (outcome : Parsed T) (o : Opening S M) : Type 0 where
+    pub wait : IsWaiting spoken k.log w
+    pub opens : Opens spoken state (session spoken k.log) wait.request.code outcome o
+
+  pub is_opened : (old got : KernelState T) (w : Waiting T) (outcome : Parsed T) (s : S) (o : Opening S M) → IsKept spoken old → s ≡ session spoken old.log → got ≡ old → Some w ≡ first_of got.waits → w.result ≡ Some outcome → ((text : List ℕ) → IsResult spoken text outcome → Opens spoken state s text outcome o) → IsOpened old w outcome o
+  is_opened old got w outcome s o kept e g f r opens =
+      let wait = first_wait old.log old.waits w kept.going.wait (subst (λ (k : KernelState T). Some w ≡ first_of k.waits) g f) in
+      let right : IsResult spoken wait.request.code outcome = subst (IsResultOf spoken wait.request.code) r wait.result in
+      record { wait = wait; opens = subst (λ (s : S). Opens spoken state s wait.request.code outcome o) e (opens wait.request.code right) }
+
+  breaks_for : (s : S) (text : List ℕ) (outcome : Parsed T) (back : S) (refusal : Refusal) → Opens spoken state s text outcome (opening.Broken back refusal) → (back ≡ s) × spoken.IsRefusedFor s text refusal
+  breaks_for s text parsed.Memory back refusal h = absurd h
+  breaks_for s text (parsed.Fault found) back refusal h = (h.0, h.2)
+  breaks_for s text (parsed.Tree tree) back refusal h = h
+
+  pub is_broken : (k : KernelState T) (w : Waiting T) (outcome : Parsed T) (back : S) (refusal : Refusal) → IsOpened k w outcome (opening.Broken back refusal) → IsBrokenAt spoken w.at refusal k.log
+  is_broken k w outcome back refusal h = record {
+    request = h.wait.request;
+    there = h.wait.there;
+    breaks = (breaks_for (session spoken k.log) h.wait.request.code outcome back refusal h.opens).1;
+  }
+
+  pub broken_back : (k : KernelState T) (w : Waiting T) (outcome : Parsed T) (back : S) (refusal : Refusal) → IsOpened k w outcome (opening.Broken back refusal) → back ≡ session spoken k.log
+  broken_back k w outcome back refusal h = (breaks_for (session spoken k.log) h.wait.request.code outcome back refusal h.opens).0
+
+  fresh_for : (s : S) (text : List ℕ) (outcome : Parsed T) (m : M) → Opens spoken state s text outcome (opening.Runs m) → IsFresh spoken s text (state m)
+  fresh_for s text parsed.Memory m h = absurd h
+  fresh_for s text (parsed.Fault found) m h = absurd h
+  fresh_for s text (parsed.Tree tree) m h = h
+
+  pub is_fresh : (k : KernelState T) (w : Waiting T) (outcome : Parsed T) (m : M) → IsOpened k w outcome (opening.Runs m) → (e : Execute) × (execute_at w.at k.log ≡ Some e) × IsFresh spoken (session spoken k.log) e.code (state m)
+  is_fresh k w outcome m h = (h.wait.request, h.wait.there, fresh_for (session spoken k.log) h.wait.request.code outcome m h.opens)
+
+  refused_for : (s : S) (text : List ℕ) (outcome : Parsed T) (back : S) → Opens spoken state s text outcome (opening.Refused back) → (back ≡ s) × (outcome ≡ parsed.Memory)
+  refused_for s text parsed.Memory back h = (h, refl)
+  refused_for s text (parsed.Fault found) back h = absurd h
+  refused_for s text (parsed.Tree tree) back h = absurd h
+
+  first_from : (turns : ℕ) (all : List (Waiting T)) (w : Waiting T) (o : Option (Parsed T)) (k : KernelState T) (does : Work) (new : KernelState T) → Some w ≡ first_of all → w.result ≡ o → Starts spoken turns w.at o (with_waits (drop 1 all) k) does new → StartsFirst spoken turns all k does new
+  first_from turns [] w o k does new e r s = none_first w _ e
+    where
+      none_first : (w : Waiting T) (P : Type 0) → Some w ≡ None → P
+      none_first w P e = cc
+  first_from turns (v ∷ ws) w o k does new e r s =
+      subst (λ (v : Waiting T). Starts spoken turns v.at v.result (with_waits ws k) does new) (some_same w v e)
+      (subst (λ (o : Option (Parsed T)). Starts spoken turns w.at o (with_waits ws k) does new) (sym r) s)
+
+  starts_popped : (turns : ℕ) (old got popped : KernelState T) (does : Work) (new : KernelState T) (w : Waiting T) (outcome : Parsed T) → got ≡ old → Some w ≡ first_of got.waits → popped ≡ with_waits (drop 1 got.waits) got → w.result ≡ Some outcome → Starts spoken turns w.at (Some outcome) popped does new → StartsFirst spoken turns old.waits old does new
+  starts_popped turns old got popped does new w outcome g f p r s =
+      first_from turns old.waits w (Some outcome) old does new (subst (λ (k : KernelState T). Some w ≡ first_of k.waits) g f) r
+      (subst (λ (k : KernelState T). Starts spoken turns w.at (Some outcome) k does new) (popped_as old got popped g p) s)
+
+  broken_starts : (turns at : ℕ) (s : S) (text : List ℕ) (outcome : Parsed T) (back : S) (refusal : Refusal) (k new : KernelState T) → Opens spoken state s text outcome (opening.Broken back refusal) → IsBrokenAt spoken at refusal k.log → new ≡ broken at refusal k → Starts spoken turns at (Some outcome) k work.Ran new
+  broken_starts turns at s text parsed.Memory back refusal k new h wrong e = absurd h
+  broken_starts turns at s text (parsed.Fault found) back refusal k new h wrong e = (refl, e ∙ ap (λ (f : Refusal). broken at f k) h.1)
+  broken_starts turns at s text (parsed.Tree tree) back refusal k new h wrong e = inr (refusal, wrong, refl, e)
+
+  pub first_broken : (turns : ℕ) (old got popped new : KernelState T) (w : Waiting T) (outcome : Parsed T) (back : S) (refusal : Refusal) → got ≡ old → Some w ≡ first_of got.waits → popped ≡ with_waits (drop 1 got.waits) got → w.result ≡ Some outcome → IsOpened old w outcome (opening.Broken back refusal) → new ≡ broken w.at refusal popped → StartsFirst spoken turns old.waits old work.Ran new
+  first_broken turns old got popped new w outcome back refusal g f p r h e =
+      starts_popped turns old got popped work.Ran new w outcome g f p r
+      (broken_starts turns w.at (session spoken old.log) h.wait.request.code outcome back refusal popped new h.opens
+      (subst (IsBrokenAt spoken w.at refusal) (same_log old got popped g p) (is_broken old w outcome back refusal h)) e)
+
+  begins_starts : (turns at : ℕ) (s : S) (text : List ℕ) (outcome : Parsed T) (m : M) (k : KernelState T) (does : Work) (new : KernelState T) → Opens spoken state s text outcome (opening.Runs m) → BeginsAt spoken turns at k does new → Starts spoken turns at (Some outcome) k does new
+  begins_starts turns at s text parsed.Memory m k does new h e = absurd h
+  begins_starts turns at s text (parsed.Fault found) m k does new h e = absurd h
+  begins_starts turns at s text (parsed.Tree tree) m k does new h e = inl e
+
+  pub first_begins : (turns : ℕ) (old got popped : KernelState T) (does : Work) (new : KernelState T) (w : Waiting T) (outcome : Parsed T) (m : M) → got ≡ old → Some w ≡ first_of got.waits → popped ≡ with_waits (drop 1 got.waits) got → w.result ≡ Some outcome → IsOpened old w outcome (opening.Runs m) → BeginsAt spoken turns w.at popped does new → StartsFirst spoken turns old.waits old does new
+  first_begins turns old got popped does new w outcome m g f p r h e =
+      starts_popped turns old got popped does new w outcome g f p r (begins_starts turns w.at (session spoken old.log) h.wait.request.code outcome m popped does new h.opens e)
+
+  refused_starts : (turns at n : ℕ) (outcome : Parsed T) (k new : KernelState T) → outcome ≡ parsed.Memory → n ≡ count_of k.log → new ≡ noted at (Refuse n) k → Starts spoken turns at (Some outcome) k work.Ran new
+  refused_starts turns at n outcome k new o c e =
+      subst (λ (p : Parsed T). Starts spoken turns at (Some p) k work.Ran new) (sym o) (refl, e ∙ ap (λ (x : ℕ). noted at (Refuse x) k) c)
+
+  pub first_refused : (turns : ℕ) (old got popped new : KernelState T) (w : Waiting T) (outcome : Parsed T) (back : S) (n : ℕ) → got ≡ old → Some w ≡ first_of got.waits → popped ≡ with_waits (drop 1 got.waits) got → w.result ≡ Some outcome → IsOpened old w outcome (opening.Refused back) → n ≡ count_of old.log → new ≡ noted w.at (Refuse n) popped → StartsFirst spoken turns old.waits old work.Ran new
+  first_refused turns old got popped new w outcome back n g f p r h c e =
+      starts_popped turns old got popped work.Ran new w outcome g f p r
+      (refused_starts turns w.at n outcome popped new (refused_for (session spoken old.log) h.wait.request.code outcome back h.opens).1 (c ∙ ap count_of (same_log old got popped g p)) e)
+
+  -- what stands after a request was refused
+  pub refused_stands : (old got popped new : KernelState T) (d : Desk S M) (w : Waiting T) (outcome : Parsed T) (back : S) (n : ℕ) → got ≡ old → popped ≡ with_waits (drop 1 got.waits) got → IsOpened old w outcome (opening.Refused back) → running old.log ≡ None → d.count ≡ count_of old.log → new ≡ noted w.at (Refuse n) popped → Stands spoken state new (record d { place = Resting back })
+  refused_stands old got popped new d w outcome back n g p h idle c e =
+      subst (λ (k : KernelState T). Stands spoken state k (record d { place = Resting back })) (sym (e ∙ ap (noted w.at (Refuse n)) (popped_as old got popped g p)))
+      (record { count = c; place = (idle, (refused_for (session spoken old.log) h.wait.request.code outcome back h.opens).0); wants = tt })

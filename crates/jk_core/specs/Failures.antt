@@ -1,51 +1,29 @@
 -- The name and the value of an error.
 use Rattle.std.specs.Prelude.{ℕ, List, [], ◌++◌, codes, decimal, flat_map}
 use Rattle.std.specs.Char.{encode_utf8}
-use Rattle.ob_base.specs.declared.fault.Fault.{Fault}
-use Rattle.ob_base.specs.declared.fault.Code.{Code}
-use Rattle.ob_base.specs.declared.fault.Code.TheVariants as code
-use Rattle.ob_cell.specs.declared.outcome.LinkFault.{LinkFault}
-use Rattle.ob_cell.specs.declared.outcome.LinkFault.TheVariants.{NotLoaded, NoCommand}
-use Rattle.ob_cell.specs.declared.outcome.Refusal.{Refusal}
-use Rattle.ob_cell.specs.declared.outcome.Refusal.TheVariants.{Compile, Link}
-use Rattle.ob_cell.specs.declared.outcome.Trap.{Trap}
-use Rattle.ob_cell.specs.Parts.{trap_number}
+use Rattle.jk_language.specs.declared.outcome.Fault.{Fault}
+use Rattle.jk_language.specs.declared.outcome.LinkFault.{LinkFault}
+use Rattle.jk_language.specs.declared.outcome.LinkFault.TheVariants.{NotLoaded, NoCommand, OtherKey}
+use Rattle.jk_language.specs.declared.outcome.Refusal.{Refusal}
+use Rattle.jk_language.specs.declared.outcome.Refusal.TheVariants.{Compile, Link}
+use Rattle.jk_language.specs.declared.outcome.Trap.{Trap}
 use Rattle.jp_msg.specs.declared.message.Failure.{Failure}
 use Rattle.jk_core.specs.declared.mark.Cause.{Cause}
 use Rattle.jk_core.specs.declared.mark.Cause.TheVariants.{Memory, Interrupted}
 
-unfoldable pub code_number : Code → ℕ
-code_number code.Character = 1
-code_number code.Comment = 2
-code_number code.String = 3
-code_number code.Number = 4
-code_number code.Token = 5
-code_number code.Nesting = 6
-code_number code.EndName = 7
-code_number code.UnknownName = 10
-code_number code.DeclaredTwice = 11
-code_number code.Types = 12
-code_number code.ReadOnly = 13
-code_number code.Parameters = 14
-code_number code.NotConstant = 15
-code_number code.NotLoaded = 16
-code_number code.ImportsItself = 17
-code_number code.NotExported = 18
-code_number code.Label = 19
-code_number code.Size = 20
-code_number code.LeftOut = 21
-
--- a refusal by compiling: its code, line and column
+-- a refusal by compiling: its number, line and column
 unfoldable pub compile_failure : Fault → Failure
 compile_failure fault = record {
   ename = codes "CompileError";
-  evalue = codes "compile error " ++ decimal (code_number fault.code) ++ codes " at " ++ decimal fault.line ++ codes ":" ++ decimal fault.column;
+  evalue = codes "compile error " ++ decimal fault.number ++ codes " at " ++ decimal fault.line ++ codes ":" ++ decimal fault.column;
 }
 
--- commands that can't be called: 30 and the module that is not loaded, or 31 and the command that its module does not have
+-- 30 and the module that is not loaded, 31 and the command that its module does not have, or 32 and the module that is not
+-- loaded with the key that was recorded for it
 unfoldable pub link_value : LinkFault → List ℕ
 link_value (NotLoaded home) = codes "link error 30: " ++ flat_map encode_utf8 home
 link_value (NoCommand home name) = codes "link error 31: " ++ flat_map encode_utf8 home ++ codes "." ++ flat_map encode_utf8 name
+link_value (OtherKey home) = codes "link error 32: " ++ flat_map encode_utf8 home
 
 abbrev pub link_failure : LinkFault → Failure
 link_failure fault = record { ename = codes "LinkError"; evalue = link_value fault }
@@ -58,7 +36,7 @@ refusal_failure (Link fault) = link_failure fault
 unfoldable pub trap_failure : Trap → Failure
 trap_failure trap = record {
   ename = codes "Trap";
-  evalue = codes "trap " ++ decimal (trap_number trap.kind) ++ codes " in " ++ flat_map encode_utf8 trap.«module» ++ codes ", line " ++ decimal trap.line;
+  evalue = codes "trap " ++ decimal trap.number ++ codes " in " ++ flat_map encode_utf8 trap.«module» ++ codes ", line " ++ decimal trap.line;
 }
 
 -- a stop

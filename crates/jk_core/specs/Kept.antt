@@ -1,95 +1,176 @@
 -- What a kernel keeps true.
-use Rattle.std.specs.Prelude.{◌≡◌, false, ℕ, ◌≤◌, IsTrue, is_some, List, [], ◌∷◌, length, map, Option, None, Some}
-use Rattle.ob_cell.specs.Parts.{SessionState}
-use Rattle.ob_cell.specs.declared.outcome.Refusal.TheVariants.{Compile}
-use Rattle.ob_cell.specs.Cell.{cell, IsRefusedFor}
-use Rattle.ob_cell.specs.MachineState.{MachineState}
-use Rattle.ob_cell.specs.Runs.{meaning_of}
+use Rattle.std.specs.Prelude.{◌⊎◌, ◌≡◌, Bool, true, false, not, ◌&&◌, ℕ, ◌≤◌, IsTrue, is_some, List, [], ◌∷◌, ◌++◌, length, map, Option, None, Some}
+use Rattle.jk_language.specs.declared.outcome.Refusal.TheVariants.{Compile}
+use Rattle.jk_core.specs.declared.mark.Kind.TheVariants.{Line}
+use Rattle.jk_language.specs.Parts.{Line as AsLine}
+use Rattle.jk_language.specs.Spoken.{Spoken}
+use Rattle.jk_language.specs.MachineState.{MachineState, here}
+use Rattle.jk_language.specs.Beginning.{IsFresh}
 use Rattle.jp_msg.specs.declared.message.Execute.{Execute}
 use Rattle.jk_core.specs.declared.job.Parsed.{Parsed}
 use Rattle.jk_core.specs.declared.job.Parsed.TheVariants as parsed
 use Rattle.jk_core.specs.declared.script.Waiting.{Waiting}
-use Rattle.jk_core.specs.declared.run.Active.{Active}
-use Rattle.jk_core.specs.declared.run.Place.{Place}
-use Rattle.jk_core.specs.declared.run.Place.TheVariants.{Resting, Running as Runs}
-use Rattle.jk_core.specs.declared.run.Desk.{Desk}
-use Rattle.jk_core.specs.declared.run.Opening.{Opening}
-use Rattle.jk_core.specs.declared.run.Opening.TheVariants as opening
+use Rattle.jk_core.specs.declared.desk.Active.{Active}
+use Rattle.jk_core.specs.declared.desk.Wants.{Wants}
+use Rattle.jk_core.specs.declared.desk.Wants.TheVariants.{Nothing, Asked, Given}
+use Rattle.jk_core.specs.declared.mark.Cause.TheVariants.{Interrupted}
+use Rattle.jk_core.specs.declared.desk.Place.{Place}
+use Rattle.jk_core.specs.declared.desk.Place.TheVariants.{Resting, Running as Runs}
+use Rattle.jk_core.specs.declared.desk.Desk.{Desk}
+use Rattle.jk_core.specs.declared.start.Opening.{Opening}
+use Rattle.jk_core.specs.declared.start.Opening.TheVariants as opening
 use Rattle.jk_core.specs.Results.{IsResult}
-use Rattle.jk_core.specs.Log.{Log, Running, running, waiting, session, meaning, count, execute_at}
-use Rattle.jk_core.specs.Legal.{EachFollows, Due, owed, IsStopped}
+use Rattle.jk_core.specs.Log.{Log, Running, running, waiting, session, shown_in, stood_in, nones, left, count, execute_at, input_at}
+use Rattle.jk_core.specs.Legal.{EachFollows, Due, owed, StopsFor}
 use Rattle.jk_core.specs.State.{KernelState}
+use Rattle.jk_core.specs.Steps.{has_lines, noted, StartsFirst}
+use Rattle.jk_core.specs.declared.kernel.Work.{Work}
+use Rattle.jk_core.specs.declared.kernel.Work.TheVariants.{NoMemory}
+use Rattle.jk_language.specs.declared.outcome.Outcome.TheVariants as outcome
 
-abbrev pub IsResultOf : List ℕ → Option Parsed → Type 0
-IsResultOf text None = Unit {0}
-IsResultOf text (Some outcome) = IsResult text outcome
+abbrev pub IsResultOf : {S T : Type 0} → Spoken S T → List ℕ → Option (Parsed T) → Type 0
+IsResultOf spoken text None = Unit {0}
+IsResultOf spoken text (Some outcome) = IsResult spoken text outcome
 
 -- the place has an execute request, and the result is one of its code
-pub record IsWaiting (log : Log) (w : Waiting) : Type 0 where
+pub record IsWaiting {S T : Type 0} (spoken : Spoken S T) (log : Log) (w : Waiting T) : Type 0 where
   pub request : Execute
   pub there : execute_at w.at log ≡ Some request
-  pub result : IsResultOf request.code w.result
+  pub result : IsResultOf spoken request.code w.result
 
-abbrev pub AllWait : Log → List Waiting → Type 0
-AllWait log [] = Unit {0}
-AllWait log (w ∷ ws) = IsWaiting log w × AllWait log ws
+abbrev pub AllWait : {S T : Type 0} → Spoken S T → Log → List (Waiting T) → Type 0
+AllWait spoken log [] = Unit {0}
+AllWait spoken log (w ∷ ws) = IsWaiting spoken log w × AllWait spoken log ws
+
+-- A cell has come to so many turns with the lines before its last flush, and has written nothing since.
+pub record IsStanding {S T : Type 0} (spoken : Spoken S T) (session : S) (r : Running) (ran : ℕ) : Type 0 where
+  pub onward : r.turns ≤ ran
+  pub used : (shown_in spoken session r ran).turns ≡ ran
+  pub silent : (shown_in spoken session r ran).output ≡ (stood_in spoken session r).output
 
 -- what stands between two marks, while these marks are owed
-pub record IsGoing (dues : List Due) (k : KernelState) : Type 0 where
-  pub each : EachFollows k.log
+pub record IsGoing {S T : Type 0} (spoken : Spoken S T) (dues : List Due) (k : KernelState T) : Type 0 where
+  pub each : EachFollows spoken k.log
   pub owes : owed k.log ≡ dues
   pub places : map (λ w. w.at) k.waits ≡ waiting k.log
-  pub wait : AllWait k.log k.waits
-  -- the cell that runs stands at the turns of its last flush
-  pub stands : (r : Running) → running k.log ≡ Some r → (meaning k.log r r.turns).turns ≡ r.turns
+  pub wait : AllWait spoken k.log k.waits
+  pub stands : (r : Running) → running k.log ≡ Some r → IsStanding spoken (session spoken k.log) r k.ran
   pub few : count k.log ≤ length k.log
 
+-- a cell that can go on, or be stopped where it stands
+pub record IsHeld {S T : Type 0} (spoken : Spoken S T) (session : S) (r : Running) (ran : ℕ) : Type 0 where
+  pub rests : StopsFor Interrupted (shown_in spoken session r ran).outcome
+  -- a line that it did not read is a text
+  pub texts : nones r.fresh ≡ []
+
 -- what stands between two calls: nothing is owed, and the cell that runs can go on
-pub record IsKept (k : KernelState) : Type 0 where
-  pub going : IsGoing [] k
-  pub goes : (r : Running) → running k.log ≡ Some r → IsStopped (meaning k.log r r.turns).outcome
+pub record IsKept {S T : Type 0} (spoken : Spoken S T) (k : KernelState T) : Type 0 where
+  pub going : IsGoing spoken [] k
+  pub goes : (r : Running) → running k.log ≡ Some r → IsHeld spoken (session spoken k.log) r k.ran
 
--- the machine is that of the cell that runs
-pub record IsRunBy (log : Log) (active : Active) : Type 0 where
+-- the machine is that of this cell, whose output it gave up to the last flush
+pub record IsMachineOf {S T : Type 0} (spoken : Spoken S T) (session : S) (r : Running) (m : MachineState S) : Type 0 where
+  pub goes : (lines : List AsLine) (n : ℕ) → m.goes lines n ≡ spoken.cell session r.request.code lines n
+  pub shown : m.shown ≡ length (stood_in spoken session r).output
+  pub used : (m.goes m.lines m.turns).turns ≡ m.turns
+  pub on : m.over ≡ false
+
+-- what is kept of the request is what the request says
+pub record IsOf {M : Type 0} (r : Running) (active : Active M) : Type 0 where
+  pub at : active.at ≡ r.at
+  pub seat : active.seat ≡ r.seat
+  pub stops : active.stops ≡ r.request.stop_on_error
+  pub allows : active.allows ≡ r.request.allow_stdin
+
+-- how the cell stands to its lines: a text that was given is that of an arrival, and the machine was not given it
+abbrev pub IsWanting : {S : Type 0} → Log → Wants → Running → MachineState S → Type 0
+IsWanting log Nothing r m = (r.asked ≡ false) × (r.fresh ≡ [])
+IsWanting log Asked r m = (r.asked ≡ true) × (r.fresh ≡ []) × (m.asks ≡ true) × ((here m).outcome ≡ outcome.NeedsLine)
+IsWanting log (Given place) r m =
+    (r.asked ≡ false) × (m.asks ≡ true) × (text : List ℕ) × (input_at place log ≡ Some text) × (r.fresh ≡ Some text ∷ [])
+
+-- between two calls the machine is that of the cell that runs
+pub record IsRunBy {S T M : Type 0} (spoken : Spoken S T) (state : M → MachineState S) (session : S) (o : Option Running) (ran : ℕ) (active : Active M) : Type 0 where
   pub cell : Running
-  pub runs : running log ≡ Some cell
-  pub at : active.at ≡ cell.at
-  pub turns : active.machine.turns ≡ cell.turns
-  pub shown : active.machine.shown ≡ cell.turns
-  pub on : active.machine.over ≡ false
-  pub goes : (n : ℕ) → meaning_of active.machine n ≡ meaning log cell n
-  pub stops : active.stops ≡ cell.request.stop_on_error
+  pub runs : o ≡ Some cell
+  pub of : IsOf cell active
+  pub machine : IsMachineOf spoken session cell (state active.machine)
+  pub turns : (state active.machine).turns ≡ ran
+  pub onward : cell.turns ≤ ran
+  pub lines : (state active.machine).lines ≡ cell.lines
 
-abbrev pub StandsAt : Log → Place → Type 0
-StandsAt log (Resting s) = (running log ≡ None) × (s ≡ session log)
-StandsAt log (Runs active) = IsRunBy log active
+-- what runs, or the session at rest
+abbrev pub HoldsAt : {S T M : Type 0} → Spoken S T → (M → MachineState S) → S → Option Running → ℕ → Place S M → Type 0
+HoldsAt spoken state session o ran (Resting s) = (o ≡ None) × (s ≡ session)
+HoldsAt spoken state session o ran (Runs active) = IsRunBy spoken state session o ran active
 
--- what stands beside the script is what the log answers
-pub record Stands (log : Log) (desk : Desk) : Type 0 where
-  pub count : desk.count ≡ count log
-  pub place : StandsAt log desk.place
+-- how the cell that runs stands to its lines
+abbrev pub WantsAt : {S M : Type 0} → (M → MachineState S) → Log → Option Running → Place S M → Type 0
+WantsAt state log o (Resting s) = Unit {0}
+WantsAt state log o (Runs active) =
+    (r : Running) × (o ≡ Some r) × (active.read ≡ has_lines r.fresh) × IsWanting log active.wants r (state active.machine)
+
+-- what stands beside the script is what the kernel's state answers
+pub record Stands {S T M : Type 0} (spoken : Spoken S T) (state : M → MachineState S) (k : KernelState T) (desk : Desk S M) : Type 0 where
+  pub count : desk.count ≡ count k.log
+  pub place : HoldsAt spoken state (session spoken k.log) (running k.log) k.ran desk.place
+  pub wants : WantsAt state k.log (running k.log) desk.place
+
+-- the cell that runs, with its machine
+pub record RunsBy {S T M : Type 0} (spoken : Spoken S T) (state : M → MachineState S) (k : KernelState T) (active : Active M) : Type 0 where
+  pub runs : IsRunBy spoken state (session spoken k.log) (running k.log) k.ran active
+  pub wants : WantsAt state k.log (running k.log) (Runs active)
+
+-- what runs can be stopped where it stands, or a session is at rest
+pub record CanStop {S T M : Type 0} (spoken : Spoken S T) (state : M → MachineState S) (k : KernelState T) (desk : Desk S M) : Type 0 where
+  pub count : desk.count ≡ count k.log
+  pub place : HoldsAt spoken state (session spoken k.log) (running k.log) k.ran desk.place
+  pub read : (r : Running) → running k.log ≡ Some r → r.fresh ≡ []
+
+-- the line for the cell that asks, if one does
+abbrev pub line_to : Option (List ℕ) → Option ℕ → Option (List ℕ)
+line_to None asker = None
+line_to (Some text) None = None
+line_to (Some text) (Some at) = Some text
+
+-- what arrived at a place is a line for the cell that runs and asks
+abbrev pub IsLineFor : Log → ℕ → Option (List ℕ) → Type 0
+IsLineFor log place None = Unit {0}
+IsLineFor log place (Some text) = (r : Running) × (running log ≡ Some r) × (r.asked ≡ true) × (input_at place log ≡ Some text)
+
+-- the line is marked for the cell that runs
+abbrev pub lined_up : {T : Type 0} → Option (List ℕ) → Option Running → KernelState T → KernelState T
+lined_up None o k = k
+lined_up (Some text) None k = k
+lined_up (Some text) (Some r) k = noted r.at (Line (Some text)) k
+
+abbrev pub has_asked : Wants → Bool
+has_asked Nothing = false
+has_asked Asked = true
+has_asked (Given place) = false
+
+-- whether a cell waits for the line that it asked for
+abbrev pub is_asking : {M : Type 0} → Active M → Log → Bool
+is_asking active log = has_asked active.wants && not (left active.seat active.at log)
+
+-- the first that waits starts, or nothing changes for want of memory
+abbrev pub StartsOr : {S T : Type 0} → Spoken S T → ℕ → KernelState T → Work → KernelState T → Type 0
+StartsOr spoken turns old work new = ((work ≡ NoMemory) × (new ≡ old)) ⊎ StartsFirst spoken turns old.waits old work new
 
 -- the first that waits has its result
-abbrev pub FirstRead : List Waiting → Type 0
+abbrev pub FirstRead : {T : Type 0} → List (Waiting T) → Type 0
 FirstRead [] = ⊥
 FirstRead (w ∷ ws) = IsTrue (is_some w.result)
 
--- a machine that was begun for this text in this session
-pub record IsFresh (session : SessionState) (text : List ℕ) (m : MachineState) : Type 0 where
-  pub turns : m.turns ≡ 0
-  pub shown : m.shown ≡ 0
-  pub on : m.over ≡ false
-  pub goes : (n : ℕ) → meaning_of m n ≡ cell session text [] n
-
 -- what comes of a request for this text, by its result
-abbrev pub Opens : SessionState → List ℕ → Parsed → Opening → Type 0
-Opens session text parsed.Memory (opening.Refused back) = back ≡ session
-Opens session text parsed.Memory (opening.Broken back refusal) = ⊥
-Opens session text parsed.Memory (opening.Runs m) = ⊥
-Opens session text (parsed.Fault found) (opening.Refused back) = ⊥
-Opens session text (parsed.Fault found) (opening.Broken back refusal) =
-    (back ≡ session) × (refusal ≡ Compile found) × IsRefusedFor session text refusal
-Opens session text (parsed.Fault found) (opening.Runs m) = ⊥
-Opens session text (parsed.Tree tree) (opening.Refused back) = ⊥
-Opens session text (parsed.Tree tree) (opening.Broken back refusal) = (back ≡ session) × IsRefusedFor session text refusal
-Opens session text (parsed.Tree tree) (opening.Runs m) = IsFresh session text m
+abbrev pub Opens : {S T M : Type 0} → Spoken S T → (M → MachineState S) → S → List ℕ → Parsed T → Opening S M → Type 0
+Opens spoken state session text parsed.Memory (opening.Refused back) = back ≡ session
+Opens spoken state session text parsed.Memory (opening.Broken back refusal) = ⊥
+Opens spoken state session text parsed.Memory (opening.Runs m) = ⊥
+Opens spoken state session text (parsed.Fault found) (opening.Refused back) = ⊥
+Opens spoken state session text (parsed.Fault found) (opening.Broken back refusal) =
+    (back ≡ session) × (refusal ≡ Compile found) × spoken.IsRefusedFor session text refusal
+Opens spoken state session text (parsed.Fault found) (opening.Runs m) = ⊥
+Opens spoken state session text (parsed.Tree tree) (opening.Refused back) = ⊥
+Opens spoken state session text (parsed.Tree tree) (opening.Broken back refusal) = (back ≡ session) × spoken.IsRefusedFor session text refusal
+Opens spoken state session text (parsed.Tree tree) (opening.Runs m) = IsFresh spoken session text (state m)

@@ -1,48 +1,59 @@
 -- Which logs are legal: for each place, what stands there may follow the part before it.
-use Rattle.std.specs.Prelude.{◌≡◌, ℕ, ◌≤◌, List, [], ◌∷◌, ◌++◌, length, drop, map, Option, None, Some, slice_get, if◌then◌else◌}
-use Rattle.ob_cell.specs.declared.outcome.Outcome.{Outcome}
-use Rattle.ob_cell.specs.declared.outcome.Outcome.TheVariants as outcome
-use Rattle.ob_cell.specs.Parts.{SessionState}
-use Rattle.ob_cell.specs.Cell.{IsRefusedFor, refused_outcome}
-use Rattle.ob_cell.specs.declared.outcome.Turned.TheVariants as turned
-use Rattle.ob_cell.specs.Runs.{OutcomeIs}
+use Rattle.std.specs.Prelude.{◌⊎◌, true, false, ◌≡◌, ℕ, ◌≤◌, List, [], ◌∷◌, ◌++◌, length, drop, map, Option, None, Some, slice_get, if◌then◌else◌}
+use Rattle.jk_language.specs.declared.outcome.Outcome.{Outcome}
+use Rattle.jk_language.specs.declared.outcome.Outcome.TheVariants as outcome
+use Rattle.jk_language.specs.Spoken.{Spoken, refused_outcome}
+use Rattle.jk_language.specs.declared.outcome.Turned.TheVariants as turned
+use Rattle.jk_language.specs.Runs.{OutcomeIs}
 use Rattle.jk_core.specs.declared.arrival.Sort.{Sort}
 use Rattle.jk_core.specs.declared.arrival.Sort.TheVariants as sort
-use Rattle.jk_core.specs.Asked.{sort_as}
+use Rattle.jp_msg.specs.declared.message.Execute.{Execute}
+use Rattle.jk_core.specs.declared.arrival.Arrival.{Arrival}
+use Rattle.jk_core.specs.Asked.{input_in, sort_as}
 use Rattle.jk_core.specs.declared.mark.Item.{Item}
 use Rattle.jk_core.specs.declared.mark.Item.TheVariants.{Took, Marked}
 use Rattle.jk_core.specs.declared.mark.Mark.{Mark}
 use Rattle.jk_core.specs.declared.mark.Kind.{Kind}
-use Rattle.jk_core.specs.declared.mark.Kind.TheVariants.{Join, Begin, Flush, End, Stop, Refuse, Abort, Interrupt}
+use Rattle.jk_core.specs.declared.mark.Kind.TheVariants.{Join, Leave, Begin, Flush, Ask, Line, End, Stop, Refuse, Abort, Interrupt}
 use Rattle.jk_core.specs.declared.mark.Ending.{Ending}
 use Rattle.jk_core.specs.declared.mark.Ending.TheVariants.{Completed, Trapped, Refused}
 use Rattle.jk_core.specs.declared.mark.Cause.{Cause}
 use Rattle.jk_core.specs.declared.mark.Cause.TheVariants.{Memory, Interrupted}
-use Rattle.jk_core.specs.Log.{Log, Running, running, waiting, session, meaning, count, next_count}
+use Rattle.jk_core.specs.Log.{Log, Running, running, waiting, session, meaning, stood, count, next_count, execute_at, left, asker}
 
 -- a mark that must come before anything else
 pub data Due : Type 0 where
-  JoinDue : (at : ℕ) → Due
-  InterruptDue : (at : ℕ) → Due
+  MarkDue : (at : ℕ) (kind : Kind) → Due
   FlushDue : Due
   StopDue : (cause : Cause) → Due
-  AbortDue : (at : ℕ) → Due
+
+abbrev pub abort_due : ℕ → Due
+abort_due at = MarkDue at Abort
 
 -- the marks that end the cell that runs
 abbrev pub ends_due : Cause → Option Running → List Due
 ends_due cause None = []
 ends_due cause (Some r) = FlushDue ∷ StopDue cause ∷ []
 
-abbrev pub dues_of : Sort → ℕ → Option Running → List Due
-dues_of sort.Join at r = JoinDue at ∷ []
-dues_of sort.Interrupt at r = InterruptDue at ∷ ends_due Interrupted r
-dues_of sort.Execute at r = []
-dues_of sort.Other at r = []
+-- the line for the cell that asks
+abbrev pub line_due : Option (List ℕ) → Option ℕ → List Due
+line_due None asker = []
+line_due (Some text) None = []
+line_due (Some text) (Some at) = MarkDue at (Line (Some text)) ∷ []
+
+-- what an arrival after this part of the log owes
+abbrev pub dues_of : Sort → Arrival → Log → List Due
+dues_of sort.Join a past = MarkDue (length past) Join ∷ []
+dues_of sort.Leave a past = MarkDue (length past) Leave ∷ []
+dues_of sort.Interrupt a past = MarkDue (length past) Interrupt ∷ ends_due Interrupted (running past)
+dues_of sort.Input a past = line_due (input_in a.what) (asker a.seat past)
+dues_of sort.Execute a past = []
+dues_of sort.Other a past = []
 
 -- after an error of a cell that stops on errors, each request that waits is aborted
 abbrev pub aborts_due : Option Running → List ℕ → List Due
 aborts_due None places = []
-aborts_due (Some r) places = if r.request.stop_on_error then map AbortDue places else []
+aborts_due (Some r) places = if r.request.stop_on_error then map abort_due places else []
 
 abbrev pub dues_after_end : Ending → Option Running → List ℕ → List Due
 dues_after_end Completed r places = []
@@ -53,8 +64,11 @@ abbrev pub dues_after : Kind → Option Running → List ℕ → List Due
 dues_after (End ending n) r places = dues_after_end ending r places
 dues_after (Stop turns cause n) r places = aborts_due r places
 dues_after Join r places = []
+dues_after Leave r places = []
 dues_after (Begin n) r places = []
 dues_after (Flush turns text) r places = []
+dues_after Ask r places = []
+dues_after (Line text) r places = []
 dues_after (Refuse n) r places = []
 dues_after Abort r places = []
 dues_after Interrupt r places = []
@@ -62,12 +76,15 @@ dues_after Interrupt r places = []
 -- the marks that are owed, in their order
 abbrev pub owed : Log → List Due
 owed [] = []
-owed (Took a ∷ past) = dues_of (sort_as a.what) (length past) (running past)
+owed (Took a ∷ past) = dues_of (sort_as a.what) a past
 owed (Marked m ∷ past) = drop 1 (owed past) ++ dues_after m.kind (running past) (waiting past)
 
 abbrev pub JustFlushedBy : Kind → Type 0
 JustFlushedBy (Flush turns text) = Unit {0}
 JustFlushedBy Join = ⊥
+JustFlushedBy Leave = ⊥
+JustFlushedBy Ask = ⊥
+JustFlushedBy (Line text) = ⊥
 JustFlushedBy (Begin count) = ⊥
 JustFlushedBy (End ending count) = ⊥
 JustFlushedBy (Stop turns cause count) = ⊥
@@ -81,81 +98,120 @@ JustFlushed [] = ⊥
 JustFlushed (Took a ∷ past) = ⊥
 JustFlushed (Marked m ∷ past) = JustFlushedBy m.kind
 
--- the first request that waits, where no cell runs
+-- the first that waits, an execute request, where no cell runs
 pub record IsNext (past : Log) (at : ℕ) : Type 0 where
   pub idle : running past ≡ None
   pub first : slice_get (waiting past) 0 ≡ Some at
+  pub request : Execute
+  pub there : execute_at at past ≡ Some request
 
--- a flush at a number of turns shows the output since the last one
-pub record Flushes (past : Log) (r : Running) (at turns : ℕ) (text : List ℕ) : Type 0 where
+-- a flush at a number of turns shows the output since the last one, with the lines so far
+pub record Flushes {S T : Type 0} (spoken : Spoken S T) (past : Log) (r : Running) (at turns : ℕ) (text : List ℕ) : Type 0 where
   pub request : at ≡ r.at
   pub onward : r.turns ≤ turns
-  pub used : (meaning past r turns).turns ≡ turns
-  pub shown : text ≡ drop (length (meaning past r r.turns).output) (meaning past r turns).output
+  pub used : (meaning spoken past r turns).turns ≡ turns
+  pub shown : text ≡ drop (length (stood spoken past r).output) (meaning spoken past r turns).output
 
 -- an ending tells what the meaning comes to
-abbrev pub EndsSo : SessionState → List ℕ → Outcome → Ending → Type 0
-EndsSo session code o Completed = o ≡ outcome.Ended
-EndsSo session code o (Trapped trap) = o ≡ outcome.Trapped trap
-EndsSo session code o (Refused refusal) = (o ≡ refused_outcome refusal) × IsRefusedFor session code refusal
+abbrev pub EndsSo : {S T : Type 0} → Spoken S T → S → List ℕ → Outcome → Ending → Type 0
+EndsSo spoken session code o Completed = o ≡ outcome.Ended
+EndsSo spoken session code o (Trapped trap) = o ≡ outcome.Trapped trap
+EndsSo spoken session code o (Refused refusal) = (o ≡ refused_outcome refusal) × spoken.IsRefusedFor session code refusal
 
-pub record Ends (past : Log) (r : Running) (at : ℕ) (ending : Ending) (n : ℕ) : Type 0 where
+pub record Ends {S T : Type 0} (spoken : Spoken S T) (past : Log) (r : Running) (at : ℕ) (ending : Ending) (n : ℕ) : Type 0 where
   pub request : at ≡ r.at
   pub flushed : JustFlushed past
-  pub outcome : EndsSo (session past) r.request.code (meaning past r r.turns).outcome ending
+  pub outcome : EndsSo spoken (session spoken past) r.request.code (stood spoken past r).outcome ending
   pub counted : n ≡ count past
 
 -- a turn was next, and none was left
 abbrev pub IsStopped : Outcome → Type 0
 IsStopped o = OutcomeIs turned.Stopped o
 
--- A cell is stopped where its meaning is. For want of memory that is before a turn that may want it, which is no entry of
--- a loop's body: there alone the machine answers NoMemory.
+-- A cell is stopped where its meaning is. For want of memory that is before a turn that may want it: there alone the
+-- machine answers NoMemory. An interrupt stops it also where it needs a line.
 abbrev pub StopsFor : Cause → Outcome → Type 0
 StopsFor Memory o = OutcomeIs turned.NoMemory o
-StopsFor Interrupted o = IsStopped o
+StopsFor Interrupted o = IsStopped o ⊎ (o ≡ outcome.NeedsLine)
 
-pub record Stops (past : Log) (r : Running) (at turns : ℕ) (cause : Cause) (n : ℕ) : Type 0 where
+pub record Stops {S T : Type 0} (spoken : Spoken S T) (past : Log) (r : Running) (at turns : ℕ) (cause : Cause) (n : ℕ) : Type 0 where
   pub request : at ≡ r.at
   pub flushed : JustFlushed past
   pub here : turns ≡ r.turns
-  pub outcome : StopsFor cause (meaning past r r.turns).outcome
+  pub outcome : StopsFor cause (stood spoken past r).outcome
   pub counted : n ≡ count past
 
+-- a cell that did not ask may ask its seat
+pub record MayAsk (past : Log) (r : Running) : Type 0 where
+  pub free : r.asked ≡ false
+  pub allowed : r.request.allow_stdin ≡ true
+  pub here : left r.seat r.at past ≡ false
+
+pub record Asks {S T : Type 0} (spoken : Spoken S T) (past : Log) (r : Running) (at : ℕ) : Type 0 where
+  pub request : at ≡ r.at
+  pub flushed : JustFlushed past
+  pub outcome : (stood spoken past r).outcome ≡ outcome.NeedsLine
+  pub may : MayAsk past r
+
+-- there is no line to be had
+abbrev pub IsLineless : Log → Running → Type 0
+IsLineless past r = (r.request.allow_stdin ≡ false) ⊎ (left r.seat r.at past ≡ true)
+
+-- the cell needs a line at n turns, with those so far, and there is none to be had
+abbrev pub Lacks : {S T : Type 0} → Spoken S T → Log → Running → ℕ → Type 0
+Lacks spoken past r n = ((meaning spoken past r n).outcome ≡ outcome.NeedsLine) × IsLineless past r
+
 -- what may come where nothing is owed
-abbrev pub MayCome : Log → ℕ → Kind → Type 0
-MayCome past at Join = ⊥
-MayCome past at Abort = ⊥
-MayCome past at Interrupt = ⊥
-MayCome past at (Begin n) = IsNext past at × (n ≡ next_count at past)
-MayCome past at (Refuse n) = IsNext past at × (n ≡ count past)
-MayCome past at (Flush turns text) = (r : Running) × (running past ≡ Some r) × Flushes past r at turns text
-MayCome past at (End ending n) = (r : Running) × (running past ≡ Some r) × Ends past r at ending n
-MayCome past at (Stop turns cause n) = (cause ≡ Memory) × (r : Running) × (running past ≡ Some r) × Stops past r at turns cause n
+abbrev pub MayCome : {S T : Type 0} → Spoken S T → Log → ℕ → Kind → Type 0
+MayCome spoken past at Join = ⊥
+MayCome spoken past at Leave = ⊥
+MayCome spoken past at (Line (Some text)) = ⊥
+MayCome spoken past at Abort = ⊥
+MayCome spoken past at Interrupt = ⊥
+MayCome spoken past at (Begin n) = IsNext past at × (n ≡ next_count at past)
+MayCome spoken past at (Refuse n) = IsNext past at × (n ≡ count past)
+MayCome spoken past at (Flush turns text) = (r : Running) × (running past ≡ Some r) × Flushes spoken past r at turns text
+MayCome spoken past at Ask = (r : Running) × (running past ≡ Some r) × Asks spoken past r at
+MayCome spoken past at (Line None) = (r : Running) × (running past ≡ Some r) × (at ≡ r.at) × (n : ℕ) × Lacks spoken past r n
+MayCome spoken past at (End ending n) = (r : Running) × (running past ≡ Some r) × Ends spoken past r at ending n
+MayCome spoken past at (Stop turns cause n) = (cause ≡ Memory) × (r : Running) × (running past ≡ Some r) × Stops spoken past r at turns cause n
+
+-- the marks that stand only where they are due
+abbrev pub IsForced : Kind → Type 0
+IsForced Join = Unit {0}
+IsForced Leave = Unit {0}
+IsForced Abort = Unit {0}
+IsForced Interrupt = Unit {0}
+IsForced (Line (Some text)) = Unit {0}
+IsForced (Line None) = ⊥
+IsForced Ask = ⊥
+IsForced (Begin n) = ⊥
+IsForced (Flush turns text) = ⊥
+IsForced (End ending n) = ⊥
+IsForced (Stop turns cause n) = ⊥
+IsForced (Refuse n) = ⊥
 
 -- the mark is the one that is due
-abbrev pub Settles : Log → Due → Mark → Type 0
-Settles past (JoinDue at) m = m ≡ record { at = at; kind = Join }
-Settles past (InterruptDue at) m = m ≡ record { at = at; kind = Interrupt }
-Settles past FlushDue m = JustFlushedBy m.kind × MayCome past m.at m.kind
-Settles past (StopDue cause) m =
-    (turns n : ℕ) × (m.kind ≡ Stop turns cause n) × ((r : Running) × (running past ≡ Some r) × Stops past r m.at turns cause n)
-Settles past (AbortDue at) m = m ≡ record { at = at; kind = Abort }
+abbrev pub Settles : {S T : Type 0} → Spoken S T → Log → Due → Mark → Type 0
+Settles spoken past (MarkDue at kind) m = (m ≡ record { at = at; kind = kind }) × IsForced kind
+Settles spoken past FlushDue m = JustFlushedBy m.kind × MayCome spoken past m.at m.kind
+Settles spoken past (StopDue cause) m =
+    (turns n : ℕ) × (m.kind ≡ Stop turns cause n) × ((r : Running) × (running past ≡ Some r) × Stops spoken past r m.at turns cause n)
 
-abbrev pub MayMark : Log → List Due → Mark → Type 0
-MayMark past [] m = MayCome past m.at m.kind
-MayMark past (due ∷ dues) m = Settles past due m
+abbrev pub MayMark : {S T : Type 0} → Spoken S T → Log → List Due → Mark → Type 0
+MayMark spoken past [] m = MayCome spoken past m.at m.kind
+MayMark spoken past (due ∷ dues) m = Settles spoken past due m
 
 -- the item may follow the part before it
-abbrev pub MayFollow : Log → Item → Type 0
-MayFollow past (Took a) = owed past ≡ []
-MayFollow past (Marked m) = MayMark past (owed past) m
+abbrev pub MayFollow : {S T : Type 0} → Spoken S T → Log → Item → Type 0
+MayFollow spoken past (Took a) = owed past ≡ []
+MayFollow spoken past (Marked m) = MayMark spoken past (owed past) m
 
-abbrev pub EachFollows : Log → Type 0
-EachFollows [] = Unit {0}
-EachFollows (e ∷ past) = EachFollows past × MayFollow past e
+abbrev pub EachFollows : {S T : Type 0} → Spoken S T → Log → Type 0
+EachFollows spoken [] = Unit {0}
+EachFollows spoken (e ∷ past) = EachFollows spoken past × MayFollow spoken past e
 
 -- each item may follow the part before it, and nothing is owed
-pub record IsLegal (log : Log) : Type 0 where
-  pub each : EachFollows log
+pub record IsLegal {S T : Type 0} (spoken : Spoken S T) (log : Log) : Type 0 where
+  pub each : EachFollows spoken log
   pub settled : owed log ≡ []

@@ -1,16 +1,18 @@
 -- The log, newest first, and what it answers.
-use Rattle.std.specs.Prelude.{ℕ, ◌+◌, if◌then◌else◌, ◌==◌, ◌&&◌, not, List, [], ◌∷◌, ◌++◌, length, drop, Option, None, Some}
-use Rattle.ob_cell.specs.Parts.{SessionState, opening, Meaning}
-use Rattle.ob_cell.specs.Cell.{cell}
+use Rattle.std.specs.Prelude.{Bool, true, false, ◌||◌, nat_lt, ℕ, ◌+◌, if◌then◌else◌, ◌==◌, ◌&&◌, not, List, [], ◌∷◌, ◌++◌, length, drop, Option, None, Some}
+use Rattle.jk_language.specs.Parts.{Line as Given, Meaning}
+use Rattle.jk_language.specs.Spoken.{Spoken}
 use Rattle.jk_core.specs.declared.arrival.Arrival.{Arrival}
+use Rattle.jk_core.specs.declared.arrival.What.{What}
+use Rattle.jk_core.specs.declared.arrival.What.TheVariants as what
 use Rattle.jp_msg.specs.declared.message.Execute.{Execute}
 use Rattle.jk_core.specs.declared.arrival.Sort.{Sort}
 use Rattle.jk_core.specs.declared.arrival.Sort.TheVariants as sort
-use Rattle.jk_core.specs.Asked.{execute_in, sort_as}
+use Rattle.jk_core.specs.Asked.{execute_in, input_in, sort_as}
 use Rattle.jk_core.specs.declared.mark.Item.{Item}
 use Rattle.jk_core.specs.declared.mark.Item.TheVariants.{Took, Marked}
 use Rattle.jk_core.specs.declared.mark.Kind.{Kind}
-use Rattle.jk_core.specs.declared.mark.Kind.TheVariants.{Join, Begin, Flush, End, Stop, Refuse, Abort, Interrupt}
+use Rattle.jk_core.specs.declared.mark.Kind.TheVariants.{Join, Leave, Begin, Flush, Ask, Line, End, Stop, Refuse, Abort, Interrupt}
 
 -- A log, newest first: the tail is the part before its head. A request is named by its place, counted from the oldest.
 abbrev pub Log : Type 0
@@ -38,6 +40,14 @@ arrival_at at (e ∷ past) = if length past == at then arrival_in e else arrival
 abbrev pub execute_at : ℕ → Log → Option Execute
 execute_at at log = option_at (λ a. execute_in a.what) (arrival_at at log)
 
+-- the line that was sent at a place of the log
+abbrev pub input_at : ℕ → Log → Option (List ℕ)
+input_at at log = option_at (λ a. input_in a.what) (arrival_at at log)
+
+-- the seat of the arrival at a place of the log
+abbrev pub seat_at : ℕ → Log → ℕ
+seat_at at log = option_or (λ a. a.seat) 0 (arrival_at at log)
+
 -- how many arrivals were taken
 abbrev pub arrivals : Log → ℕ
 arrivals [] = 0
@@ -48,6 +58,8 @@ arrivals (Marked m ∷ past) = arrivals past
 abbrev pub waits_as : Sort → ℕ → List ℕ
 waits_as sort.Execute at = at ∷ []
 waits_as sort.Join at = []
+waits_as sort.Leave at = []
+waits_as sort.Input at = []
 waits_as sort.Interrupt at = []
 waits_as sort.Other at = []
 
@@ -57,6 +69,9 @@ waiting_after (Refuse count) places = drop 1 places
 waiting_after Abort places = drop 1 places
 waiting_after Interrupt places = places
 waiting_after Join places = places
+waiting_after Leave places = places
+waiting_after Ask places = places
+waiting_after (Line text) places = places
 waiting_after (Flush turns text) places = places
 waiting_after (End ending count) places = places
 waiting_after (Stop turns cause count) places = places
@@ -66,61 +81,139 @@ waiting [] = []
 waiting (Took a ∷ past) = waiting past ++ waits_as (sort_as a.what) (length past)
 waiting (Marked m ∷ past) = waiting_after m.kind (waiting past)
 
--- the cell that runs: its request, and the turns at its last flush
+-- the cell that runs
 pub record Running : Type 0 where
   pub at : ℕ
+  pub seat : ℕ
   pub request : Execute
+  -- the turns at its last flush, the lines that it was given before that, and those since
   pub turns : ℕ
+  pub lines : List Given
+  pub fresh : List Given
+  -- whether it asked, and was given no line since
+  pub asked : Bool
+
+-- a cell at its beginning
+abbrev pub opened : ℕ → ℕ → Execute → Running
+opened at seat e = record { at = at; seat = seat; request = e; turns = 0; lines = []; fresh = []; asked = false }
 
 abbrev pub flushed_at : ℕ → Running → Running
-flushed_at turns r = record { at = r.at; request = r.request; turns = turns }
+flushed_at turns r = record r { turns = turns; lines = r.lines ++ r.fresh; fresh = [] }
+
+abbrev pub asking : Running → Running
+asking r = record r { asked = true }
+
+abbrev pub lined : Given → Running → Running
+lined line r = record r { fresh = r.fresh ++ line ∷ []; asked = false }
+
+-- the times that there was no line among these
+abbrev pub nones : List Given → List Given
+nones [] = []
+nones (None ∷ lines) = None ∷ nones lines
+nones (Some text ∷ lines) = nones lines
+
+-- a text that was given since the last flush does not count
+abbrev pub unread : Running → Running
+unread r = record r { fresh = nones r.fresh }
 
 abbrev pub option_with : {A B : Type 0} → (A → B) → Option A → Option B
 option_with f None = None
 option_with f (Some x) = Some (f x)
 
-abbrev pub running_after : ℕ → Kind → Option Execute → Option Running → Option Running
-running_after at (Begin count) request before = option_with (λ e. record { at = at; request = e; turns = 0 }) request
-running_after at (Flush turns text) request before = option_with (flushed_at turns) before
-running_after at (End ending count) request before = None
-running_after at (Stop turns cause count) request before = None
-running_after at Join request before = before
-running_after at (Refuse count) request before = before
-running_after at Abort request before = before
-running_after at Interrupt request before = before
+abbrev pub running_after : ℕ → Kind → ℕ → Option Execute → Option Running → Option Running
+running_after at (Begin count) seat request before = option_with (opened at seat) request
+running_after at (Flush turns text) seat request before = option_with (flushed_at turns) before
+running_after at Ask seat request before = option_with asking before
+running_after at (Line text) seat request before = option_with (lined text) before
+running_after at (End ending count) seat request before = None
+running_after at (Stop turns cause count) seat request before = None
+running_after at Join seat request before = before
+running_after at Leave seat request before = before
+running_after at (Refuse count) seat request before = before
+running_after at Abort seat request before = before
+running_after at Interrupt seat request before = before
+
+-- a text that an interrupt finds unread is never read
+abbrev pub running_with : Sort → Option Running → Option Running
+running_with sort.Interrupt before = option_with unread before
+running_with sort.Join before = before
+running_with sort.Leave before = before
+running_with sort.Execute before = before
+running_with sort.Input before = before
+running_with sort.Other before = before
 
 abbrev pub running : Log → Option Running
 running [] = None
-running (Took a ∷ past) = running past
-running (Marked m ∷ past) = running_after m.at m.kind (execute_at m.at past) (running past)
+running (Took a ∷ past) = running_with (sort_as a.what) (running past)
+running (Marked m ∷ past) = running_after m.at m.kind (seat_at m.at past) (execute_at m.at past) (running past)
 
--- what the cell has come to at n turns, begun in a session
-abbrev pub meaning_in : SessionState → Running → ℕ → Meaning
-meaning_in session r n = cell session r.request.code [] n
+-- what the cell comes to in n turns with all lines so far, begun in a session
+abbrev pub meaning_in : {S T : Type 0} → Spoken S T → S → Running → ℕ → Meaning S
+meaning_in spoken session r n = spoken.cell session r.request.code (r.lines ++ r.fresh) n
 
--- the session: what the meaning of the last cell left at its End or Stop
-abbrev pub session_after : Kind → Option Running → SessionState → SessionState
-session_after (End ending count) r session = option_or (λ r. (meaning_in session r r.turns).session) session r
-session_after (Stop turns cause count) r session = option_or (λ r. (meaning_in session r r.turns).session) session r
-session_after Join r session = session
-session_after (Begin count) r session = session
-session_after (Flush turns text) r session = session
-session_after (Refuse count) r session = session
-session_after Abort r session = session
-session_after Interrupt r session = session
+-- what it comes to in n turns with the lines before its last flush
+abbrev pub shown_in : {S T : Type 0} → Spoken S T → S → Running → ℕ → Meaning S
+shown_in spoken session r n = spoken.cell session r.request.code r.lines n
 
-abbrev pub session : Log → SessionState
-session [] = opening
-session (Took a ∷ past) = session past
-session (Marked m ∷ past) = session_after m.kind (running past) (session past)
+-- where it stood at its last flush
+abbrev pub stood_in : {S T : Type 0} → Spoken S T → S → Running → Meaning S
+stood_in spoken session r = shown_in spoken session r r.turns
 
-abbrev pub meaning : Log → Running → ℕ → Meaning
-meaning log r n = meaning_in (session log) r n
+-- the session: what the last cell left where it stood at its End or Stop
+abbrev pub session_after : {S T : Type 0} → Spoken S T → Kind → Option Running → S → S
+session_after spoken (End ending count) r session = option_or (λ r. (stood_in spoken session r).session) session r
+session_after spoken (Stop turns cause count) r session = option_or (λ r. (stood_in spoken session r).session) session r
+session_after spoken Join r session = session
+session_after spoken Leave r session = session
+session_after spoken (Begin count) r session = session
+session_after spoken (Flush turns text) r session = session
+session_after spoken Ask r session = session
+session_after spoken (Line text) r session = session
+session_after spoken (Refuse count) r session = session
+session_after spoken Abort r session = session
+session_after spoken Interrupt r session = session
+
+abbrev pub session : {S T : Type 0} → Spoken S T → Log → S
+session spoken [] = spoken.opening
+session spoken (Took a ∷ past) = session spoken past
+session spoken (Marked m ∷ past) = session_after spoken m.kind (running past) (session spoken past)
+
+abbrev pub meaning : {S T : Type 0} → Spoken S T → Log → Running → ℕ → Meaning S
+meaning spoken log r n = meaning_in spoken (session spoken log) r n
+
+abbrev pub stood : {S T : Type 0} → Spoken S T → Log → Running → Meaning S
+stood spoken log r = stood_in spoken (session spoken log) r
+
+abbrev pub is_leave : What → Bool
+is_leave what.Leave = true
+is_leave what.Join = false
+is_leave (what.Shell m) = false
+is_leave (what.Control m) = false
+is_leave (what.Stdin m) = false
+
+abbrev pub leaves : ℕ → Arrival → Bool
+leaves seat a = is_leave a.what && a.seat == seat
+
+-- whether a seat has left since a place
+abbrev pub left : ℕ → ℕ → Log → Bool
+left seat at [] = false
+left seat at (Took a ∷ past) = (leaves seat a && nat_lt at (length past)) || left seat at past
+left seat at (Marked m ∷ past) = left seat at past
+
+-- the request of the cell that asks this seat for a line
+abbrev pub asked_of : ℕ → Log → Running → Option ℕ
+asked_of seat log r = if r.asked && r.seat == seat && not (left r.seat r.at log) then Some r.at else None
+
+abbrev pub asker : ℕ → Log → Option ℕ
+asker seat log = option_at (asked_of seat log) (running log)
 
 -- the count that the last begun cell has
 abbrev pub count_after : Kind → ℕ → ℕ
 count_after (Begin count) before = count
 count_after Join before = before
+count_after Leave before = before
+count_after Ask before = before
+count_after (Line text) before = before
 count_after (Flush turns text) before = before
 count_after (End ending count) before = before
 count_after (Stop turns cause count) before = before

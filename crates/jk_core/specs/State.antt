@@ -1,24 +1,26 @@
 -- What contracts see of a kernel.
-use Rattle.std.specs.Prelude.{ℕ, List, [], ◌∷◌, ◌++◌, length, reverse, nat_le, if◌then◌else◌, Option, None, Some}
+use Rattle.std.specs.Prelude.{ℕ, zero, suc, Bool, true, false, List, [], ◌∷◌, ◌++◌, length, reverse, nat_le, if◌then◌else◌, Option, None, Some}
 use Rattle.jk_core.specs.declared.entry.Entry.{Entry}
 use Rattle.jk_core.specs.declared.mark.Item.{Item}
 use Rattle.jk_core.specs.declared.mark.Item.TheVariants.{Took, Marked}
 use Rattle.jk_core.specs.declared.script.Waiting.{Waiting}
-use Rattle.jk_core.specs.Log.{Log}
+use Rattle.jk_core.specs.Log.{Log, leaves}
 use Rattle.jk_core.specs.Render.{entries_at}
 
-pub record KernelState : Type 0 where
+pub record KernelState (T : Type 0) : Type 0 where
   pub log : Log
   -- the entries of each mark that was not handed on yet, oldest first
   pub pending : List (List Entry)
   -- the requests that wait, with the results that were handed in
-  pub waits : List Waiting
+  pub waits : List (Waiting T)
   -- the number of the last job that was given
   pub given : ℕ
+  -- the turns of the cell that runs: those of its last flush, or more where it has written nothing since
+  pub ran : ℕ
 
 -- a kernel that has taken nothing
-abbrev pub fresh : KernelState
-fresh = record { log = []; pending = []; waits = []; given = 0 }
+abbrev pub fresh : {T : Type 0} → KernelState T
+fresh = record { log = []; pending = []; waits = []; given = 0; ran = 0 }
 
 -- the entries of each mark from a place of the log on
 abbrev pub pending_from : ℕ → Log → List (List Entry)
@@ -28,17 +30,29 @@ pending_from place (Marked m ∷ past) =
     pending_from place past ++ (if nat_le place (length past) then entries_at past m ∷ [] else [])
 
 -- a script, and how many more items it has room for
-pub record ScriptState : Type 0 where
-  pub state : KernelState
+pub record ScriptState (T : Type 0) : Type 0 where
+  pub state : KernelState T
   pub room : ℕ
 
-abbrev pub state_of : List Item → ℕ → List Waiting → ℕ → KernelState
-state_of items shown waits given = record {
+abbrev pub state_of : {T : Type 0} → List Item → ℕ → List (Waiting T) → ℕ → ℕ → KernelState T
+state_of items shown waits given ran = record {
   log = reverse items;
   pending = pending_from shown (reverse items);
   waits = waits;
   given = given;
+  ran = ran;
 }
+
+-- the place of a seat's last leave, or 0
+abbrev pub last_leave : ℕ → Log → ℕ
+last_leave seat [] = 0
+last_leave seat (Took a ∷ past) = if leaves seat a then length past else last_leave seat past
+last_leave seat (Marked m ∷ past) = last_leave seat past
+
+abbrev pub are_zeros : List ℕ → Bool
+are_zeros [] = true
+are_zeros (zero ∷ xs) = are_zeros xs
+are_zeros (suc n ∷ xs) = false
 
 abbrev pub first_of : {A : Type 0} → List A → Option A
 first_of [] = None
@@ -55,5 +69,5 @@ pending_in front [] = []
 pending_in front (Took a ∷ items) = pending_in (Took a ∷ front) items
 pending_in front (Marked m ∷ items) = entries_at front m ∷ pending_in (Marked m ∷ front) items
 
-abbrev pub WaitingOf : Type 0
-WaitingOf = Waiting
+abbrev pub WaitingOf : Type 0 → Type 0
+WaitingOf T = Waiting T

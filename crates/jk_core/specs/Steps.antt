@@ -1,17 +1,18 @@
 -- How a kernel moves.
-use Rattle.std.specs.Prelude.{◌≡◌, ℕ, Bool, false, if◌then◌else◌, ◌+◌, ◌-◌, ◌^◌, min, List, [], ◌∷◌, ◌++◌, length, drop, Option, None, Some, ◌⊎◌, nat_lt, find, slice_get, slice_set}
-use Rattle.ob_cell.specs.declared.outcome.Refusal.{Refusal}
-use Rattle.ob_cell.specs.declared.outcome.Refusal.TheVariants.{Compile}
-use Rattle.ob_cell.specs.Parts.{Meaning}
-use Rattle.ob_cell.specs.declared.outcome.Turned.{Turned}
-use Rattle.ob_cell.specs.declared.outcome.Turned.TheVariants as turned
-use Rattle.ob_cell.specs.Cell.{IsRefusedFor}
-use Rattle.ob_cell.specs.Runs.{IsGiven, OutcomeIs}
+use Rattle.std.specs.Prelude.{zero, suc, true, not, is_some, ◌&&◌, ◌≤◌, ◌≢◌, ◌≡◌, ℕ, Bool, false, if◌then◌else◌, ◌+◌, ◌-◌, ◌^◌, min, List, [], ◌∷◌, ◌++◌, length, drop, Option, None, Some, ◌⊎◌, nat_lt, find, slice_get, slice_set}
+use Rattle.jk_language.specs.declared.outcome.Outcome.TheVariants as outcome
+use Rattle.jk_language.specs.declared.outcome.Refusal.{Refusal}
+use Rattle.jk_language.specs.declared.outcome.Refusal.TheVariants.{Compile}
+use Rattle.jk_language.specs.Parts.{Line as Given, Meaning}
+use Rattle.jk_language.specs.Spoken.{Spoken}
+use Rattle.jk_language.specs.declared.outcome.Turned.{Turned}
+use Rattle.jk_language.specs.declared.outcome.Turned.TheVariants as turned
+use Rattle.jk_language.specs.Runs.{IsGiven, OutcomeIs}
 use Rattle.jp_msg.specs.declared.message.Execute.{Execute}
 use Rattle.jk_core.specs.declared.arrival.Arrival.{Arrival}
 use Rattle.jk_core.specs.declared.arrival.Sort.{Sort}
 use Rattle.jk_core.specs.declared.arrival.Sort.TheVariants as sort
-use Rattle.jk_core.specs.Asked.{sort_as}
+use Rattle.jk_core.specs.Asked.{input_in, sort_as}
 use Rattle.jk_core.specs.declared.job.Job.{Job}
 use Rattle.jk_core.specs.Results.{Reading}
 use Rattle.jk_core.specs.declared.kernel.Used.{Used}
@@ -20,185 +21,288 @@ use Rattle.jk_core.specs.declared.job.Parsed.{Parsed}
 use Rattle.jk_core.specs.declared.job.Parsed.TheVariants as parsed
 use Rattle.jk_core.specs.declared.mark.Item.TheVariants.{Took, Marked}
 use Rattle.jk_core.specs.declared.mark.Kind.{Kind}
-use Rattle.jk_core.specs.declared.mark.Kind.TheVariants.{Join, Begin, Flush, End, Stop, Refuse, Abort, Interrupt}
+use Rattle.jk_core.specs.declared.mark.Kind.TheVariants.{Join, Leave, Begin, Flush, Ask, Line, End, Stop, Refuse, Abort, Interrupt}
 use Rattle.jk_core.specs.declared.mark.Ending.TheVariants as ending
 use Rattle.jk_core.specs.declared.mark.Cause.{Cause}
 use Rattle.jk_core.specs.declared.mark.Cause.TheVariants as cause
 use Rattle.jk_core.specs.declared.kernel.Work.{Work}
-use Rattle.jk_core.specs.declared.kernel.Work.TheVariants.{Rest, NeedsParse, Ran, NoMemory}
+use Rattle.jk_core.specs.declared.kernel.Work.TheVariants.{Rest, NeedsParse, Ran, NeedsLine, NoMemory}
 use Rattle.jk_core.specs.declared.script.Waiting.{Waiting}
-use Rattle.jk_core.specs.Log.{Log, Running, running, session, meaning, count, next_count, arrivals, execute_at, option_with, option_or}
+use Rattle.jk_core.specs.Log.{Log, Running, running, session, meaning, stood, lined, left, asker, count, next_count, arrivals, execute_at, option_with, option_or}
+use Rattle.jk_core.specs.Legal.{MayAsk, Lacks}
 use Rattle.jk_core.specs.Render.{entries_at}
 use Rattle.jk_core.specs.State.{KernelState}
 
+-- the turns of the cell that runs, after a mark
+abbrev pub ran_after : Kind → ℕ → ℕ
+ran_after (Begin count) ran = 0
+ran_after (Flush turns text) ran = turns
+ran_after Join ran = ran
+ran_after Leave ran = ran
+ran_after Ask ran = ran
+ran_after (Line text) ran = ran
+ran_after (End ending count) ran = ran
+ran_after (Stop turns cause count) ran = ran
+ran_after (Refuse count) ran = ran
+ran_after Abort ran = ran
+ran_after Interrupt ran = ran
+
 -- one more mark, whose entries are now pending
-abbrev pub noted : ℕ → Kind → KernelState → KernelState
+abbrev pub noted : {T : Type 0} → ℕ → Kind → KernelState T → KernelState T
 noted at kind k = record {
   log = Marked (record { at = at; kind = kind }) ∷ k.log;
   pending = k.pending ++ entries_at k.log (record { at = at; kind = kind }) ∷ [];
   waits = k.waits;
   given = k.given;
+  ran = ran_after kind k.ran;
 }
 
-abbrev pub waits_with : Sort → ℕ → ℕ → List Waiting
+abbrev pub waits_with : {T : Type 0} → Sort → ℕ → ℕ → List (Waiting T)
 waits_with sort.Execute at number = record { at = at; number = number; result = None } ∷ []
 waits_with sort.Join at number = []
+waits_with sort.Leave at number = []
+waits_with sort.Input at number = []
 waits_with sort.Interrupt at number = []
 waits_with sort.Other at number = []
 
+-- the same kernel, where these wait
+abbrev pub with_waits : {T : Type 0} → List (Waiting T) → KernelState T → KernelState T
+with_waits ws k = record { log = k.log; pending = k.pending; waits = ws; given = k.given; ran = k.ran }
+
+-- the same kernel, where the next arrival waits
+abbrev pub with_next : {T : Type 0} → KernelState T → KernelState T
+with_next k = with_waits (k.waits ++ waits_with sort.Execute (length k.log) (arrivals k.log + 1)) k
+
+-- one more arrival
+abbrev pub arrived : {T : Type 0} → Arrival → KernelState T → KernelState T
+arrived a k = record { log = Took a ∷ k.log; pending = k.pending; waits = k.waits; given = k.given; ran = k.ran }
+
 -- one more arrival, which may wait
-abbrev pub took : Arrival → KernelState → KernelState
+abbrev pub took : {T : Type 0} → Arrival → KernelState T → KernelState T
 took a k = record {
   log = Took a ∷ k.log;
   pending = k.pending;
   waits = k.waits ++ waits_with (sort_as a.what) (length k.log) (arrivals k.log + 1);
   given = k.given;
+  ran = k.ran;
 }
 
--- the same kernel, where these wait
-abbrev pub with_waits : List Waiting → KernelState → KernelState
-with_waits ws k = record { log = k.log; pending = k.pending; waits = ws; given = k.given }
-
 -- each of these, which wait, is aborted
-abbrev pub aborting : List Waiting → KernelState → KernelState
+abbrev pub aborting : {T : Type 0} → List (Waiting T) → KernelState T → KernelState T
 aborting [] k = k
 aborting (w ∷ ws) k = aborting ws (noted w.at Abort (with_waits ws k))
 
 -- what follows an error of a cell
-abbrev pub failing : Bool → KernelState → KernelState
+abbrev pub failing : {T : Type 0} → Bool → KernelState T → KernelState T
 failing stops k = if stops then aborting k.waits k else k
 
 -- the cell that runs is stopped where it stands
-abbrev pub stopped : Cause → Option Running → KernelState → KernelState
+abbrev pub stopped : {T : Type 0} → Cause → Option Running → KernelState T → KernelState T
 stopped cause None k = k
 stopped cause (Some r) k =
-    failing r.request.stop_on_error (noted r.at (Stop r.turns cause (count k.log)) (noted r.at (Flush r.turns []) k))
+    failing r.request.stop_on_error (noted r.at (Stop k.ran cause (count k.log)) (noted r.at (Flush k.ran []) k))
 
-abbrev pub answered : Sort → ℕ → KernelState → KernelState
-answered sort.Join at k = noted at Join k
-answered sort.Interrupt at k = stopped cause.Interrupted (running k.log) (noted at Interrupt k)
-answered sort.Execute at k = k
-answered sort.Other at k = k
+-- the line for the cell that asks
+abbrev pub given_to : {T : Type 0} → Option (List ℕ) → Option ℕ → KernelState T → KernelState T
+given_to None asker k = k
+given_to (Some text) None k = k
+given_to (Some text) (Some at) k = noted at (Line (Some text)) k
+
+-- the marks of an arrival that was taken after this part of the log
+abbrev pub answered : {T : Type 0} → Sort → Arrival → Log → KernelState T → KernelState T
+answered sort.Join a past k = noted (length past) Join k
+answered sort.Leave a past k = noted (length past) Leave k
+answered sort.Interrupt a past k = stopped cause.Interrupted (running k.log) (noted (length past) Interrupt k)
+answered sort.Input a past k = given_to (input_in a.what) (asker a.seat past) k
+answered sort.Execute a past k = k
+answered sort.Other a past k = k
 
 -- an arrival is taken, with the marks that stand directly after it
-abbrev pub taken : Arrival → KernelState → KernelState
-taken a k = answered (sort_as a.what) (length k.log) (took a k)
+abbrev pub taken : {T : Type 0} → Arrival → KernelState T → KernelState T
+taken a k = answered (sort_as a.what) a k.log (took a k)
 
-abbrev pub begun : ℕ → KernelState → KernelState
+abbrev pub begun : {T : Type 0} → ℕ → KernelState T → KernelState T
 begun at k = noted at (Begin (next_count at k.log)) k
 
--- A flush at n turns of a cell that goes so and was flushed before at this many turns.
-abbrev pub flushed : ℕ → (ℕ → Meaning) → ℕ → ℕ → KernelState → KernelState
-flushed at goes before n k =
-    noted at (Flush (goes n).turns (drop (length (goes before).output) (goes n).output)) k
+-- the same kernel, where the cell that runs has gone on to so many turns
+abbrev pub with_ran : {T : Type 0} → ℕ → KernelState T → KernelState T
+with_ran ran k = record { log = k.log; pending = k.pending; waits = k.waits; given = k.given; ran = ran }
+
+-- whether a line was given
+abbrev pub has_lines : List Given → Bool
+has_lines [] = false
+has_lines (line ∷ lines) = true
+
+-- a cell goes on: where it wrote nothing and read no line, nothing is marked
+abbrev pub gone_on : {T : Type 0} → Bool → ℕ → ℕ → List ℕ → KernelState T → KernelState T
+gone_on read at turns (c ∷ text) k = noted at (Flush turns (c ∷ text)) k
+gone_on read at turns [] k = if read then noted at (Flush turns []) k else with_ran turns k
+
+-- what a slice wrote is flushed, and always so where the cell asks or no cell runs after it
+abbrev pub flushed : {T : Type 0} → Turned → Bool → ℕ → ℕ → List ℕ → KernelState T → KernelState T
+flushed turned.Stopped read at turns text k = gone_on read at turns text k
+flushed turned.Ended read at turns text k = noted at (Flush turns text) k
+flushed (turned.Trapped trap) read at turns text k = noted at (Flush turns text) k
+flushed turned.NeedsLine read at turns text k = noted at (Flush turns text) k
+flushed turned.NoMemory read at turns text k = noted at (Flush turns text) k
 
 -- the end of a slice, by the machine's answer
-abbrev pub closed : Turned → ℕ → Bool → ℕ → ℕ → KernelState → KernelState
+abbrev pub closed : {T : Type 0} → Turned → ℕ → Bool → ℕ → ℕ → KernelState T → KernelState T
 closed turned.Stopped at stops turns count k = k
 closed turned.Ended at stops turns count k = noted at (End ending.Completed count) k
 closed (turned.Trapped trap) at stops turns count k = failing stops (noted at (End (ending.Trapped trap) count) k)
+closed turned.NeedsLine at stops turns count k = noted at Ask k
 closed turned.NoMemory at stops turns count k = failing stops (noted at (Stop turns cause.Memory count) k)
 
-abbrev pub sliced : Turned → ℕ → Bool → (ℕ → Meaning) → ℕ → ℕ → KernelState → KernelState
-sliced answer at stops goes before n k =
-    closed answer at stops (goes n).turns (count k.log) (flushed at goes before n k)
+-- the output at n turns behind that of the last flush
+abbrev pub written : {S T : Type 0} → Spoken S T → Log → Running → ℕ → List ℕ
+written spoken log r n = drop (length (stood spoken log r).output) (meaning spoken log r n).output
+
+-- what a cell wrote in n turns in all is flushed, by the machine's answer
+abbrev pub written_out : {S T : Type 0} → Spoken S T → Turned → Running → ℕ → KernelState T → KernelState T
+written_out spoken answer r n k = flushed answer (has_lines r.fresh) r.at (meaning spoken k.log r n).turns (written spoken k.log r n) k
+
+-- a slice to n turns in all
+abbrev pub sliced : {S T : Type 0} → Spoken S T → Turned → Running → ℕ → KernelState T → KernelState T
+sliced spoken answer r n k =
+    closed answer r.at r.request.stop_on_error (meaning spoken k.log r n).turns (count k.log) (written_out spoken answer r n k)
 
 -- the turns of a slice: a cell uses at most 2^64 - 1 in all
 abbrev pub allowed : ℕ → ℕ → ℕ
 allowed before turns = min turns (2 ^ 64 - 1 - before)
 
--- A slice of so many turns: all of them, or fewer where memory was refused to a cell that could go on.
-abbrev pub Slice : ℕ → Bool → (ℕ → Meaning) → ℕ → ℕ → KernelState → Turned → ℕ → KernelState → Type 0
-Slice at stops goes before turns old answer given new =
-    IsGiven answer (allowed before turns) given
-    × OutcomeIs answer (goes (before + given)).outcome
-    × (new ≡ sliced answer at stops goes before (before + given) old)
+-- how many turns a cell may have used at the end of a slice
+abbrev pub limit : {T : Type 0} → ℕ → KernelState T → ℕ
+limit turns k = k.ran + allowed k.ran turns
+
+-- So often the cell needed a line within n turns and there was none to be had: from one cell and kernel to the next.
+abbrev pub GoesWithout : {S T : Type 0} → Spoken S T → ℕ → ℕ → Running → KernelState T → Running → KernelState T → Type 0
+GoesWithout spoken zero n r old now new = (now ≡ r) × (new ≡ old)
+GoesWithout spoken (suc more) n r old now new =
+    Lacks spoken old.log r n × GoesWithout spoken more n (lined None r) (noted r.at (Line None) old) now new
+
+-- The end of a slice of at most n turns in all, by what work answers. All turns were there, or fewer where memory was
+-- refused to a cell that could go on. A cell asks where it may; where a line is not to be had and the log has no room to
+-- say so, the cell stands there.
+abbrev pub Closes : {S T : Type 0} → Spoken S T → ℕ → Running → KernelState T → Work → KernelState T → Type 0
+Closes spoken n r old Rest new = ⊥
+Closes spoken n r old NeedsParse new = ⊥
+Closes spoken n r old Ran new =
+    (answer : Turned) × (turns : ℕ) × (answer ≢ turned.NeedsLine) × (old.ran ≤ turns) × IsGiven answer n turns
+    × OutcomeIs answer (meaning spoken old.log r turns).outcome × (new ≡ sliced spoken answer r turns old)
+Closes spoken n r old NeedsLine new =
+    MayAsk old.log r × ((meaning spoken old.log r n).outcome ≡ outcome.NeedsLine) × (new ≡ sliced spoken turned.NeedsLine r n old)
+Closes spoken n r old NoMemory new = Lacks spoken old.log r n × (new ≡ written_out spoken turned.NeedsLine r n old)
 
 -- the cell that runs goes on
-abbrev pub GoesOn : ℕ → Running → KernelState → KernelState → Type 0
-GoesOn turns r old new =
-    (answer : Turned) × (given : ℕ)
-    × Slice r.at r.request.stop_on_error (meaning old.log r) r.turns turns old answer given new
+abbrev pub GoesOn : {S T : Type 0} → Spoken S T → ℕ → Running → KernelState T → Work → KernelState T → Type 0
+GoesOn {T = T} spoken turns r old work new =
+    (nones : ℕ) × (now : Running) × (k : KernelState T)
+    × GoesWithout spoken nones (limit turns old) r old now k × Closes spoken (limit turns old) now k work new
 
 -- whether an error of the request at a place aborts what waits
 abbrev pub stops_at : ℕ → Log → Bool
 stops_at at log = option_or (λ (e : Execute). e.stop_on_error) false (execute_at at log)
 
+-- whether the request at a place allows input
+abbrev pub allows_at : ℕ → Log → Bool
+allows_at at log = option_or (λ (e : Execute). e.allow_stdin) false (execute_at at log)
+
 -- the request at a place begins, and ends at once, since its text is refused by compiling or its commands do not link
-abbrev pub broken : ℕ → Refusal → KernelState → KernelState
+abbrev pub broken : {T : Type 0} → ℕ → Refusal → KernelState T → KernelState T
 broken at refusal k =
     failing (stops_at at k.log) (noted at (End (ending.Refused refusal) (next_count at k.log)) (noted at (Flush 0 []) (begun at k)))
 
 -- the request at a place does not run for this
-pub record IsBrokenAt (at : ℕ) (refusal : Refusal) (log : Log) : Type 0 where
+pub record IsBrokenAt {S T : Type 0} (spoken : Spoken S T) (at : ℕ) (refusal : Refusal) (log : Log) : Type 0 where
   pub request : Execute
   pub there : execute_at at log ≡ Some request
-  pub breaks : IsRefusedFor (session log) request.code refusal
+  pub breaks : spoken.IsRefusedFor (session spoken log) request.code refusal
 
 -- the request at a place begins, and goes on
-abbrev pub BeginsAt : ℕ → ℕ → KernelState → KernelState → Type 0
-BeginsAt turns at old new = (r : Running) × (running (begun at old).log ≡ Some r) × GoesOn turns r (begun at old) new
+abbrev pub BeginsAt : {S T : Type 0} → Spoken S T → ℕ → ℕ → KernelState T → Work → KernelState T → Type 0
+BeginsAt spoken turns at old work new =
+    (r : Running) × (running (begun at old).log ≡ Some r) × GoesOn spoken turns r (begun at old) work new
 
 -- what comes of the first that waits, by its result
-abbrev pub Starts : ℕ → ℕ → Option Parsed → KernelState → KernelState → Type 0
-Starts turns at None old new = ⊥
-Starts turns at (Some parsed.Memory) old new = new ≡ noted at (Refuse (count old.log)) old
-Starts turns at (Some (parsed.Fault fault)) old new = new ≡ broken at (Compile fault) old
-Starts turns at (Some (parsed.Tree cell)) old new =
-    BeginsAt turns at old new ⊎ ((refusal : Refusal) × IsBrokenAt at refusal old.log × (new ≡ broken at refusal old))
+abbrev pub Starts : {S T : Type 0} → Spoken S T → ℕ → ℕ → Option (Parsed T) → KernelState T → Work → KernelState T → Type 0
+Starts spoken turns at None old work new = ⊥
+Starts spoken turns at (Some parsed.Memory) old work new = (work ≡ Ran) × (new ≡ noted at (Refuse (count old.log)) old)
+Starts spoken turns at (Some (parsed.Fault fault)) old work new = (work ≡ Ran) × (new ≡ broken at (Compile fault) old)
+Starts spoken turns at (Some (parsed.Tree cell)) old work new =
+    BeginsAt spoken turns at old work new
+    ⊎ ((refusal : Refusal) × IsBrokenAt spoken at refusal old.log × (work ≡ Ran) × (new ≡ broken at refusal old))
 
-abbrev pub StartsFirst : ℕ → List Waiting → KernelState → KernelState → Type 0
-StartsFirst turns [] old new = ⊥
-StartsFirst turns (w ∷ ws) old new = Starts turns w.at w.result (with_waits ws old) new
+abbrev pub StartsFirst : {S T : Type 0} → Spoken S T → ℕ → List (Waiting T) → KernelState T → Work → KernelState T → Type 0
+StartsFirst spoken turns [] old work new = ⊥
+StartsFirst spoken turns (w ∷ ws) old work new = Starts spoken turns w.at w.result (with_waits ws old) work new
 
 -- the first that waits has no result
-abbrev pub FirstUnread : List Waiting → Type 0
+abbrev pub FirstUnread : {T : Type 0} → List (Waiting T) → Type 0
 FirstUnread [] = ⊥
 FirstUnread (w ∷ ws) = w.result ≡ None
 
--- what one call of work does, by its answer
-abbrev pub Works : ℕ → KernelState → Work → KernelState → Type 0
-Works turns old Rest new = (new ≡ old) × (running old.log ≡ None) × (old.waits ≡ [])
-Works turns old NeedsParse new = (new ≡ old) × (running old.log ≡ None) × FirstUnread old.waits
-Works turns old NoMemory new = new ≡ old
-Works turns old Ran new =
-    ((r : Running) × (running old.log ≡ Some r) × GoesOn turns r old new)
-    ⊎ ((running old.log ≡ None) × StartsFirst turns old.waits old new)
+-- a cell asked, has no line yet, and its seat is here
+abbrev pub IsAsking : Log → Type 0
+IsAsking log = (r : Running) × (running log ≡ Some r) × (r.asked ≡ true) × (left r.seat r.at log ≡ false)
+
+-- the cell that runs goes on, or the first that waits starts
+abbrev pub Moves : {S T : Type 0} → Spoken S T → ℕ → KernelState T → Work → KernelState T → Type 0
+Moves spoken turns old work new =
+    ((r : Running) × (running old.log ≡ Some r) × GoesOn spoken turns r old work new)
+    ⊎ ((running old.log ≡ None) × StartsFirst spoken turns old.waits old work new)
+
+-- What one call of work does, by its answer. Where memory is wanting nothing has changed, but for a cell that went on to
+-- where it lacks a line.
+abbrev pub Works : {S T : Type 0} → Spoken S T → ℕ → KernelState T → Work → KernelState T → Type 0
+Works spoken turns old Rest new = (new ≡ old) × (running old.log ≡ None) × (old.waits ≡ [])
+Works spoken turns old NeedsParse new = (new ≡ old) × (running old.log ≡ None) × FirstUnread old.waits
+Works spoken turns old NoMemory new = (new ≡ old) ⊎ Moves spoken turns old NoMemory new
+Works spoken turns old NeedsLine new = IsAsking new.log × ((new ≡ old) ⊎ Moves spoken turns old NeedsLine new)
+Works spoken turns old Ran new = Moves spoken turns old Ran new
+
+abbrev pub none_waits : {T : Type 0} → List (Waiting T) → Bool
+none_waits [] = true
+none_waits (w ∷ ws) = false
+
+-- no cell runs, and nothing waits
+abbrev pub is_at_rest : {T : Type 0} → KernelState T → Bool
+is_at_rest k = not (is_some (running k.log)) && none_waits k.waits
 
 abbrev pub code_at : ℕ → Log → Option (List ℕ)
 code_at at log = option_with (λ (e : Execute). e.code) (execute_at at log)
 
 -- the first request whose number is past those of the jobs given
-abbrev pub first_after : ℕ → List Waiting → Option Waiting
+abbrev pub first_after : {T : Type 0} → ℕ → List (Waiting T) → Option (Waiting T)
 first_after given ws = find (λ w. nat_lt given w.number) ws
 
-abbrev pub with_given : ℕ → KernelState → KernelState
-with_given given k = record { log = k.log; pending = k.pending; waits = k.waits; given = given }
+abbrev pub with_given : {T : Type 0} → ℕ → KernelState T → KernelState T
+with_given given k = record { log = k.log; pending = k.pending; waits = k.waits; given = given; ran = k.ran }
 
 -- each request that waits is given once, in their order
-abbrev pub GivesJob : KernelState → Option Job → KernelState → Type 0
+abbrev pub GivesJob : {T : Type 0} → KernelState T → Option Job → KernelState T → Type 0
 GivesJob old None new = (first_after old.given old.waits ≡ None) × (new ≡ old)
-GivesJob old (Some job) new =
-    (w : Waiting) × (first_after old.given old.waits ≡ Some w)
+GivesJob {T = T} old (Some job) new =
+    (w : Waiting T) × (first_after old.given old.waits ≡ Some w)
     × (job.number ≡ w.number) × (code_at w.at old.log ≡ Some job.text) × (new ≡ with_given w.number old)
 
 -- the request has that number, exactly that text and no result yet
-pub record CanKeep (log : Log) (job : ℕ) (read : List ℕ) (w : Waiting) : Type 0 where
+pub record CanKeep {T : Type 0} (log : Log) (job : ℕ) (read : List ℕ) (w : Waiting T) : Type 0 where
   pub number : w.number ≡ job
   pub text : code_at w.at log ≡ Some read
   pub unread : w.result ≡ None
 
-abbrev pub with_result : Parsed → Waiting → Waiting
+abbrev pub with_result : {T : Type 0} → Parsed T → Waiting T → Waiting T
 with_result outcome w = record { at = w.at; number = w.number; result = Some outcome }
 
 -- a result is kept exactly where a request can keep it
-abbrev pub Hands : Reading → KernelState → Used → KernelState → Type 0
-Hands p old Kept new =
-    (i : ℕ) × (w : Waiting) × (slice_get old.waits i ≡ Some w) × CanKeep old.log p.job p.text w
+abbrev pub Hands : {T : Type 0} → Reading T → KernelState T → Used (Reading T) → KernelState T → Type 0
+Hands {T = T} p old Kept new =
+    (i : ℕ) × (w : Waiting T) × (slice_get old.waits i ≡ Some w) × CanKeep old.log p.job p.text w
     × (new ≡ with_waits (slice_set old.waits i (with_result p.outcome w)) old)
-Hands p old (Stranger back) new =
-    (back ≡ p) × (new ≡ old) × ((i : ℕ) (w : Waiting) → slice_get old.waits i ≡ Some w → CanKeep old.log p.job p.text w → ⊥)
+Hands {T = T} p old (Stranger back) new =
+    (back ≡ p) × (new ≡ old) × ((i : ℕ) (w : Waiting T) → slice_get old.waits i ≡ Some w → CanKeep old.log p.job p.text w → ⊥)
 
 -- so many of the pending marks were handed on
-abbrev pub without : ℕ → KernelState → KernelState
-without marks k = record { log = k.log; pending = drop marks k.pending; waits = k.waits; given = k.given }
+abbrev pub without : {T : Type 0} → ℕ → KernelState T → KernelState T
+without marks k = record { log = k.log; pending = drop marks k.pending; waits = k.waits; given = k.given; ran = k.ran }

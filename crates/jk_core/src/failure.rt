@@ -2,12 +2,12 @@
 
 ghost use Rattle.std.specs.Prelude.{◌≡◌, IfOk, flat_map, string_bytes};
 ghost use Rattle.std.specs.Char.{encode_utf8};
-ghost use Rattle.jk_core.specs.Failures.{compile_failure, link_value, link_failure, refusal_failure, trap_failure, cause_failure, code_number};
+ghost use Rattle.jk_core.specs.Failures.{compile_failure, link_value, link_failure, refusal_failure, trap_failure, cause_failure};
 
 use crate::mark::Cause;
+use jk_language::{Fault, LinkFault, Refusal, Trap};
 use jp_msg::Failure;
 use json_form::Text;
-use ob_cell::{Code, Fault, LinkFault, Refusal, Trap};
 use std::alloc::{AllocError, Global};
 
 /// The error of a cell that does not run.
@@ -20,7 +20,7 @@ pub(crate) fn of_refusal(alloc: Global, refusal: &Refusal) -> Result<Failure, Al
     }
 }
 
-/// The error of commands that can't be called.
+/// The error of a cell that does not link.
 fn of_link(alloc: Global, fault: &LinkFault) -> Result<Failure, AllocError>
     ensures { IfOk result (λ failure. failure ≡ link_failure fault.now) }
 {
@@ -47,6 +47,11 @@ fn link_text(alloc: Global, fault: &LinkFault) -> Result<Text, AllocError>
             let text = format!(in alloc; "link error 31: {home}.{name}")?;
             Ok(Text::from_string(text))
         }
+        LinkFault::OtherKey(home) => {
+            let home = latin_text(alloc, home.as_slice())?;
+            let text = format!(in alloc; "link error 32: {home}")?;
+            Ok(Text::from_string(text))
+        }
     }
 }
 
@@ -55,10 +60,10 @@ fn link_text(alloc: Global, fault: &LinkFault) -> Result<Text, AllocError>
 fn of_fault(alloc: Global, fault: &Fault) -> Result<Failure, AllocError>
     ensures { IfOk result (λ failure. failure ≡ compile_failure fault.now) }
 {
-    let code = number_of(fault.code);
+    let number = fault.number;
     let line = fault.line;
     let column = fault.column;
-    let evalue = format!(in alloc; "compile error {code} at {line}:{column}")?;
+    let evalue = format!(in alloc; "compile error {number} at {line}:{column}")?;
     Ok(Failure {
         ename: Text::from_str(alloc, "CompileError")?,
         evalue: Text::from_string(evalue),
@@ -70,7 +75,7 @@ fn of_fault(alloc: Global, fault: &Fault) -> Result<Failure, AllocError>
 pub(crate) fn of_trap(alloc: Global, trap: &Trap) -> Result<Failure, AllocError>
     ensures { IfOk result (λ failure. failure ≡ trap_failure trap.now) }
 {
-    let number = trap.number();
+    let number = trap.number;
     let name = latin_text(alloc, trap.module.as_slice())?;
     let line = trap.line;
     let evalue = format!(in alloc; "trap {number} in {name}, line {line}")?;
@@ -100,32 +105,4 @@ fn latin_text(alloc: Global, chars: &[u8]) -> Result<String, AllocError>
         text.push(*letter as char)?;
     }
     Ok(text)
-}
-
-/// The number of a code.
-#[tactic(auto, unfolding(crate::specs::Failures::code_number))]
-fn number_of(code: Code) -> u64
-    ensures { result ≡ code_number code }
-{
-    match code {
-        Code::Character => 1,
-        Code::Comment => 2,
-        Code::String => 3,
-        Code::Number => 4,
-        Code::Token => 5,
-        Code::Nesting => 6,
-        Code::EndName => 7,
-        Code::UnknownName => 10,
-        Code::DeclaredTwice => 11,
-        Code::Types => 12,
-        Code::ReadOnly => 13,
-        Code::Parameters => 14,
-        Code::NotConstant => 15,
-        Code::NotLoaded => 16,
-        Code::ImportsItself => 17,
-        Code::NotExported => 18,
-        Code::Label => 19,
-        Code::Size => 20,
-        Code::LeftOut => 21,
-    }
 }

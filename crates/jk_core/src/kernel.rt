@@ -2,14 +2,17 @@
 
 ghost use Rattle.std.specs.Prelude.{◌≡◌, [], length, take, OnOk, OnErr, IfOk, IfErr, Ok};
 ghost use Rattle.jk_core.specs.Legal.{IsLegal};
-ghost use Rattle.jk_core.specs.Steps.{taken, without, Works, GivesJob, Hands};
+ghost use Rattle.jk_core.specs.Steps.{taken, without, is_at_rest as rests, Works, GivesJob, Hands};
 ghost use Rattle.jk_core.specs.State.{joined, fresh};
 
 use crate::arrival::Arrival;
 use crate::entry::Entry;
 use crate::job::{Job, ParsedCell};
-use crate::run::{Desk, take_in, work_on};
+use crate::desk::{Desk, Place, new_desk};
+use crate::run::work_on;
 use crate::script::{Script, keep};
+use crate::taking::take_in;
+use jk_language::Language;
 use std::alloc::{AllocError, AllocFailed, Global};
 use std::marker::Model;
 
@@ -22,55 +25,54 @@ pub enum Work {
     NeedsParse,
     /// A cell went on by all the turns given, or ended, or a request was marked.
     Ran,
-    /// Memory was refused, and nothing has changed.
+    /// The cell that runs asked its seat for a line, and has none yet. A call while it asks changes nothing.
+    NeedsLine,
+    /// Memory was refused, and nothing has changed; or the cell that runs has gone on, as by fewer turns, to where it
+    /// has to go on without a line, which found no room in the log.
     NoMemory,
 }
 
 /// What became of a result.
 #[derive(Drop)]
-pub enum Used {
+pub enum Used<P> {
     Kept,
     /// No waiting request has that number and that text and no result yet.
-    Stranger(ParsedCell),
+    Stranger(P),
 }
 
 /// One kernel: its log, what waits, what is pending, and the cell that runs.
 #[derive(Drop)]
-pub struct Kernel {
-    script: Script,
-    desk: Desk,
+pub struct Kernel<L: Language> {
+    script: Script<L::Tree>,
+    desk: Desk<L::Session, L::Machine>,
 }
 
-impl Model for Kernel {
+impl<L: Language> Model for Kernel<L> {
     ghost use Rattle.jk_core.specs.State.{KernelState};
     ghost use Rattle.jk_core.specs.Kept.{IsKept, Stands};
     ghost use Rattle.std.specs.Coded.{codes};
     ghost use Rattle.json_form.specs.contracts.kept.Json as json;
-    ghost use Rattle.ob_parse.specs.contracts.tree.Declarations as declarations;
-    ghost use Rattle.ob_parse.specs.contracts.tree.Expr as expr;
-    ghost use Rattle.ob_parse.specs.contracts.tree.Statement as statement;
-    ghost use Rattle.ob_parse.specs.contracts.tree.TypeExpr as type_expr;
 
-    ghost Value = { KernelState };
+    ghost Value = { KernelState L.Tree };
 
-    ghost coded = { Prim.hlevel (codes, json.the_row.coded, declarations.the_row.coded, statement.the_row.coded, type_expr.the_row.coded, expr.the_row.coded) };
+    ghost coded = { Prim.hlevel (codes, json.the_row.coded, L.Tree.code) };
 
     ghost view = { λ k. k.script.state };
 
     ghost invariant = { λ k. record {
-      kept : IsKept k.script.state;
-      stands : Stands k.script.state.log k.desk;
+      kept : IsKept L.spoken k.script.state;
+      stands : Stands L.spoken L.state k.script.state k.desk;
     } };
 }
 
-impl Kernel {
+impl<L: Language> Kernel<L> {
     /// A kernel that has taken nothing.
-    pub fn new(alloc: Global) -> Result<Kernel, AllocError>
+    pub fn new(alloc: Global) -> Result<Kernel<L>, AllocError>
         ensures { result ≡ Ok fresh }
     {
         Ok(Kernel {
             script: Script::new(alloc),
-            desk: Desk::new(alloc),
+            desk: new_desk::<L>(alloc),
         })
     }
 
@@ -79,17 +81,17 @@ impl Kernel {
     pub fn take(&mut self, arrival: Arrival) -> Result<(), AllocFailed<Arrival>>
         ensures ok { OnOk result (self.new ≡ taken arrival self.old) }
         ensures err { IfErr result (λ back. (back.value ≡ arrival) × (self.new ≡ self.old)) }
-        ensures legal { IsLegal self.new.log }
+        ensures legal { IsLegal L.spoken self.new.log }
     {
-        take_in(&mut self.script, &mut self.desk, arrival)
+        take_in::<L>(&mut self.script, &mut self.desk, arrival)
     }
 
     /// Goes on by at most so many turns with the cell that runs, or begins what waits first.
     pub fn work(&mut self, turns: u64) -> Work
-        ensures works { Works turns self.old result self.new }
-        ensures legal { IsLegal self.new.log }
+        ensures works { Works L.spoken turns self.old result self.new }
+        ensures legal { IsLegal L.spoken self.new.log }
     {
-        work_on(&mut self.script, &mut self.desk, turns)
+        work_on::<L>(&mut self.script, &mut self.desk, turns)
     }
 
     /// The text of the next request that waits and was not given. Each is given once, in the order taken.
@@ -97,14 +99,31 @@ impl Kernel {
         ensures ok { IfOk result (λ job. GivesJob self.old job self.new) }
         ensures err { OnErr result (self.new ≡ self.old) }
     {
-        self.script.next_job()
+        self.script.next_job::<L>()
     }
 
     /// Keeps the result of a job, where a request waits for it.
-    pub fn parsed(&mut self, cell: ParsedCell) -> Used
+    pub fn parsed(&mut self, cell: ParsedCell<L>) -> Used<ParsedCell<L>>
         ensures { Hands cell self.old result self.new }
     {
         keep(&mut self.script, cell)
+    }
+
+    /// Whether no cell runs and nothing waits.
+    pub fn is_at_rest(&self) -> bool
+        ensures { result ≡ rests self.now }
+    {
+        match &self.desk.place {
+            Place::Resting(_) => self.script.first().is_none(),
+            Place::Running(_) => false,
+        }
+    }
+
+    /// The log is legal.
+    pub fn legal(&self)
+        ensures { IsLegal L.spoken self.now.log }
+    {
+        let _ = &self.script;
     }
 
     /// How many marks are pending.

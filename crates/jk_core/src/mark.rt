@@ -1,8 +1,8 @@
 //! What the kernel writes down.
 
 use crate::arrival::Arrival;
+use jk_language::{Refusal, Trap};
 use json_form::Text;
-use ob_cell::{Refusal, Trap};
 
 /// Why a cell was stopped.
 #[derive(Clone, Copy, Debug, PartialEq, Eq)]
@@ -24,6 +24,7 @@ pub enum Ending {
 #[derive(Drop)]
 pub enum Kind {
     Join,
+    Leave,
     Begin {
         count: u64,
     },
@@ -31,6 +32,12 @@ pub enum Kind {
     Flush {
         turns: u64,
         text: Text,
+    },
+    /// The cell asks its seat for a line.
+    Ask,
+    /// A line for the cell that runs, or that there is none to be had.
+    Line {
+        text: Option<Text>,
     },
     End {
         ending: Ending,

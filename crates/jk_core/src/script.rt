@@ -1,18 +1,21 @@
 //! What was taken and marked, and what waits.
 
-ghost use Rattle.std.specs.Prelude.{◌≡◌, ℕ, ◌+◌, ◌^◌, ◌<◌, ◌≤◌, [], ◌∷◌, List, drop, take, length, reverse, is_some, slice_get, IsTrue, IfSome, IfNone, OnOk, OnErr, IfOk, IfErr, option_copied, None, Some};
-ghost use Rattle.jk_core.specs.Steps.{noted, took, with_waits, without, GivesJob, Hands, CanKeep, first_after as first_after_of};
+ghost use Rattle.std.specs.Prelude.{◌≡◌, ℕ, ◌+◌, ◌^◌, ◌<◌, ◌≤◌, [], ◌∷◌, ◌++◌, List, drop, take, length, reverse, is_some, slice_get, IsTrue, IfSome, IfNone, OnOk, OnErr, IfOk, IfErr, option_copied, None, Some};
+ghost use Rattle.std.specs.Vec.{vec_capacity, vec_len};
+ghost use Rattle.jk_core.specs.Steps.{arrived, noted, took, with_next, with_waits, with_ran, ran_after, without, GivesJob, Hands, CanKeep, first_after as first_after_of};
 ghost use Rattle.jk_core.specs.Kept.{AllWait, IsKept};
 ghost use Rattle.jk_core.specs.State.{WaitingOf};
-ghost use Rattle.jk_core.specs.Log.{arrival_at, execute_at, option_with};
-ghost use Rattle.jk_core.specs.State.{first_of, joined, pending_from};
+ghost use Rattle.jk_core.specs.Log.{arrival_at, execute_at, input_at, seat_at, left, option_with};
+ghost use Rattle.jk_core.specs.State.{first_of, fresh, joined, pending_from};
 
-use crate::arrival::{Arrival, Sort, execute_sent, sort_of};
+use crate::arrival::{Arrival, Sort, execute_sent, input_sent, sort_of};
 use crate::entry::Entry;
 use crate::job::{Job, Parsed, ParsedCell};
 use crate::kernel::Used;
+use crate::leaves::Leaves;
 use crate::mark::{Item, Kind, Mark};
 use crate::show::next_entries;
+use jk_language::Language;
 use jp_msg::Execute;
 use json_form::Text;
 use std::alloc::{AllocError, AllocFailed, Global};
@@ -21,53 +24,54 @@ use std::marker::Model;
 
 /// A shell request that is taken and not yet marked.
 #[derive(Drop)]
-pub(crate) struct Waiting {
+pub(crate) struct Waiting<T> {
     pub at: usize,
     pub number: u64,
-    pub result: Option<Parsed>,
+    pub result: Option<Parsed<T>>,
 }
 
 /// What was taken and marked, and what waits.
 #[derive(Drop)]
-pub(crate) struct Script {
+pub(crate) struct Script<T> {
     log: Vec<Item>,
     /// How many items of the log `take_pending` has passed.
     shown: usize,
-    waiting: VecDeque<Waiting>,
+    waiting: VecDeque<Waiting<T>>,
     given: u64,
     taken: u64,
+    /// The turns of the cell that runs.
+    ran: u64,
+    leaves: Leaves,
 }
 
-impl Model for Script {
-    ghost use Rattle.std.specs.Prelude.{◌≡◌, ◌-◌, ◌≤◌, length, reverse};
+impl<T> Model for Script<T> {
+    ghost use Rattle.std.specs.Prelude.{◌≡◌, ◌-◌, ◌≤◌, ◌<◌, ℕ, Some, length, reverse, slice_get};
     ghost use Rattle.std.specs.Vec.{vec_capacity, vec_len};
     ghost use Rattle.jk_core.specs.Log.{arrivals};
+    ghost use Rattle.jk_core.specs.State.{last_leave};
     ghost use Rattle.jk_core.specs.State.{ScriptState, state_of};
     ghost use Rattle.std.specs.Coded.{codes};
     ghost use Rattle.json_form.specs.contracts.kept.Json as json;
-    ghost use Rattle.ob_parse.specs.contracts.tree.Declarations as declarations;
-    ghost use Rattle.ob_parse.specs.contracts.tree.Expr as expr;
-    ghost use Rattle.ob_parse.specs.contracts.tree.Statement as statement;
-    ghost use Rattle.ob_parse.specs.contracts.tree.TypeExpr as type_expr;
 
-    ghost Value = { ScriptState };
+    ghost Value = { ScriptState T };
 
-    ghost coded = { Prim.hlevel (codes, json.the_row.coded, declarations.the_row.coded, statement.the_row.coded, type_expr.the_row.coded, expr.the_row.coded) };
+    ghost coded = { Prim.hlevel (codes, json.the_row.coded, T.code) };
 
     ghost view = { λ s. record {
-      state = state_of s.log.items s.shown s.waiting.items s.given;
+      state = state_of s.log.items s.shown s.waiting.items s.given s.ran;
       room = vec_capacity s.log - vec_len s.log;
     } };
 
     ghost invariant = { λ s. record {
       shown : s.shown ≤ length s.log.items;
       taken : s.taken ≡ arrivals (reverse s.log.items);
+      left : (seat : ℕ) → seat < 256 → slice_get s.leaves seat ≡ Some (last_leave seat (reverse s.log.items));
     } };
 }
 
-impl Script {
-    pub fn new(alloc: Global) -> Script
-        ensures { result.state ≡ record { log = []; pending = []; waits = []; given = 0 } }
+impl<T: Drop> Script<T> {
+    pub fn new(alloc: Global) -> Script<T>
+        ensures { result.state ≡ fresh }
     {
         Script {
             log: Vec::new(alloc),
@@ -75,12 +79,15 @@ impl Script {
             waiting: VecDeque::new(alloc),
             given: 0,
             taken: 0,
+            ran: 0,
+            leaves: Leaves::none(),
         }
     }
 
     /// Makes room for so many more items.
     pub fn reserve(&mut self, more: usize) -> Result<(), AllocError>
         ensures state { self.new.state ≡ self.old.state }
+        ensures kept { self.old.room ≤ self.new.room }
         ensures room { OnOk result (more ≤ self.new.room) }
     {
         self.log.reserve(more)
@@ -94,34 +101,62 @@ impl Script {
     {
         let room = self.log.len() < self.log.capacity();
         prove!(room);
+        self.ran = ran_by(&kind, self.ran);
         let _ = self.log.push(Item::Marked(Mark { at, kind }));
     }
 
+    /// The cell that runs has gone on to so many turns.
+    pub fn go_on(&mut self, turns: u64)
+        ensures state { self.new.state ≡ with_ran turns self.old.state }
+        ensures room { self.new.room ≡ self.old.room }
+    {
+        self.ran = turns;
+    }
+
     /// Takes an arrival, for which there is room.
-    #[tactic(auto, using(crate::proofs::Logs::arrivals_few))]
     pub fn take(&mut self, arrival: Arrival) -> Result<(), AllocFailed<Arrival>>
         requires { 0 < self.old.room }
         ensures ok { OnOk result (self.new.state ≡ took arrival self.old.state) }
         ensures room { self.old.room ≤ self.new.room + 1 }
         ensures err { IfErr result (λ back. (back.value ≡ arrival) × (self.new.state ≡ self.old.state)) }
     {
-        let number = self.taken + 1;
         if let Sort::Execute = sort_of(&arrival.what) {
-            let waiting = Waiting {
-                at: self.log.len(),
-                number,
-                result: None,
-            };
-            match self.waiting.push_back(waiting) {
+            match self.wait() {
                 Ok(()) => {}
                 Err(_) => return Err(AllocFailed { value: arrival }),
             }
         }
-        self.taken = number;
-        let room = self.log.len() < self.log.capacity();
-        prove!(room);
-        let _ = self.log.push(Item::Took(arrival));
+        self.arrive(arrival);
         Ok(())
+    }
+
+    /// The next arrival is to wait.
+    fn wait(&mut self) -> Result<(), AllocError>
+        ensures ok { OnOk result (self.new.state ≡ with_next self.old.state) }
+        ensures room { self.new.room ≡ self.old.room }
+        ensures err { OnErr result (self.new.state ≡ self.old.state) }
+    {
+        let number = self.taken + 1;
+        let waiting = Waiting {
+            at: self.log.len(),
+            number,
+            result: None,
+        };
+        match self.waiting.push_back(waiting) {
+            Ok(()) => Ok(()),
+            Err(_) => Err(AllocError),
+        }
+    }
+
+    /// Writes an arrival down.
+    fn arrive(&mut self, arrival: Arrival)
+        requires { 0 < self.old.room }
+        ensures state { self.new.state ≡ arrived arrival self.old.state }
+        ensures room { self.old.room ≤ self.new.room + 1 }
+    {
+        self.taken += 1;
+        self.leaves.take(&arrival, self.log.len());
+        push(&mut self.log, Item::Took(arrival));
     }
 
     /// How many requests wait.
@@ -151,14 +186,14 @@ impl Script {
     }
 
     /// The first request that waits.
-    pub fn first(&self) -> Option<&Waiting>
+    pub fn first(&self) -> Option<&Waiting<T>>
         ensures { option_copied result ≡ first_of self.now.state.waits }
     {
         self.waiting.front()
     }
 
     /// Takes the first request that waits off the others.
-    pub fn pop_waiting(&mut self) -> Option<Waiting>
+    pub fn pop_waiting(&mut self) -> Option<Waiting<T>>
         ensures first { result ≡ first_of self.old.state.waits }
         ensures rest { self.new.state ≡ with_waits (drop 1 self.old.state.waits) self.old.state }
         ensures room { self.new.room ≡ self.old.room }
@@ -174,6 +209,33 @@ impl Script {
         ensures { option_copied result ≡ execute_at at self.now.state.log }
     {
         execute_in(self.log.as_slice(), at)
+    }
+
+    /// The line that was sent at a place of the log.
+    pub fn input_at(&self, at: usize) -> Option<&Text>
+        ensures { option_copied result ≡ input_at at self.now.state.log }
+    {
+        match arrival_in(self.log.as_slice(), at) {
+            Some(arrival) => input_sent(&arrival.what),
+            None => None,
+        }
+    }
+
+    /// The seat of the arrival at a place of the log.
+    pub fn seat_at(&self, at: usize) -> u8
+        ensures { result ≡ seat_at at self.now.state.log }
+    {
+        match arrival_in(self.log.as_slice(), at) {
+            Some(arrival) => arrival.seat,
+            None => 0,
+        }
+    }
+
+    /// Whether a seat has left since a place of the log.
+    pub fn has_left(&self, seat: u8, at: usize) -> bool
+        ensures { result ≡ left seat at self.now.state.log }
+    {
+        at < self.leaves.last(seat)
     }
 
     /// The entries of the first so many pending marks, which pend no more.
@@ -196,8 +258,8 @@ impl Script {
     }
 
     /// The job of the next request that waits and was not given.
-    pub fn next_job(&mut self) -> Result<Option<Job>, AllocError>
-        requires { AllWait self.old.state.log self.old.state.waits }
+    pub fn next_job<L: Language<Tree = T>>(&mut self) -> Result<Option<Job>, AllocError>
+        requires { AllWait L.spoken self.old.state.log self.old.state.waits }
         ensures ok { IfOk result (λ job. GivesJob self.old.state job self.new.state) }
         ensures err { OnErr result (self.new.state ≡ self.old.state) }
     {
@@ -219,7 +281,7 @@ impl Script {
     }
 
     /// Keeps a result where a request can keep it.
-    pub fn keep(&mut self, cell: ParsedCell) -> Used
+    pub fn keep<L: Language<Tree = T>>(&mut self, cell: ParsedCell<L>) -> Used<ParsedCell<L>>
         ensures { Hands cell self.old.state result self.new.state }
     {
         let place = place_for(self.log.as_slice(), &self.waiting, cell.job(), cell.text());
@@ -231,6 +293,37 @@ impl Script {
                 Used::Kept
             }
         }
+    }
+}
+
+/// Adds an item, for which there is room.
+fn push(log: &mut Vec<Item>, item: Item)
+    requires { vec_len log.old < vec_capacity log.old }
+    ensures items { log.new.items ≡ log.old.items ++ item ∷ [] }
+    ensures length { vec_len log.new ≡ vec_len log.old + 1 }
+    ensures capacity { vec_capacity log.old ≤ vec_capacity log.new }
+{
+    let room = log.len() < log.capacity();
+    prove!(room);
+    let _ = log.push(item);
+}
+
+/// The turns of the cell that runs, after a mark.
+fn ran_by(kind: &Kind, ran: u64) -> u64
+    ensures { result ≡ ran_after kind.now ran }
+{
+    match kind {
+        Kind::Begin { .. } => 0,
+        Kind::Flush { turns, text: _ } => *turns,
+        Kind::Join
+        | Kind::Leave
+        | Kind::Ask
+        | Kind::Line { .. }
+        | Kind::End { .. }
+        | Kind::Stop { .. }
+        | Kind::Refuse { .. }
+        | Kind::Abort
+        | Kind::Interrupt => ran,
     }
 }
 
@@ -258,7 +351,7 @@ fn execute_in(items: &[Item], at: usize) -> Option<&Execute>
 }
 
 /// The first request whose number is past those given.
-fn first_after(waiting: &VecDeque<Waiting>, given: u64) -> Option<&Waiting>
+fn first_after<T>(waiting: &VecDeque<Waiting<T>>, given: u64) -> Option<&Waiting<T>>
     ensures { option_copied result ≡ first_after_of given waiting.now.items }
 {
     waiting.iter().find(|w| given < w.number)
@@ -282,7 +375,7 @@ fn count_marks(items: &[Item], from: usize) -> usize
 }
 
 /// Whether a request can keep the result of this job and text.
-fn can_keep(items: &[Item], waiting: &Waiting, job: u64, text: &Text) -> bool
+fn can_keep<T>(items: &[Item], waiting: &Waiting<T>, job: u64, text: &Text) -> bool
     ensures yes { IsTrue result → CanKeep (reverse items.now) job text.now waiting.now }
     ensures no { CanKeep (reverse items.now) job text.now waiting.now → IsTrue result }
 {
@@ -296,9 +389,14 @@ fn can_keep(items: &[Item], waiting: &Waiting, job: u64, text: &Text) -> bool
 }
 
 /// The place of a request that can keep the result of this job and text.
-fn place_for(items: &[Item], waiting: &VecDeque<Waiting>, job: u64, text: &Text) -> Option<usize>
-    ensures found { IfSome result (λ i. (w : WaitingOf) × (slice_get waiting.now.items i ≡ Some w) × CanKeep (reverse items.now) job text.now w) }
-    ensures none { IfNone result ((i : ℕ) (w : WaitingOf) → slice_get waiting.now.items i ≡ Some w → CanKeep (reverse items.now) job text.now w → ⊥) }
+fn place_for<T>(
+    items: &[Item],
+    waiting: &VecDeque<Waiting<T>>,
+    job: u64,
+    text: &Text,
+) -> Option<usize>
+    ensures found { IfSome result (λ i. (w : WaitingOf T) × (slice_get waiting.now.items i ≡ Some w) × CanKeep (reverse items.now) job text.now w) }
+    ensures none { IfNone result ((i : ℕ) (w : WaitingOf T) → slice_get waiting.now.items i ≡ Some w → CanKeep (reverse items.now) job text.now w → ⊥) }
 {
     for i in 0..waiting.len() {
         if can_keep(items, &waiting[i], job, text) {
@@ -309,10 +407,13 @@ fn place_for(items: &[Item], waiting: &VecDeque<Waiting>, job: u64, text: &Text)
 }
 
 /// Keeps a result where a request can keep it.
-pub(crate) fn keep(script: &mut Script, cell: ParsedCell) -> Used
-    requires { IsKept script.old.state }
+pub(crate) fn keep<L: Language>(
+    script: &mut Script<L::Tree>,
+    cell: ParsedCell<L>,
+) -> Used<ParsedCell<L>>
+    requires { IsKept L.spoken script.old.state }
     ensures hands { Hands cell script.old.state result script.new.state }
-    ensures kept { IsKept script.new.state }
+    ensures kept { IsKept L.spoken script.new.state }
 {
     let _ = cell.outcome();
     script.keep(cell)

@@ -6,6 +6,7 @@ pub mod line;
 pub mod part;
 pub mod pool;
 pub mod rule;
+pub mod stop;
 
 pub use inbox::{Full, Inbox, Left, Seat, Seats, Taker, close};
 pub use jk_core::{Job, ParsedCell};

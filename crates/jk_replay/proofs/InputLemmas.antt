@@ -1,9 +1,12 @@
 -- What came of an input, a read at a time.
-use Rattle.std.proofs.Common.{◌≡◌, ◌<◌, ◌≤◌, ◌+◌, suc, ℕ, List, [], ◌++◌, length, Option, refl, sym, ◌∙◌, ap, arith, append_assoc, append-nil, length-append, drop, ◌∷◌, ◌-◌, ◌*◌, subst}
+use Rattle.std.proofs.Common.{◌≡◌, ◌<◌, ◌≤◌, ◌+◌, suc, ℕ, List, [], ◌++◌, length, Option, Err, refl, sym, ◌∙◌, ap, arith, append_assoc, append-nil, length-append, drop, ◌∷◌, ◌-◌, ◌*◌, subst}
 use Rattle.std.proofs.lemmas.List.{drop-append-le}
 use Rattle.std.proofs.KnownBytes.{Consumes-nil, Consumes-trans}
 use Rattle.std.specs.Io.KnownBytes.{Consumes}
-use Rattle.jk_replay.specs.Held.{InputState, Comes, most_input}
+use Rattle.jk_replay.specs.Held.{InputState, Comes, Refills, LeavesOver, most_input}
+use Rattle.jk_replay.specs.Lines.{IsOneLine}
+use Rattle.jk_replay.specs.declared.input.InputFault.{InputFault}
+use Rattle.jk_replay.specs.declared.input.InputFault.TheVariants.{Device, Memory}
 
 pub none_comes : (a : Option (List ℕ)) (i : InputState) → (came : List ℕ) × Comes a a i i came × (i.held ≡ i.held ++ came)
 none_comes a i = ([], record { consumes = Consumes-nil a; counted = omega arith; within = λ h. h }, sym (append-nil i.held))
@@ -21,6 +24,17 @@ held_more start bytes piece le = drop-append-le start bytes piece le
 -- what came in the turns before, and in a turn in which nothing was handed out
 pub comes_then : (a b c : Option (List ℕ)) (i j k l : InputState) (bs cs : List ℕ) → k ≡ j → Comes a b i j bs → Comes b c k l cs → Comes a c i l (bs ++ cs)
 comes_then a b c i j k l bs cs e p q = both_come a b c i j l bs cs p (subst (λ m. Comes b c m l cs) e q)
+
+-- where reading failed, no line stands in what was held before
+pub leaves_over : (after : Option (List ℕ)) (fault : InputFault) (i j : InputState) (first before came : List ℕ) → i.held ≡ first ++ before → IsOneLine i.held → Refills after i j came (Err fault) → LeavesOver fault j.taken (first ++ (before ++ came))
+leaves_over after Memory i j first before came e one past = tt
+leaves_over after Device i j first before came e one past = record {
+  held = i.held;
+  past = came;
+  split = sym (append_assoc first before came) ∙ ap (λ t. t ++ came) (sym e);
+  unended = one;
+  last = past;
+}
 
 abbrev pub opening : InputState
 opening = record { held = []; taken = 0 }

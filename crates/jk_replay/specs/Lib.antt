@@ -6,3 +6,4 @@ pub mod Replaying
 pub mod Replays
 pub mod Playing
 pub mod Writing
+pub mod Statuses

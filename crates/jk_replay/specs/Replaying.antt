@@ -1,8 +1,11 @@
 -- What a replay does, line by line.
-use Rattle.std.specs.Prelude.{◌≡◌, ◌≢◌, ℕ, ◌+◌, ◌-◌, ◌^◌, min, List, [], ◌∷◌, ◌++◌, length, Option, Some, None, Result, Ok, Err, ◌⊎◌, replicate, slice_index_or, slice_set, if◌then◌else◌, ◌==◌}
+use Rattle.std.specs.Prelude.{◌≡◌, ◌≢◌, ℕ, ◌+◌, ◌-◌, ◌^◌, min, Bool, true, false, List, [], ◌∷◌, ◌++◌, length, Option, Some, None, Result, Ok, Err, ◌⊎◌, replicate, slice_index_or, slice_set, if◌then◌else◌}
+use Rattle.json_form.specs.declared.fault.Fault.{Fault}
+use Rattle.json_form.specs.declared.fault.Fault.TheVariants.{WrongKind}
 use Rattle.jp_msg.specs.declared.message.Message.{Message}
 use Rattle.jp_msg.specs.declared.message.Channel.{Channel}
 use Rattle.jp_msg.specs.declared.message.Channel.TheVariants as channel
+use Rattle.jk_language.specs.Spoken.{Spoken}
 use Rattle.jk_core.specs.declared.arrival.What.{What}
 use Rattle.jk_core.specs.declared.arrival.What.TheVariants as what
 use Rattle.jk_core.specs.declared.job.Job.{Job}
@@ -17,9 +20,17 @@ use Rattle.jk_replay.specs.declared.step.Step.TheVariants as step
 use Rattle.jk_replay.specs.declared.replaying.Replay.{Replay}
 use Rattle.jk_replay.specs.Shown.{entry_lines}
 
--- a kernel, and how many arrivals each seat has sent
-abbrev pub ReplayState : Type 0
-ReplayState = Replay
+-- a kernel, how many arrivals each seat has sent, and which seats have joined and not left since
+abbrev pub ReplayState : Type 0 → Type 0
+ReplayState T = Replay (KernelState T)
+
+-- the same seats, with this kernel
+abbrev pub with_kernel : {T : Type 0} → KernelState T → ReplayState T → ReplayState T
+with_kernel k s = record { kernel = k; sent = s.sent; seated = s.seated }
+
+-- a kernel that has taken nothing, and seats that have sent nothing
+abbrev pub opening_of : {T : Type 0} → KernelState T → ReplayState T
+opening_of k = record { kernel = k; sent = replicate 256 0; seated = replicate 256 false }
 
 -- the channel that a message came on. No message is read on the channel of broadcasts
 abbrev pub sent_on : Channel → Message → What
@@ -29,41 +40,68 @@ sent_on channel.Stdin m = what.Stdin m
 sent_on channel.Iopub m = what.Stdin m
 
 -- the number of a seat's next arrival
-abbrev pub next_number : ℕ → ReplayState → ℕ
+abbrev pub next_number : {T : Type 0} → ℕ → ReplayState T → ℕ
 next_number seat s = min (slice_index_or s.sent seat 0 + 1) (2 ^ 64 - 1)
 
 -- a seat sends this, and the kernel takes it
-abbrev pub sends : ℕ → What → ReplayState → ReplayState
+abbrev pub sends : {T : Type 0} → ℕ → What → ReplayState T → ReplayState T
 sends seat w s = record {
   kernel = taken (record { seat = seat; number = next_number seat s; what = w }) s.kernel;
   sent = slice_set s.sent seat (next_number seat s);
+  seated = s.seated;
 }
 
--- a seat joins with the first that it sends
-abbrev pub joins : ℕ → ReplayState → ReplayState
-joins seat s = if slice_index_or s.sent seat 0 == 0 then sends seat what.Join s else s
+-- whether a seat has joined and not left since
+abbrev pub is_seated : {T : Type 0} → ℕ → ReplayState T → Bool
+is_seated seat s = slice_index_or s.seated seat false
+
+abbrev pub with_seat : {T : Type 0} → ℕ → Bool → ReplayState T → ReplayState T
+with_seat seat here s = record { kernel = s.kernel; sent = s.sent; seated = slice_set s.seated seat here }
+
+-- a seat joins with the first that it sends, and anew with the first after it left
+abbrev pub joins : {T : Type 0} → ℕ → ReplayState T → ReplayState T
+joins seat s = if is_seated seat s then s else with_seat seat true (sends seat what.Join s)
+
+-- a seat leaves
+abbrev pub leaves : {T : Type 0} → ℕ → ReplayState T → ReplayState T
+leaves seat s = with_seat seat false (sends seat what.Leave s)
+
+-- what may be asked for now: only a seat that has joined can leave
+abbrev pub admitted : {T : Type 0} → ReplayState T → Step → Result Step Fault
+admitted s (step.Message seat m) = Ok (step.Message seat m)
+admitted s (step.Run turns) = Ok (step.Run turns)
+admitted s (step.Leave seat) = if is_seated seat s then Ok (step.Leave seat) else Err WrongKind
 
 -- the next job, if there is one, is given, read and handed in: its tree, a fault that its text has, or want of memory
-abbrev pub ParsesOne : KernelState → KernelState → Type 0
-ParsesOne old new =
+abbrev pub ParsesOne : {S T : Type 0} → Spoken S T → KernelState T → KernelState T → Type 0
+ParsesOne {T = T} spoken old new =
     GivesJob old None new
-    ⊎ ((job : Job) × (reading : Reading) × (used : Used) × (mid : KernelState)
+    ⊎ ((job : Job) × (reading : Reading T) × (used : Used (Reading T)) × (mid : KernelState T)
     × GivesJob old (Some job) mid × (reading.job ≡ job.number) × (reading.text ≡ job.text)
-    × IsResult reading.text reading.outcome × Hands reading mid used new)
+    × IsResult spoken reading.text reading.outcome × Hands reading mid used new)
 
 -- all pending entries are shown
-abbrev pub shown : ReplayState → ReplayState
-shown s = record { kernel = without (length s.kernel.pending) s.kernel; sent = s.sent }
+abbrev pub shown : {T : Type 0} → ReplayState T → ReplayState T
+shown s = with_kernel (without (length s.kernel.pending) s.kernel) s
 
-abbrev pub pending_lines : KernelState → List ℕ
+abbrev pub pending_lines : {T : Type 0} → KernelState T → List ℕ
 pending_lines k = entry_lines (joined k.pending)
 
+-- a seat sends a message
+abbrev pub message_sent : {T : Type 0} → ℕ → Message → ReplayState T → ReplayState T
+message_sent seat m s = sends seat (sent_on m.channel m) (joins seat s)
+
+-- what a slice comes to, and the lines that it shows
+abbrev pub IsSliced : {S T : Type 0} → Spoken S T → ℕ → ReplayState T → Work → ReplayState T → List ℕ → Type 0
+IsSliced {T = T} spoken turns old answer new lines =
+    (k : KernelState T) × Works spoken turns old.kernel answer k × (answer ≢ work.NoMemory)
+    × (new ≡ shown (with_kernel k old)) × (lines ≡ pending_lines k)
+
 -- what a line that asks for something does, and the lines that it shows
-abbrev pub StepDone : Step → ReplayState → ReplayState → List ℕ → Type 0
-StepDone (step.Message seat m) old new lines =
-    (k : KernelState) × ParsesOne (sends seat (sent_on m.channel m) (joins seat old)).kernel k
-    × (new ≡ shown (record { kernel = k; sent = (sends seat (sent_on m.channel m) (joins seat old)).sent }))
-    × (lines ≡ pending_lines k)
-StepDone (step.Run turns) old new lines =
-    (k : KernelState) × (answer : Work) × Works turns old.kernel answer k × (answer ≢ work.NoMemory)
-    × (new ≡ shown (record { kernel = k; sent = old.sent })) × (lines ≡ pending_lines k)
+abbrev pub StepDone : {S T : Type 0} → Spoken S T → Step → ReplayState T → ReplayState T → List ℕ → Type 0
+StepDone {T = T} spoken (step.Message seat m) old new lines =
+    (k : KernelState T) × ParsesOne spoken (message_sent seat m old).kernel k
+    × (new ≡ shown (with_kernel k (message_sent seat m old))) × (lines ≡ pending_lines k)
+StepDone spoken (step.Run turns) old new lines = (answer : Work) × IsSliced spoken turns old answer new lines
+StepDone spoken (step.Leave seat) old new lines =
+    (new ≡ shown (leaves seat old)) × (lines ≡ pending_lines (leaves seat old).kernel)

@@ -10,7 +10,7 @@ use Rattle.jk_core.specs.declared.entry.Entry.{Entry}
 use Rattle.jk_core.specs.declared.entry.To.{To}
 use Rattle.jk_core.specs.declared.entry.To.TheVariants.{All, Seat, Nobody}
 use Rattle.jk_core.specs.declared.entry.Told.{Told}
-use Rattle.jk_core.specs.declared.entry.Told.TheVariants.{Joined}
+use Rattle.jk_core.specs.declared.entry.Told.TheVariants.{Joined, Left}
 use Rattle.jk_core.specs.declared.entry.Told.TheVariants as told
 
 -- the identifier of the parent
@@ -39,6 +39,7 @@ output_line e (Seat seat) o = line_of (entry_form e o (number (unsigned seat)))
 abbrev pub content_line : Entry → Told → List ℕ
 content_line e (told.Output o) = output_line e e.to o
 content_line e (Joined seat place) = []
+content_line e (Left seat place) = []
 
 -- what goes to nobody is not written
 unfoldable pub entry_line : Entry → List ℕ

@@ -31,10 +31,13 @@ unfoldable pub message_step : Data → Result Step Fault
 message_step d =
     message_of d >>= λ m. optional (pos 0) whole_of (get (codes "seat") d) >>= λ z. number_to last_seat z >>= λ seat. Ok (step.Message seat m)
 
--- leaving is not admitted yet
+-- a seat that leaves
+unfoldable pub leaving_of : Option Data → Result Step Fault
+leaving_of field = needed whole_of field >>= λ z. number_to last_seat z >>= λ seat. Ok (step.Leave seat)
+
 abbrev pub step_by : Option Data → Option Data → Data → Result Step Fault
 step_by (Some turns) leave d = turns_of (Some turns)
-step_by None (Some seat) d = Err WrongKind
+step_by None (Some seat) d = leaving_of (Some seat)
 step_by None None d = message_step d
 
 unfoldable pub step_of : Data → Result Step Fault

@@ -1,8 +1,8 @@
 //! Lines from a reader.
 
-ghost use Rattle.std.specs.Prelude.{◌≡◌, ◌+◌, ◌<◌, ◌≤◌, ◌++◌, ◌∷◌, ℕ, List, [], length, drop, take, OnOk, OnErr, IfOk, MatchOption};
+ghost use Rattle.std.specs.Prelude.{◌≡◌, ◌+◌, ◌<◌, ◌≤◌, ◌++◌, ◌∷◌, ℕ, List, [], length, drop, take, OnOk, OnErr, IfOk, MatchOption, MatchResult};
 ghost use Rattle.jk_replay.specs.Lines.{IsOneLine, TakesLine};
-ghost use Rattle.jk_replay.specs.Held.{Comes, Refills};
+ghost use Rattle.jk_replay.specs.Held.{Comes, Refills, LeavesOver};
 ghost use Rattle.jk_replay.specs.declared.input.InputFault.TheVariants.{Memory};
 
 use std::alloc::{AllocError, Global};
@@ -13,7 +13,7 @@ use std::marker::Model;
 const MAX_INPUT: usize = 67_108_864;
 
 /// How many bytes a line may have.
-const MAX_LINE: usize = 1_048_576;
+pub(crate) const MAX_LINE: usize = 1_048_576;
 
 /// How many bytes one read asks for.
 const PIECE: usize = 16_384;
@@ -158,11 +158,17 @@ impl Input {
         }
     }
 
-    /// The next line. Where no line comes, what was read counts all the same.
+    /// The next line.
+    ///
+    /// # Errors
+    ///
+    /// `Device` where reading fails or the input is too long, `Memory`. What was read counts all the same.
     pub fn next_line<R: Read>(&mut self, alloc: Global, reader: &mut R) -> Result<Line, InputFault>
         ensures { (came : List ℕ)
             × Comes (R.remaining reader.old) (R.remaining reader.new) self.old self.new came
-            × IfOk result (λ line. TakesLine (self.old.held ++ came) line self.new.held (R.remaining reader.new)) }
+            × MatchResult result
+                (λ line. TakesLine (self.old.held ++ came) line self.new.held (R.remaining reader.new))
+                (λ fault. LeavesOver fault self.new.taken (self.old.held ++ came)) }
     {
         'pieces: loop {
             if let Some(line) = self.held_line(alloc)? {

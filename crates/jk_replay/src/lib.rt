@@ -5,6 +5,8 @@ mod input;
 mod replay;
 mod replaying;
 mod show;
+mod status;
 mod step;
 
-pub use replay::{End, ReplayFault, replay_lines};
+pub use replay::{End, ReplayFault, Side, replay_lines};
+pub use status::{ended_status, replay_status, usage_status};

@@ -1,8 +1,6 @@
 //! A kernel that is replayed, line by line.
 
-ghost use Rattle.std.specs.Prelude.{◌≡◌, ◌≢◌, ◌+◌, ◌^◌, ◌-◌, min, ℕ, List, [], replicate, string_bytes, IfOk, OnOk, slice_index_or, slice_set, length};
-ghost use Rattle.std.specs.Str.{IsUtf8};
-ghost use Rattle.jk_core.specs.Steps.{taken, without};
+ghost use Rattle.std.specs.Prelude.{◌≡◌, ◌≢◌, ◌+◌, ◌^◌, ◌-◌, min, ℕ, List, [], replicate, string_bytes, IfOk, OnOk, slice_index_or, slice_set, length, Ok};
 ghost use Rattle.jk_core.specs.State.{KernelState};
 ghost use Rattle.jk_replay.specs.Replaying as spec;
 ghost use Rattle.jk_replay.specs.Replays.{opening};
@@ -10,15 +8,17 @@ ghost use Rattle.jk_replay.specs.Replays.{opening};
 use crate::show::show;
 use crate::step::Step;
 use jk_core::{Arrival, Kernel, What, Work};
+use jk_language::Language;
 use jp_msg::{Channel, Message};
-use json_form::Shared;
+use json_form::{Fault, Shared};
 use std::alloc::{AllocError, Global};
 
-/// A kernel, and how many arrivals each seat has sent.
+/// A kernel, how many arrivals each seat has sent, and which seats have joined and not left since.
 #[derive(Drop)]
-pub struct Replay {
-    pub kernel: Kernel,
+pub struct Replay<K> {
+    pub kernel: K,
     pub sent: [u64; 256],
+    pub seated: [bool; 256],
 }
 
 /// What a message is as an arrival.
@@ -32,14 +32,15 @@ fn sent_on(message: Shared<Message>) -> What
     }
 }
 
-impl Replay {
+impl<L: Language> Replay<Kernel<L>> {
     /// A kernel that has taken nothing.
-    pub fn new(alloc: Global) -> Result<Replay, AllocError>
+    pub fn new(alloc: Global) -> Result<Replay<Kernel<L>>, AllocError>
         ensures { IfOk result (λ replay. replay ≡ opening) }
     {
         Ok(Replay {
             kernel: Kernel::new(alloc)?,
             sent: [0; 256],
+            seated: [false; 256],
         })
     }
 
@@ -57,24 +58,25 @@ impl Replay {
         }
     }
 
-    /// A seat joins with the first that it sends.
+    /// A seat joins with the first that it sends, and anew with the first after it left.
     fn join(&mut self, seat: u8) -> Result<(), AllocError>
         ensures { OnOk result (self.new ≡ spec.joins seat self.old) }
     {
-        if self.sent[seat as usize] == 0 {
-            return self.send(seat, What::Join);
+        if !self.seated[seat as usize] {
+            self.send(seat, What::Join)?;
+            self.seated[seat as usize] = true;
         }
         Ok(())
     }
 
     /// The next job, if there is one, is given, read and handed in.
     fn parse_one(&mut self, alloc: Global) -> Result<(), AllocError>
-        ensures { OnOk result ((k : KernelState) × spec.ParsesOne self.old.kernel k
-            × (self.new ≡ record { kernel = k; sent = self.old.sent })) }
+        ensures { OnOk result ((k : KernelState L.Tree) × spec.ParsesOne L.spoken self.old.kernel k
+            × (self.new ≡ spec.with_kernel k self.old)) }
     {
         match self.kernel.next_job()? {
             Some(job) => {
-                let _used = self.kernel.parsed(job.parse(alloc));
+                let _used = self.kernel.parsed(job.parse::<L>(alloc));
                 Ok(())
             }
             None => Ok(()),
@@ -82,7 +84,7 @@ impl Replay {
     }
 
     /// The lines of all pending entries.
-    pub fn pending_lines(&mut self, alloc: Global) -> Result<String, AllocError>
+    fn pending_lines(&mut self, alloc: Global) -> Result<String, AllocError>
         ensures state { OnOk result (self.new ≡ spec.shown self.old) }
         ensures lines { IfOk result (λ lines. string_bytes lines ≡ spec.pending_lines self.old.kernel) }
     {
@@ -92,7 +94,7 @@ impl Replay {
     }
 
     fn message(&mut self, alloc: Global, seat: u8, message: Message) -> Result<String, AllocError>
-        ensures { IfOk result (λ lines. spec.StepDone (Step.Message seat message) self.old self.new (string_bytes lines)) }
+        ensures { IfOk result (λ lines. spec.StepDone L.spoken (Step.Message seat message) self.old self.new (string_bytes lines)) }
     {
         let message = match Shared::share(alloc, message) {
             Ok(message) => message,
@@ -104,22 +106,52 @@ impl Replay {
         self.pending_lines(alloc)
     }
 
-    fn slice(&mut self, alloc: Global, turns: u64) -> Result<String, AllocError>
-        ensures { IfOk result (λ lines. spec.StepDone (Step.Run turns) self.old self.new (string_bytes lines)) }
+    /// Works a slice. The answer is what it came to, and the lines that it shows.
+    pub fn slice(&mut self, alloc: Global, turns: u64) -> Result<(Work, String), AllocError>
+        ensures { IfOk result (λ sliced. spec.IsSliced L.spoken turns self.old sliced.0 self.new (string_bytes sliced.1)) }
     {
-        match self.kernel.work(turns) {
-            Work::NoMemory => Err(AllocError),
-            Work::Rest | Work::NeedsParse | Work::Ran => self.pending_lines(alloc),
+        let answer = self.kernel.work(turns);
+        if answer == Work::NoMemory {
+            return Err(AllocError);
+        }
+        let lines = self.pending_lines(alloc)?;
+        Ok((answer, lines))
+    }
+
+    fn leave(&mut self, alloc: Global, seat: u8) -> Result<String, AllocError>
+        ensures { IfOk result (λ lines. spec.StepDone L.spoken (Step.Leave seat) self.old self.new (string_bytes lines)) }
+    {
+        self.send(seat, What::Leave)?;
+        self.seated[seat as usize] = false;
+        self.pending_lines(alloc)
+    }
+
+    /// What a line asks for, where it may be asked for now.
+    pub fn admitted(&self, step: Step) -> Result<Step, Fault>
+        ensures { result ≡ spec.admitted self.now step }
+    {
+        match step {
+            Step::Leave(seat) => if self.seated[seat as usize] {
+                Ok(Step::Leave(seat))
+            } else {
+                Err(Fault::WrongKind)
+            },
+            Step::Message(seat, message) => Ok(Step::Message(seat, message)),
+            Step::Run(turns) => Ok(Step::Run(turns)),
         }
     }
 
     /// What a line asks for. The answer is the lines that it shows.
     pub fn step(&mut self, alloc: Global, step: Step) -> Result<String, AllocError>
-        ensures { IfOk result (λ lines. spec.StepDone step self.old self.new (string_bytes lines)) }
+        ensures { IfOk result (λ lines. spec.StepDone L.spoken step self.old self.new (string_bytes lines)) }
     {
         match step {
             Step::Message(seat, message) => self.message(alloc, seat, message),
-            Step::Run(turns) => self.slice(alloc, turns),
+            Step::Run(turns) => {
+                let (_answer, lines) = self.slice(alloc, turns)?;
+                Ok(lines)
+            }
+            Step::Leave(seat) => self.leave(alloc, seat),
         }
     }
 }

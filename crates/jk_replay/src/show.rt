@@ -93,7 +93,7 @@ fn add_entry(alloc: Global, lines: &mut String, entry: &Entry) -> Result<(), All
 {
     match &entry.content {
         Told::Output(output) => add_output(alloc, lines, entry, output),
-        Told::Joined { .. } => Ok(()),
+        Told::Joined { .. } | Told::Left { .. } => Ok(()),
     }
 }
 

@@ -1,8 +1,10 @@
 //! The program: `replay` replays lines of messages from standard input to standard output.
 #![tactic(auto)]
 
-use jk_replay::{End, ReplayFault, replay_lines};
-use jp_msg::number_of;
+mod laws;
+
+use jk_replay::{ReplayFault, ended_status, replay_status, usage_status};
+use ob_language::Oberon;
 use std::process::ExitCode;
 use std::{env, io};
 
@@ -29,43 +31,16 @@ fn asked(rt: &HostRuntime) -> io::Result<Command> {
     }
 }
 
-/// Replays standard input to standard output. The status is 0 where the kernel rests at the end, 3 where a cell still
-/// runs, 1 where a line is refused, 2 for want of memory, 4 where a device failed.
-fn replay(rt: &HostRuntime) -> io::Result<ExitCode> {
-    let mut reader = rt.stdin();
-    let mut writer = rt.stdout();
-    match replay_lines(rt.alloc(), &mut reader, &mut writer) {
-        Ok(End::Rest) => Ok(ExitCode::SUCCESS),
-        Ok(End::WorkLeft) => {
-            eprintln!(rt; "work left")?;
-            Ok(ExitCode::from(3))
+fn main(rt: HostRuntime) -> ExitCode {
+    let mut errors = rt.stderr();
+    let status = match asked(&rt) {
+        Ok(Command::Replay) => {
+            let mut reader = rt.stdin();
+            let mut writer = rt.stdout();
+            replay_status::<Oberon, _, _, _>(rt.alloc(), &mut reader, &mut writer, &mut errors)
         }
-        Err(ReplayFault::Line(number, fault)) => {
-            let bad = number_of(fault);
-            eprintln!(rt; "line {number}: bad {bad}")?;
-            Ok(ExitCode::from(1))
-        }
-        Err(ReplayFault::Memory) => {
-            eprintln!(rt; "out of memory")?;
-            Ok(ExitCode::from(2))
-        }
-        Err(ReplayFault::Device) => {
-            eprintln!(rt; "device failed")?;
-            Ok(ExitCode::from(4))
-        }
-    }
-}
-
-fn main(rt: HostRuntime) -> io::Result<ExitCode> {
-    match asked(&rt) {
-        Ok(Command::Replay) => replay(&rt),
-        Ok(Command::Wrong) => {
-            eprintln!(rt; "usage: jupyter_oberon replay | serve PORT ROOT")?;
-            Ok(ExitCode::from(1))
-        }
-        Err(_) => {
-            eprintln!(rt; "out of memory")?;
-            Ok(ExitCode::from(2))
-        }
-    }
+        Ok(Command::Wrong) => usage_status(&mut errors),
+        Err(_) => ended_status(Err(ReplayFault::Memory), &mut errors),
+    };
+    ExitCode::from(status)
 }

@@ -83,6 +83,7 @@ event_told m (told.ShutdownReply restart) = Nothing
 abbrev pub event_of : Option Message → EntryContent → Event
 event_of (Some m) (entry.Output o) = event_told m o
 event_of (Some m) (entry.Joined seat n) = Nothing
+event_of (Some m) (entry.Left seat n) = Nothing
 event_of None c = Nothing
 
 abbrev pub event : Item → Event

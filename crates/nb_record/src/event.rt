@@ -35,7 +35,7 @@ pub(crate) fn event_in(alloc: Global, entry: &Entry) -> Result<Event, AllocError
     match &entry.parent {
         None => Ok(Event::Nothing),
         Some(request) => match &entry.content {
-            Told::Joined { .. } => Ok(Event::Nothing),
+            Told::Joined { .. } | Told::Left { .. } => Ok(Event::Nothing),
             Told::Output(output) => told(alloc, request.value(), output),
         },
     }

@@ -25,7 +25,7 @@ use Rattle.ob_gen.proofs.machine.Linked.{body_compiled}
 use Rattle.ob_gen.proofs.machine.Places.{some_same}
 use Rattle.ob_session.specs.Session.{Module, program_of}
 use Rattle.ob_linked.specs.Compiled.{Known, runs_in, face_in, AreKnown, AreCompiled, faces_at, MayRunAll}
-use Rattle.ob_linked.specs.CommandsCode.{IsCallable, AllCallable, homes, AreCallable, calls_from, commands_tree, IsBehind, EachCommandsForm, runs_with, EachCommandsMayRun}
+use Rattle.ob_linked.specs.CommandsCode.{IsCallable, AllCallable, AreCallable, calls_body, commands_tree, IsBehind, EachCommandsForm, runs_with, EachCommandsMayRun}
 use Rattle.ob_linked.proofs.Sides.{imported_at, as_long}
 use Rattle.ob_linked.proofs.Entries.{face_cells, numbered_at}
 use Rattle.ob_linked.proofs.MayRun.{whole_at, face_is, loaded_there, as_known, each_may_run}
@@ -36,14 +36,14 @@ abbrev pub plain : Heading
 plain = record { parameters = []; is_function = false }
 
 -- the procedures that are called
-abbrev callees_from : ℕ → List ℕ → List Callee
-callees_from i [] = []
-callees_from i (place ∷ places) = OfImport i place ∷ callees_from (suc i) places
+abbrev callees : List (ℕ × ℕ) → List Callee
+callees [] = []
+callees (call ∷ calls) = OfImport call.0 call.1 ∷ callees calls
 
 -- the code of calls is a line for each
-calls_code : (names : Names) (i : ℕ) (places : List ℕ) → list_code names (calls_from i places) ≡ commands_code (callees_from i places)
-calls_code names i [] = refl
-calls_code names i (place ∷ places) = ap (λ ls. commands_code (OfImport i place ∷ []) ++ ls) (calls_code names (suc i) places)
+calls_code : (names : Names) (calls : List (ℕ × ℕ)) → list_code names (calls_body calls) ≡ commands_code (callees calls)
+calls_code names [] = refl
+calls_code names (call ∷ calls) = ap (λ ls. commands_code (OfImport call.0 call.1 ∷ []) ++ ls) (calls_code names calls)
 
 -- the heading of an exported procedure is in the face
 heading_there : (hs : List Heading) (fs : List TypedProcedure) (ps : List ℕ) (x p : ℕ) (h : Heading) → AreHeadings hs fs ps → slice_get ps x ≡ Some p → own_heading (slice_get fs p) ≡ Some h → slice_get hs x ≡ Some h
@@ -52,17 +52,14 @@ heading_there [] fs (q ∷ ps) x p h a at e = absurd a
 heading_there (g ∷ hs) fs (q ∷ ps) zero p h a at e = sym a.0 ∙ ap (λ k. own_heading (slice_get fs k)) (some_same q p at) ∙ e
 heading_there (g ∷ hs) fs (q ∷ ps) (suc x) p h a at e = heading_there hs fs ps x p h a.1 at e
 
--- a number behind others
-next : (i n : ℕ) → i + suc n ≡ suc i + n
-next i n = omega arith
+-- what is known of an imported module
+known_at : (known : List Known) (is : List ℕ) (faces : List Face) → AreKnown known is faces → (i h : ℕ) → slice_get is i ≡ Some h → (face : Face) × (slice_get faces i ≡ Some face) × (face_in (slice_get known h) ≡ Some face)
+known_at known [] faces a i h e = absurd (let n : None ≡ Some h = e in cc)
+known_at known (j ∷ is) [] a i h e = absurd a
+known_at known (j ∷ is) (face ∷ faces) a zero h e = (face, refl, ap (λ n. face_in (slice_get known n)) (sym (some_same j h e)) ∙ a.0)
+known_at known (j ∷ is) (face ∷ faces) a (suc i) h e = known_at known is faces a.1 i h e
 
 module _ (modules : List Module) (known : List Known) (code : Code) (all : AreCompiled modules known code) where
-  homes_run : (cs : List Command) (places : List ℕ) → AllCallable modules cs places → AllRun (runs_in modules) (homes cs)
-  homes_run [] [] h = tt
-  homes_run [] (place ∷ places) h = absurd h
-  homes_run (c ∷ cs) [] h = absurd h
-  homes_run (c ∷ cs) (place ∷ places) h = (h.0.may_run, homes_run cs places h.1)
-
   -- a command that its module's face shows can be called
   pub shown_callable : (c : Command) (place : ℕ) (m : Module) (face : Face) → slice_get modules c.home ≡ Some m → runs_in modules c.home ≡ true → face_in (slice_get known c.home) ≡ Some face → slice_get m.tree.exported place ≡ Some c.procedure → slice_get face.procedures place ≡ Some plain → IsCallable modules c place
   shown_callable c place m face there ok at exported shown =
@@ -105,29 +102,28 @@ module _ (modules : List Module) (known : List Known) (code : Code) (all : AreCo
       (ap (λ (m : Module). slice_get m.tree.exported place) (sym same) ∙ h.exported)
       (ap (λ (m : Module). own_heading (slice_get m.tree.procedures c.procedure)) (sym same) ∙ h.plain)
 
-  calls_fit : (names : Names) (i : ℕ) (cs : List Command) (places : List ℕ) (faces : List Face) → AllCallable modules cs places → AreKnown known (homes cs) faces → ((n : ℕ) → slice_get names.faces (i + n) ≡ slice_get faces n) → ListFits names (calls_from i places)
-  calls_fit names i [] [] faces h a at = tt
-  calls_fit names i [] (place ∷ places) faces h a at = absurd h
-  calls_fit names i (c ∷ cs) [] faces h a at = absurd h
-  calls_fit names i (c ∷ cs) (place ∷ places) [] h a at = absurd a
-  calls_fit names i (c ∷ cs) (place ∷ places) (face ∷ faces) h a at =
-      let zero_on : i ≡ i + 0 = omega arith in
-      let there : slice_get names.faces i ≡ Some face = ap (slice_get names.faces) zero_on ∙ at 0 in
-      let called : face_heading (slice_get names.faces i) place ≡ Some plain = ap (λ o. face_heading o place) there ∙ called_in c place face h.0 a.0 in
-      ((plain, called, refl, tt), calls_fit names (suc i) cs places faces h.1 a.1 (λ n. ap (slice_get names.faces) (sym (next i n)) ∙ at (suc n)))
+  calls_fit : (names : Names) (homes : List ℕ) (cs : List Command) (calls : List (ℕ × ℕ)) (faces : List Face) → AllCallable modules homes cs calls → AreKnown known homes faces → names.faces ≡ faces → ListFits names (calls_body calls)
+  calls_fit names homes [] [] faces h a same = tt
+  calls_fit names homes [] (call ∷ calls) faces h a same = absurd h
+  calls_fit names homes (c ∷ cs) [] faces h a same = absurd h
+  calls_fit names homes (c ∷ cs) (call ∷ calls) faces h a same =
+      let k = known_at known homes faces a call.0 c.home h.1 in
+      let there : slice_get names.faces call.0 ≡ Some k.0 = ap (λ (fs : List Face). slice_get fs call.0) same ∙ k.1 in
+      let called : face_heading (slice_get names.faces call.0) call.1 ≡ Some plain = ap (λ o. face_heading o call.1) there ∙ called_in c call.1 k.0 h.0 k.2 in
+      ((plain, called, refl, tt), calls_fit names homes cs calls faces h.2 a same)
 
-  formed : (cs : List Command) (places : List ℕ) (faces : List Face) → AreCallable modules known cs places faces → IsWellFormed faces (commands_tree places)
-  formed cs places faces h = record {
-    known = faces_fit (homes cs) faces h.agree (homes_run cs places h.each);
+  formed : (cs : List Command) (homes : List ℕ) (calls : List (ℕ × ℕ)) (faces : List Face) → AreCallable modules known cs homes calls faces → IsWellFormed faces (commands_tree calls)
+  formed cs homes calls faces h = record {
+    known = faces_fit homes faces h.agree h.run;
     cells = omega arith;
     exported = tt;
     procedures = tt;
-    body = calls_fit (names_in faces (commands_tree places)) 0 cs places faces h.each h.agree (λ n. ap (slice_get faces) (let e : 0 + n ≡ n = omega arith in e));
+    body = calls_fit (names_in faces (commands_tree calls)) homes cs calls faces h.each h.agree refl;
   }
 
   -- ---- its code
 
-  module _ (cs : List Command) (places : List ℕ) (faces : List Face) (l : LinkedModule) (callable : AreCallable modules known cs places faces) (is_behind : IsBehind code cs places faces l) where
+  module _ (cs : List Command) (homes : List ℕ) (calls : List (ℕ × ℕ)) (faces : List Face) (l : LinkedModule) (callable : AreCallable modules known cs homes calls faces) (is_behind : IsBehind code homes calls faces l) where
     abbrev longer : Code
     longer = code ++ l ∷ []
 
@@ -149,7 +145,7 @@ module _ (modules : List Module) (known : List Known) (code : Code) (all : AreCo
 
     import_of : (i : ℕ) (e : Entries) → slice_get l.code.imports.items i ≡ Some e → Imports longer (runs_with modules) l i e
     import_of i e at =
-        let n = imported_at known (runs_in modules) (homes cs) faces l.code.imports.items i e callable.agree (homes_run cs places callable.each) is_behind.generated.imports at in
+        let n = imported_at known (runs_in modules) homes faces l.code.imports.items i e callable.agree callable.run is_behind.generated.imports at in
         record {
           number = n.number;
           found = ap (λ is. slice_get is i) is_behind.imports ∙ n.found;
@@ -161,21 +157,21 @@ module _ (modules : List Module) (known : List Known) (code : Code) (all : AreCo
       where
         by : (slice_get code home ≡ Some x) ⊎ ((home ≡ length code) × (l ≡ x)) → IsValid x.code
         by (inl h) = may_run.valid home x h (alike home (slice_get_within code home x h) ∙ ok)
-        by (inr h) = subst (λ (y : LinkedModule). IsValid y.code) h.1 (generated_valid faces (commands_tree places) l.code (formed cs places faces callable) is_behind.generated)
+        by (inr h) = subst (λ (y : LinkedModule). IsValid y.code) h.1 (generated_valid faces (commands_tree calls) l.code (formed cs homes calls faces callable) is_behind.generated)
 
     linked : IsLinked longer (runs_with modules)
     linked = linked_behind code l (runs_in modules) (runs_with modules) alike may_run.linked is_behind.cells import_of
 
     -- ---- what it does
 
-    import_is : (i : ℕ) → import_number longer (length modules) i ≡ slice_index (homes cs) i
+    import_is : (i : ℕ) → import_number longer (length modules) i ≡ slice_index homes i
     import_is i = ap (λ o. slice_index (imports_in o) i) l_there ∙ ap (λ is. slice_index is i) is_behind.imports
 
-    leads : (i place : ℕ) (c : Command) → IsCallable modules c place → slice_index (homes cs) i ≡ c.home → LeadsTo (program_of modules) longer (runs_in modules) (length modules) (OfImport i place) c
+    leads : (i place : ℕ) (c : Command) → IsCallable modules c place → slice_get homes i ≡ Some c.home → LeadsTo (program_of modules) longer (runs_in modules) (length modules) (OfImport i place) c
     leads i place c h at =
         let w = whole_at modules known code all c.home h.may_run in
         let same : h.m ≡ w.m = some_same h.m w.m (sym h.there ∙ w.there) in
-        let target : import_number longer (length modules) i ≡ c.home = import_is i ∙ at in
+        let target : import_number longer (length modules) i ≡ c.home = import_is i ∙ index_at homes i c.home at in
         let exported : slice_get w.l.code.exported.items place ≡ Some c.procedure =
         ap (λ ps. slice_get ps place) w.compiled.ready.generated.exported ∙ ap (λ (m : Module). slice_get m.tree.exported place) (sym same) ∙ h.exported in
         record {
@@ -185,38 +181,36 @@ module _ (modules : List Module) (known : List Known) (code : Code) (all : AreCo
           plain = ap (λ o. own_heading (procedure_in o c.procedure)) (loaded_there modules known code all c.home w) ∙ ap (λ (m : Module). own_heading (slice_get m.tree.procedures c.procedure)) (sym same) ∙ h.plain;
         }
 
-    all_lead : (i : ℕ) (ds : List Command) (qs : List ℕ) → AllCallable modules ds qs → ((n : ℕ) → slice_index (homes cs) (i + n) ≡ slice_index (homes ds) n) → AllLead (program_of modules) longer (runs_in modules) (length modules) (callees_from i qs) ds
-    all_lead i [] [] h at = tt
-    all_lead i [] (q ∷ qs) h at = absurd h
-    all_lead i (d ∷ ds) [] h at = absurd h
-    all_lead i (d ∷ ds) (q ∷ qs) h at =
-        let zero_on : i ≡ i + 0 = omega arith in
-        (leads i q d h.0 (ap (slice_index (homes cs)) zero_on ∙ at 0), all_lead (suc i) ds qs h.1 (λ n. ap (slice_index (homes cs)) (sym (next i n)) ∙ at (suc n)))
+    all_lead : (ds : List Command) (qs : List (ℕ × ℕ)) → AllCallable modules homes ds qs → AllLead (program_of modules) longer (runs_in modules) (length modules) (callees qs) ds
+    all_lead [] [] h = tt
+    all_lead [] (q ∷ qs) h = absurd h
+    all_lead (d ∷ ds) [] h = absurd h
+    all_lead (d ∷ ds) (q ∷ qs) h = (leads q.0 q.1 d h.0 h.1, all_lead ds qs h.2)
 
     commands_mean : IsCodeOfCommands (program_of modules) longer (runs_in modules) (length modules) cs
     commands_mean =
-        let names = names_in faces (commands_tree places) in
-        let body = body_compiled faces (commands_tree places) [] l.code.procedures.items is_behind.generated.procedures in
+        let names = names_in faces (commands_tree calls) in
+        let body = body_compiled faces (commands_tree calls) [] l.code.procedures.items is_behind.generated.procedures in
         record {
           module_of = l;
           found = l_there;
           body = body.0;
           last = body.1;
-          calls = callees_from 0 places;
-          lines = body.2.lines ∙ append-nil (list_code names (calls_from 0 places)) ∙ calls_code names 0 places;
-          lead = all_lead 0 cs places callable.each (λ n. ap (slice_index (homes cs)) (let e : 0 + n ≡ n = omega arith in e));
+          calls = callees calls;
+          lines = body.2.lines ∙ append-nil (list_code names (calls_body calls)) ∙ calls_code names calls;
+          lead = all_lead cs calls callable.each;
         }
 
 pub commands_form : EachCommandsForm
-commands_form modules known code cs places faces all callable = formed modules known code all cs places faces callable
+commands_form modules known code cs homes calls faces all callable = formed modules known code all cs homes calls faces callable
 
 pub commands_run : EachCommandsMayRun
-commands_run modules known code cs places faces l all callable is_behind =
+commands_run modules known code cs homes calls faces l all callable is_behind =
     let means = program_behind (program_of modules) code (l ∷ []) (faces_at known) (runs_in modules) (each_may_run modules known code all).means in
-    let is_code = commands_mean modules known code all cs places faces l callable is_behind in
+    let is_code = commands_mean modules known code all cs homes calls faces l callable is_behind in
     record {
-      linked = linked modules known code all cs places faces l callable is_behind;
-      valid = valid modules known code all cs places faces l callable is_behind;
+      linked = linked modules known code all cs homes calls faces l callable is_behind;
+      valid = valid modules known code all cs homes calls faces l callable is_behind;
       modules_mean = means;
       commands_mean = is_code;
       does = commands_behave (program_of modules) (code ++ l ∷ []) (faces_at known) (runs_in modules) means (length modules) cs is_code;

@@ -1,5 +1,5 @@
 -- Commands as code: a module behind those of a session, whose body calls one after the other.
-use Rattle.std.specs.Prelude.{◌≡◌, ℕ, suc, List, [], ◌∷◌, ◌++◌, length, map, Bool, true, false, ◌||◌, nat_eq, Some, slice_get}
+use Rattle.std.specs.Prelude.{◌≡◌, ℕ, List, [], ◌∷◌, ◌++◌, length, Bool, true, false, ◌||◌, nat_eq, Some, slice_get}
 use Rattle.ob_mean.specs.declared.whole.expression.Callee.TheVariants.{OfImport}
 use Rattle.ob_mean.specs.declared.whole.statement.Action.TheVariants.{Call}
 use Rattle.ob_mean.specs.declared.whole.statement.TypedStatement.{TypedStatement}
@@ -13,7 +13,7 @@ use Rattle.ob_code.specs.whole.Linked.{IsLinked, all_cells}
 use Rattle.ob_code.specs.whole.Machine.{Code}
 use Rattle.ob_code.specs.whole.Valid.{IsValid}
 use Rattle.ob_gen.specs.whole.Commands.{IsCodeOfCommands, CommandsBehave}
-use Rattle.ob_gen.specs.whole.Correct.{IsCodeOfProgram}
+use Rattle.ob_gen.specs.whole.Correct.{AllRun, IsCodeOfProgram}
 use Rattle.ob_gen.specs.whole.Generated.{IsGenerated}
 use Rattle.ob_session.specs.Session.{Module, program_of}
 use Rattle.ob_linked.specs.Compiled.{Known, runs_in, AreKnown, AreCompiled, faces_at}
@@ -28,35 +28,35 @@ pub record IsCallable (modules : List Module) (c : Command) (place : ℕ) : Type
   pub exported : slice_get m.tree.exported place ≡ Some c.procedure
   pub plain : own_heading (slice_get m.tree.procedures c.procedure) ≡ Some (record { parameters = []; is_function = false })
 
-abbrev pub AllCallable : List Module → List Command → List ℕ → Type 0
-AllCallable modules [] [] = Unit {0}
-AllCallable modules [] (place ∷ places) = ⊥
-AllCallable modules (c ∷ cs) [] = ⊥
-AllCallable modules (c ∷ cs) (place ∷ places) = IsCallable modules c place × AllCallable modules cs places
+-- Each command is called through an import of its module: a call is the number of the import, and the place of the procedure
+-- among those that the imported module exports.
+abbrev pub AllCallable : List Module → List ℕ → List Command → List (ℕ × ℕ) → Type 0
+AllCallable modules homes [] [] = Unit {0}
+AllCallable modules homes [] (call ∷ calls) = ⊥
+AllCallable modules homes (c ∷ cs) [] = ⊥
+AllCallable modules homes (c ∷ cs) (call ∷ calls) =
+    IsCallable modules c call.1 × (slice_get homes call.0 ≡ Some c.home) × AllCallable modules homes cs calls
 
-abbrev pub homes : List Command → List ℕ
-homes cs = map (λ (c : Command). c.home) cs
-
--- commands, the places of their procedures, and what is known of their modules
-pub record AreCallable (modules : List Module) (known : List Known) (cs : List Command) (places : List ℕ) (faces : List Face) : Type 0 where
-  pub each : AllCallable modules cs places
-  pub agree : AreKnown known (homes cs) faces
+-- commands, the modules that are imported for them, which may run, their calls, and what is known of these modules
+pub record AreCallable (modules : List Module) (known : List Known) (cs : List Command) (homes : List ℕ) (calls : List (ℕ × ℕ)) (faces : List Face) : Type 0 where
+  pub each : AllCallable modules homes cs calls
+  pub run : AllRun (runs_in modules) homes
+  pub agree : AreKnown known homes faces
 
 -- ---- their module
 
--- a call of each, in an import of its own, from this one on
-abbrev pub calls_from : ℕ → List ℕ → List TypedStatement
-calls_from i [] = []
-calls_from i (place ∷ places) = Simple (Call (OfImport i place) 0 []) ∷ calls_from (suc i) places
+abbrev pub calls_body : List (ℕ × ℕ) → List TypedStatement
+calls_body [] = []
+calls_body (call ∷ calls) = Simple (Call (OfImport call.0 call.1) 0 []) ∷ calls_body calls
 
--- a module that has nothing but them
-abbrev pub commands_tree : List ℕ → TypedModule
-commands_tree places = record { name = []; variables = []; procedures = []; exported = []; body = calls_from 0 places }
+-- a module that has nothing but these calls
+abbrev pub commands_tree : List (ℕ × ℕ) → TypedModule
+commands_tree calls = record { name = []; variables = []; procedures = []; exported = []; body = calls_body calls }
 
 -- its code, over what is known of the commands' modules, behind that of the session's
-pub record IsBehind (code : Code) (cs : List Command) (places : List ℕ) (faces : List Face) (l : LinkedModule) : Type 0 where
-  pub generated : IsGenerated faces (commands_tree places) l.code
-  pub imports : l.imports.items ≡ homes cs
+pub record IsBehind (code : Code) (homes : List ℕ) (calls : List (ℕ × ℕ)) (faces : List Face) (l : LinkedModule) : Type 0 where
+  pub generated : IsGenerated faces (commands_tree calls) l.code
+  pub imports : l.imports.items ≡ homes
   pub cells : l.cells ≡ all_cells code
 
 -- ---- what is so of them
@@ -64,8 +64,8 @@ pub record IsBehind (code : Code) (cs : List Command) (places : List ℕ) (faces
 -- the compiler takes the module of such commands
 abbrev pub EachCommandsForm : Type 0
 EachCommandsForm =
-    (modules : List Module) (known : List Known) (code : Code) (cs : List Command) (places : List ℕ) (faces : List Face)
-    → AreCompiled modules known code → AreCallable modules known cs places faces → IsWellFormed faces (commands_tree places)
+    (modules : List Module) (known : List Known) (code : Code) (cs : List Command) (homes : List ℕ) (calls : List (ℕ × ℕ)) (faces : List Face)
+    → AreCompiled modules known code → AreCallable modules known cs homes calls faces → IsWellFormed faces (commands_tree calls)
 
 -- modules that may run, and what stands behind them
 abbrev pub runs_with : List Module → ℕ → Bool
@@ -82,6 +82,6 @@ pub record CommandsMayRun (modules : List Module) (known : List Known) (code : C
 
 abbrev pub EachCommandsMayRun : Type 0
 EachCommandsMayRun =
-    (modules : List Module) (known : List Known) (code : Code) (cs : List Command) (places : List ℕ) (faces : List Face) (l : LinkedModule)
-    → AreCompiled modules known code → AreCallable modules known cs places faces → IsBehind code cs places faces l
+    (modules : List Module) (known : List Known) (code : Code) (cs : List Command) (homes : List ℕ) (calls : List (ℕ × ℕ)) (faces : List Face) (l : LinkedModule)
+    → AreCompiled modules known code → AreCallable modules known cs homes calls faces → IsBehind code homes calls faces l
     → CommandsMayRun modules known code cs l

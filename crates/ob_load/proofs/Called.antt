@@ -1,7 +1,7 @@
--- Commands, the places of their procedures, and what is known of their modules, one after the other.
-use Rattle.std.proofs.Common.{◌≡◌, ℕ, zero, suc, ◌+◌, ◌<◌, ◌≤◌, true, false, List, [], ◌∷◌, ◌++◌, length, get_or, take, Option, Some, None, refl, sym, ap, ◌∙◌, subst, arith}
+-- Commands, their calls, and what is known of their modules, one after the other.
+use Rattle.std.proofs.Common.{◌≡◌, inl, inr, Bool, ℕ, zero, suc, ◌+◌, ◌<◌, ◌≤◌, true, false, List, [], ◌∷◌, ◌++◌, length, get_or, take, Option, Some, None, refl, sym, ap, ◌∙◌, subst, arith}
 use Rattle.std.specs.Prelude.{is_some, slice_get, slice_index}
-use Rattle.std.proofs.lemmas.List.{take_more, take_all, length-take-le}
+use Rattle.std.proofs.lemmas.List.{take_more, take_all}
 use Rattle.ob_mean.specs.declared.whole.expression.Callee.TheVariants.{OfImport}
 use Rattle.ob_mean.specs.declared.whole.expression.TypedExpr.{TypedExpr}
 use Rattle.ob_mean.specs.declared.whole.face.Face.{Face}
@@ -16,12 +16,14 @@ use Rattle.ob_mean.specs.whole.Programs.{Command}
 use Rattle.ob_mean.specs.whole.WellFormed.{heading_of, is_there, IsWellFormed}
 use Rattle.ob_code.specs.declared.whole.instr.CodeModule.{CodeModule}
 use Rattle.ob_code.specs.whole.Machine.{Code}
+use Rattle.ob_gen.specs.whole.Correct.{AllRun}
 use Rattle.ob_gen.specs.whole.Generated.{IsGenerated}
 use Rattle.ob_session.specs.Session.{Module}
-use Rattle.ob_linked.specs.Compiled.{Known, face_in, AreCompiled, AreKnown}
-use Rattle.ob_linked.specs.CommandsCode.{IsCallable, AllCallable, AreCallable, calls_from, commands_tree, homes}
+use Rattle.ob_linked.specs.Compiled.{Known, face_in, runs_in, AreCompiled, AreKnown}
+use Rattle.ob_linked.specs.CommandsCode.{IsCallable, AllCallable, AreCallable, calls_body, commands_tree}
 use Rattle.ob_linked.proofs.Commands.{commands_form}
-use Rattle.ob_load.specs.Commanded.{IsCodeOfCalls}
+use Rattle.ob_linked.proofs.Imports.{running_at}
+use Rattle.ob_load.specs.Commanded.{AreCalled, IsCodeOfCalls, WithHome}
 use Rattle.ob_load.proofs.Loaded.{known_many, some_within}
 
 -- ---- a procedure that takes and leaves nothing
@@ -39,18 +41,42 @@ plain_is f none lacks = heading_is f.parameters f.result none lacks
 
 -- ---- one more
 
-callable_more : (modules : List Module) (cs : List Command) (ps : List ℕ) (c : Command) (p : ℕ) → AllCallable modules cs ps → IsCallable modules c p → AllCallable modules (cs ++ c ∷ []) (ps ++ p ∷ [])
-callable_more modules [] [] c p h k = (k, tt)
-callable_more modules [] (q ∷ qs) c p h k = absurd h
-callable_more modules (d ∷ ds) [] c p h k = absurd h
-callable_more modules (d ∷ ds) (q ∷ qs) c p h k = (h.0, callable_more modules ds qs c p h.1 k)
+callable_more : (modules : List Module) (homes : List ℕ) (cs : List Command) (ps : List (ℕ × ℕ)) (c : Command) (p : ℕ × ℕ) → AllCallable modules homes cs ps → IsCallable modules c p.1 → slice_get homes p.0 ≡ Some c.home → AllCallable modules homes (cs ++ c ∷ []) (ps ++ p ∷ [])
+callable_more modules homes [] [] c p h k at = (k, at, tt)
+callable_more modules homes [] (q ∷ qs) c p h k at = absurd h
+callable_more modules homes (d ∷ ds) [] c p h k at = absurd h
+callable_more modules homes (d ∷ ds) (q ∷ qs) c p h k at = (h.0, h.1, callable_more modules homes ds qs c p h.2 k at)
 
-pub callable_next : (modules : List Module) (cs : List Command) (ps : List ℕ) (n : ℕ) (d : Command) (p : ℕ) → n < length cs → AllCallable modules (take n cs) ps → IsCallable modules (get_or cs n d) p → AllCallable modules (take (n + 1) cs) (ps ++ p ∷ [])
-callable_next modules cs ps n d p lt h k =
-    subst (λ (xs : List Command). AllCallable modules xs (ps ++ p ∷ [])) (sym (take_more cs n d lt)) (callable_more modules (take n cs) ps (get_or cs n d) p h k)
+pub callable_next : (modules : List Module) (homes : List ℕ) (cs : List Command) (ps : List (ℕ × ℕ)) (n : ℕ) (d : Command) (p : ℕ × ℕ) → n < length cs → AllCallable modules homes (take n cs) ps → IsCallable modules (get_or cs n d) p.1 → slice_get homes p.0 ≡ Some (get_or cs n d).home → AllCallable modules homes (take (n + 1) cs) (ps ++ p ∷ [])
+callable_next modules homes cs ps n d p lt h k at =
+    subst (λ (xs : List Command). AllCallable modules homes xs (ps ++ p ∷ [])) (sym (take_more cs n d lt)) (callable_more modules homes (take n cs) ps (get_or cs n d) p h k at)
 
-pub callable_all : (modules : List Module) (cs : List Command) (ps : List ℕ) (n : ℕ) → length cs ≤ n → AllCallable modules (take n cs) ps → AllCallable modules cs ps
-callable_all modules cs ps n le h = subst (λ (xs : List Command). AllCallable modules xs ps) (take_all n cs le) h
+pub callable_all : (modules : List Module) (homes : List ℕ) (cs : List Command) (ps : List (ℕ × ℕ)) (n : ℕ) → length cs ≤ n → AllCallable modules homes (take n cs) ps → AllCallable modules homes cs ps
+callable_all modules homes cs ps n le h = subst (λ (xs : List Command). AllCallable modules homes xs ps) (take_all n cs le) h
+
+-- more imports change nothing of the calls
+at_front : {A : Type 0} (xs ys : List A) (n : ℕ) (x : A) → slice_get xs n ≡ Some x → slice_get (xs ++ ys) n ≡ Some x
+at_front [] ys n x e = absurd (let f : None ≡ Some x = e in cc)
+at_front (y ∷ xs) ys zero x e = e
+at_front (y ∷ xs) ys (suc n) x e = at_front xs ys n x e
+
+callable_grow : (modules : List Module) (homes more : List ℕ) (cs : List Command) (ps : List (ℕ × ℕ)) → AllCallable modules homes cs ps → AllCallable modules (homes ++ more) cs ps
+callable_grow modules homes more [] [] h = tt
+callable_grow modules homes more [] (p ∷ ps) h = absurd h
+callable_grow modules homes more (c ∷ cs) [] h = absurd h
+callable_grow modules homes more (c ∷ cs) (p ∷ ps) h = (h.0, at_front homes more p.0 c.home h.1, callable_grow modules homes more cs ps h.2)
+
+pub callable_with : (modules : List Module) (homes : List ℕ) (home : ℕ) (after : List ℕ) (cs : List Command) (ps : List (ℕ × ℕ)) → WithHome homes home after → AllCallable modules homes cs ps → AllCallable modules after cs ps
+callable_with modules homes home after cs ps (inl e) h = subst (λ (hs : List ℕ). AllCallable modules hs cs ps) (sym e) h
+callable_with modules homes home after cs ps (inr e) h = subst (λ (hs : List ℕ). AllCallable modules hs cs ps) (sym e) (callable_grow modules homes (home ∷ []) cs ps h)
+
+run_grow : (runs : ℕ → Bool) (homes : List ℕ) (home : ℕ) → AllRun runs homes → runs home ≡ true → AllRun runs (homes ++ home ∷ [])
+run_grow runs [] home h k = (k, tt)
+run_grow runs (x ∷ xs) home h k = (h.0, run_grow runs xs home h.1 k)
+
+pub run_with : (runs : ℕ → Bool) (homes : List ℕ) (home : ℕ) (after : List ℕ) → WithHome homes home after → AllRun runs homes → runs home ≡ true → AllRun runs after
+run_with runs homes home after (inl e) h k = subst (λ (hs : List ℕ). AllRun runs hs) (sym e) h
+run_with runs homes home after (inr e) h k = subst (λ (hs : List ℕ). AllRun runs hs) (sym e) (run_grow runs homes home h k)
 
 known_behind : (known : List Known) (is : List ℕ) (fs : List Face) (i : ℕ) (f : Face) → AreKnown known is fs → face_in (slice_get known i) ≡ Some f → AreKnown known (is ++ i ∷ []) (fs ++ f ∷ [])
 known_behind known [] [] i f h k = (k, tt)
@@ -58,16 +84,15 @@ known_behind known [] (g ∷ gs) i f h k = absurd h
 known_behind known (j ∷ js) [] i f h k = absurd h
 known_behind known (j ∷ js) (g ∷ gs) i f h k = (h.0, known_behind known js gs i f h.1 k)
 
--- the modules of commands that can be called are known
-pub homes_within : (modules : List Module) (known : List Known) (all : Code) → AreCompiled modules known all → (cs : List Command) (ps : List ℕ) → AllCallable modules cs ps → (k : ℕ) → k < length (homes cs) → slice_index (homes cs) k < length known
-homes_within modules known all h [] [] calls k lt = absurd (omega (arith, lt))
-homes_within modules known all h [] (p ∷ ps) calls k lt = absurd calls
-homes_within modules known all h (c ∷ cs) [] calls k lt = absurd calls
-homes_within modules known all h (c ∷ cs) (p ∷ ps) calls zero lt =
-    let inside = some_within modules c.home calls.0.m calls.0.there in
+-- modules that may run are known
+pub homes_within : (modules : List Module) (known : List Known) (all : Code) → AreCompiled modules known all → (homes : List ℕ) → AllRun (runs_in modules) homes → (k : ℕ) → k < length homes → slice_index homes k < length known
+homes_within modules known all h [] run k lt = absurd (omega (arith, lt))
+homes_within modules known all h (home ∷ homes) run zero lt =
+    let r = running_at modules home run.0 in
+    let inside = some_within modules home r.m r.there in
     let many = known_many modules modules known all 0 h.each in
     omega (arith, inside, many)
-homes_within modules known all h (c ∷ cs) (p ∷ ps) calls (suc k) lt = homes_within modules known all h cs ps calls.1 k (omega (arith, lt))
+homes_within modules known all h (home ∷ homes) run (suc k) lt = homes_within modules known all h homes run.1 k (omega (arith, lt))
 
 pub known_next : (known : List Known) (is : List ℕ) (fs : List Face) (n d : ℕ) (f : Face) → n < length is → AreKnown known (take n is) fs → face_in (slice_get known (get_or is n d)) ≡ Some f → AreKnown known (take (n + 1) is) (fs ++ f ∷ [])
 known_next known is fs n d f lt h k =
@@ -78,31 +103,25 @@ known_next known is fs n d f lt h k =
 abbrev pub call : ℕ → ℕ → TypedStatement
 call i place = Simple (Call (OfImport i place) 0 [])
 
-calls_more : (i : ℕ) (ps : List ℕ) (p : ℕ) → calls_from i (ps ++ p ∷ []) ≡ calls_from i ps ++ call (i + length ps) p ∷ []
-calls_more i [] p = ap (λ k. call k p ∷ []) (let e : i ≡ i + 0 = omega arith in e)
-calls_more i (q ∷ qs) p =
-    ap (λ ss. call i q ∷ ss)
-    (calls_more (suc i) qs p ∙ ap (λ k. calls_from (suc i) qs ++ call k p ∷ []) (let e : suc i + length qs ≡ i + suc (length qs) = omega arith in e))
+calls_more : (ps : List (ℕ × ℕ)) (p : ℕ × ℕ) → calls_body (ps ++ p ∷ []) ≡ calls_body ps ++ call p.0 p.1 ∷ []
+calls_more [] p = refl
+calls_more (q ∷ qs) p = ap (λ ss. call q.0 q.1 ∷ ss) (calls_more qs p)
 
-pub calls_next : (places : List ℕ) (n d : ℕ) → n < length places → calls_from 0 (take (n + 1) places) ≡ calls_from 0 (take n places) ++ call n (get_or places n d) ∷ []
-calls_next places n d lt =
-    let p = get_or places n d in
-    let long = length-take-le n places (omega (arith, lt)) in
-    ap (calls_from 0) (take_more places n d lt) ∙ calls_more 0 (take n places) p
-    ∙ ap (λ k. calls_from 0 (take n places) ++ call k p ∷ []) (let same : 0 + length (take n places) ≡ n = omega (arith, long) in same)
+pub calls_next : (calls : List (ℕ × ℕ)) (n : ℕ) (d : ℕ × ℕ) → n < length calls → calls_body (take (n + 1) calls) ≡ calls_body (take n calls) ++ call (get_or calls n d).0 (get_or calls n d).1 ∷ []
+calls_next calls n d lt = ap calls_body (take_more calls n d lt) ∙ calls_more (take n calls) (get_or calls n d)
 
 -- ---- their module
 
-module _ (modules : List Module) (known : List Known) (all : Code) (cs : List Command) (numbers places : List ℕ) (faces : List Face) (tree : TypedModule) (compiled : AreCompiled modules known all) (homes_are : numbers ≡ homes cs) (each : AllCallable modules cs places) (agree : AreKnown known numbers faces) (tree_is : tree ≡ commands_tree places) where
-  callable : AreCallable modules known cs places faces
-  callable = record { each = each; agree = subst (λ ns. AreKnown known ns faces) homes_are agree }
+module _ (modules : List Module) (known : List Known) (all : Code) (cs : List Command) (homes : List ℕ) (calls : List (ℕ × ℕ)) (faces : List Face) (tree : TypedModule) (compiled : AreCompiled modules known all) (called : AreCalled modules cs homes calls) (agree : AreKnown known homes faces) (tree_is : tree ≡ commands_tree calls) where
+  callable : AreCallable modules known cs homes calls faces
+  callable = record { each = called.each; run = called.run; agree = agree }
 
   pub tree_formed : IsWellFormed faces tree
-  tree_formed = subst (λ (t : TypedModule). IsWellFormed faces t) (sym tree_is) (commands_form modules known all cs places faces compiled callable)
+  tree_formed = subst (λ (t : TypedModule). IsWellFormed faces t) (sym tree_is) (commands_form modules known all cs homes calls faces compiled callable)
 
-  pub calls_of : (code : CodeModule) → IsGenerated faces tree code → IsCodeOfCalls modules known cs code
-  calls_of code g = record {
-    places = places;
+  pub code_of : (code : CodeModule) → IsGenerated faces tree code → IsCodeOfCalls modules known cs homes code
+  code_of code g = record {
+    calls = calls;
     faces = faces;
     callable = callable;
     generated = subst (λ (t : TypedModule). IsGenerated faces t code) tree_is g;

@@ -56,15 +56,15 @@ module _ (modules : List Module) (known : List Known) (i : vm.ImageState) (h : I
   abbrev pub now : vm.ImageState
   now = record { code = longer; may_run = i.may_run ++ true ∷ []; cells = i.cells }
 
-  behind_is : IsBehind i.code v.items r.calls.places r.calls.faces l
+  behind_is : IsBehind i.code c.imports.items r.calls.calls r.calls.faces l
   behind_is = record {
-    generated = subst (λ (x : CodeModule). IsGenerated r.calls.faces (commands_tree r.calls.places) x) (sym code_is) r.calls.generated;
-    imports = imports_are ∙ r.imports;
+    generated = subst (λ (x : CodeModule). IsGenerated r.calls.faces (commands_tree r.calls.calls) x) (sym code_is) r.calls.generated;
+    imports = imports_are;
     cells = first_is ∙ h.cells;
   }
 
   law : CommandsMayRun modules known i.code v.items l
-  law = commands_run modules known i.code v.items r.calls.places r.calls.faces l h.compiled r.calls.callable behind_is
+  law = commands_run modules known i.code v.items c.imports.items r.calls.calls r.calls.faces l h.compiled r.calls.callable behind_is
 
   count : length i.code ≡ length modules
   count = as_long modules modules known i.code 0 h.compiled.each

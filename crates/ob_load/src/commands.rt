@@ -1,17 +1,18 @@
 //! Commands, and the machine that runs them one after the other.
 
-ghost use Rattle.std.specs.Prelude.{◌≡◌, ℕ, ◌<◌, [], ◌∷◌, ◌++◌, false, true, length, vec_capacity, slice_get, IsTrue, IfSome, IfOk, IfErr, Some, EachIndex, slice_index, OnOk};
+ghost use Rattle.std.specs.Prelude.{◌≡◌, ℕ, ◌<◌, List, [], ◌∷◌, ◌++◌, false, true, length, vec_capacity, slice_get, IsTrue, IfSome, IfOk, IfErr, Some, EachIndex, slice_index, OnOk};
 ghost use Rattle.ob_code.specs.whole.Linked.{runs_of};
 ghost use Rattle.ob_code.specs.whole.Machine.{Code};
 ghost use Rattle.ob_linked.specs.CommandsCode as code;
-ghost use Rattle.ob_linked.specs.CommandsCode.{homes, AllCallable, IsCallable};
+ghost use Rattle.ob_linked.specs.CommandsCode.{IsCallable};
 ghost use Rattle.ob_linked.specs.Compiled.{face_in, runs_in, AreCompiled, AreKnown};
-ghost use Rattle.ob_load.specs.Commanded.{IsCodeOfCalls, AreReady};
+ghost use Rattle.ob_load.specs.Commanded.{AreCalled, AreReady, IsCodeOfCalls, WithHome};
 ghost use Rattle.ob_load.specs.MachineState.{begun_in};
 ghost use Rattle.ob_load.specs.declared.task.Task.TheVariants as task;
 ghost use Rattle.ob_mean.specs.declared.whole.expression.Callee.TheVariants as callee;
 ghost use Rattle.ob_mean.specs.declared.whole.statement.Action.TheVariants as action;
 ghost use Rattle.ob_mean.specs.declared.whole.statement.TypedStatement.TheVariants as statement;
+ghost use Rattle.ob_mean.specs.whole.Programs as programs;
 ghost use Rattle.ob_mean.specs.whole.WellFormed.{heading_of, own_heading};
 
 use crate::given::GivenLines;
@@ -79,34 +80,46 @@ fn place_of(modules: &Modules, runs: &[bool], command: Command) -> Option<usize>
     }
 }
 
-// The same of each command. Where one has no place, the answer is want of memory.
-fn places_of(
-    modules: &Modules,
-    runs: &[bool],
-    commands: &[Command],
-) -> Result<Vec<usize>, AllocError>
-    requires { (n : ℕ) → runs_of runs.now n ≡ runs_in modules.now n }
-    ensures { IfOk result (λ places. AllCallable modules.now commands.now places.items) }
+// The number of the import of this module, which is a new one where none was its import.
+fn import_of(homes: &mut Vec<usize>, home: usize) -> Result<usize, AllocError>
+    ensures there { IfOk result (λ import. slice_get homes.new.items import ≡ Some home) }
+    ensures others { OnOk result (WithHome homes.old.items home homes.new.items) }
 {
-    let mut places = Vec::new(modules.alloc());
+    match place_in(homes.as_slice(), home) {
+        Some(import) => Ok(import),
+        None => {
+            let import = homes.len();
+            homes.push(home)?;
+            Ok(import)
+        }
+    }
+}
+
+// The modules that are imported for commands, each once, and the calls: the number of an import, and a place there.
+#[derive(Drop)]
+struct Called {
+    homes: Vec<usize>,
+    calls: Vec<(usize, usize)>,
+}
+
+// The calls of commands. Where a command has no place, the answer is want of memory.
+fn all_calls(modules: &Modules, runs: &[bool], commands: &[Command]) -> Result<Called, AllocError>
+    requires { (n : ℕ) → runs_of runs.now n ≡ runs_in modules.now n }
+    ensures { IfOk result (λ c. AreCalled modules.now commands.now c.homes.items c.calls.items) }
+{
+    let alloc = modules.alloc();
+    let mut homes = Vec::new(alloc);
+    let mut calls = Vec::new(alloc);
     for command in commands {
         match place_of(modules, runs, *command) {
-            Some(place) => places.push(place)?,
+            Some(place) => {
+                let import = import_of(&mut homes, command.home())?;
+                calls.push((import, place))?;
+            }
             None => return Err(AllocError),
         }
     }
-    Ok(places)
-}
-
-// The numbers of the commands' modules.
-fn homes_of(alloc: Global, commands: &[Command]) -> Result<Vec<usize>, AllocError>
-    ensures { IfOk result (λ numbers. numbers.items ≡ homes commands.now) }
-{
-    let mut numbers = Vec::new(alloc);
-    for command in commands {
-        numbers.push(command.home())?;
-    }
-    Ok(numbers)
+    Ok(Called { homes, calls })
 }
 
 // What is known of the module of this number.
@@ -137,13 +150,13 @@ fn call_of(alloc: Global, import: usize, place: usize) -> TypedStatement
     TypedStatement::Simple(Action::Call(Callee::OfImport(import, place), 0, Items::new(alloc)))
 }
 
-// A module that calls the procedures at these places, each in an import of its own.
-fn commands_tree(alloc: Global, places: &[usize]) -> Result<TypedModule, AllocError>
-    ensures { IfOk result (λ tree. tree ≡ code.commands_tree places.now) }
+// A module of these calls.
+fn commands_tree(alloc: Global, calls: &[(usize, usize)]) -> Result<TypedModule, AllocError>
+    ensures { IfOk result (λ tree. tree ≡ code.commands_tree calls.now) }
 {
     let mut body = Items::new(alloc);
-    for import in 0..places.len() {
-        body.push(call_of(alloc, import, places[import]))?;
+    for call in calls {
+        body.push(call_of(alloc, call.0, call.1))?;
     }
     Ok(TypedModule {
         name: Text::from_vec(Vec::new(alloc)),
@@ -154,23 +167,20 @@ fn commands_tree(alloc: Global, places: &[usize]) -> Result<TypedModule, AllocEr
     })
 }
 
-// The code of such a module, over what is known of the modules of these numbers, those of the commands.
+// The code of such a module, over what is known of the modules that are imported.
 fn commands_code(
     modules: &Modules,
     known: &[KnownFaces],
-    runs: &[bool],
-    commands: &[Command],
-    numbers: &[usize],
+    homes: &[usize],
+    calls: &[(usize, usize)],
 ) -> Result<Checked, AllocError>
     requires compiled { (all : Code) × AreCompiled modules.now known.now all }
-    requires flags { (n : ℕ) → runs_of runs.now n ≡ runs_in modules.now n }
-    requires homes { numbers.now ≡ homes commands.now }
-    ensures { IfOk result (IsCodeOfCalls modules.now known.now commands.now) }
+    requires called { (cs : List programs.Command) × AreCalled modules.now cs homes.now calls.now }
+    ensures { (cs : List programs.Command) → AreCalled modules.now cs homes.now calls.now → IfOk result (IsCodeOfCalls modules.now known.now cs homes.now) }
 {
     let alloc = modules.alloc();
-    let places = places_of(modules, runs, commands)?;
-    let faces = faces_of(alloc, known, numbers)?;
-    let tree = commands_tree(alloc, places.as_slice())?;
+    let faces = faces_of(alloc, known, homes)?;
+    let tree = commands_tree(alloc, calls)?;
     let code = generate(alloc, faces.as_slice(), &tree)?;
     Ok(code)
 }
@@ -197,13 +207,13 @@ fn calls_of(
     ensures { IfOk result (AreReady modules.now known.now commands.now longest) }
 {
     let alloc = modules.alloc();
-    let imports = homes_of(alloc, commands)?;
-    let code = commands_code(modules, known, runs, commands, imports.as_slice())?;
+    let Called { homes, calls } = all_calls(modules, runs, commands)?;
+    let code = commands_code(modules, known, homes.as_slice(), calls.as_slice())?;
     let name = Vec::with_capacity(alloc, longest)?;
     let room = ob_vm::whole::Machine::room(alloc, &code)?;
     Ok(Calls {
         code,
-        imports,
+        imports: homes,
         name,
         room,
     })

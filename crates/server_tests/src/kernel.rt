@@ -1,164 +1,106 @@
-use jk_core::{Arrival, Entry, Job, Kernel, To, Told, Used, What, Work};
-use jp_msg::{Outcome, Output, State, read_message};
-use json_form::{Shared, Text};
+use crate::shown::{read_all, shows, take, take_cell, take_interrupt, works};
+use jk_core::{Job, Kernel, Used, What, Work};
+use jk_language::Language;
+use json_form::Text;
 use std::alloc::Global;
 use std::process::Abort;
 use std::test::Fail;
+use test_language::TestLanguage;
 
-// A cell of two turns, which writes `4` and `2`; one whose static rule is broken; one whose comment is open.
-const WRITES: &str = "MODULE A; IMPORT Out; BEGIN Out.Int(4, 0); Out.Int(2, 0) END A.";
+// A cell of two turns, which writes `4` and `2`; one that is refused; one that cuts itself off; one that does not link.
+const WRITES: &str = "42";
 
-const BREAKS_A_RULE: &str = "MODULE A; BEGIN x := 1 END A.";
+const REFUSED: &str = "#";
 
-const UNREADABLE: &str = "(* (* *)";
+const TRAPS: &str = "!ab";
 
-fn request(alloc: Global, text: &str) -> Result<Shared<jp_msg::Message>, Fail> {
-    let message = read_message(alloc, text)?;
-    Ok(Shared::share(alloc, message)?)
-}
-
-/// Takes a cell from a seat.
-fn take_cell(
-    alloc: Global,
-    kernel: &mut Kernel,
-    seat: u8,
-    id: &str,
-    code: &str,
-    more: &str,
-) -> Result<(), Fail> {
-    let text = format!(in alloc;
-        "{{\"content\":{{\"code\":\"{code}\"{more}}},\"header\":{{\"msg_id\":\"{id}\",\"msg_type\":\"execute_request\",\"session\":\"s\"}}}}"
-    )?;
-    let what = What::Shell(request(alloc, text.as_str())?);
-    let number = 1;
-    kernel.take(Arrival { seat, number, what })?;
-    Ok(())
-}
-
-/// Reads every text that waits.
-fn read_all(alloc: Global, kernel: &mut Kernel) -> Result<(), Fail> {
-    for _ in 0..8 {
-        if let Some(job) = kernel.next_job()? {
-            let _ = kernel.parsed(job.parse(alloc));
-        }
-    }
-    Ok(())
-}
-
-fn add_told(alloc: Global, text: &mut String, entry: &Entry) -> Result<(), Fail> {
-    let id = match &entry.parent {
-        Some(message) => Text::copy(&message.value().header.msg_id)?,
-        None => Text::from_str(alloc, "nothing")?,
-    };
-    let id = id.as_str();
-    let to = match entry.to {
-        To::All => 8,
-        To::Seat(seat) => seat,
-        To::Nobody => 9,
-    };
-    let told = match &entry.content {
-        Told::Joined { seat, number } => format!(in alloc; "joined {seat} {number}")?,
-        Told::Output(output) => match output {
-            Output::Status(State::Busy) => format!(in alloc; "busy {id}")?,
-            Output::Status(State::Idle) => format!(in alloc; "idle {id}")?,
-            Output::ExecuteInput {
-                code: _,
-                execution_count: count,
-            } => format!(in alloc; "input {count}")?,
-            Output::Stream(written) => {
-                let written = written.as_str();
-                format!(in alloc; "stream {written}")?
-            }
-            Output::Error(failure) => {
-                let ename = failure.ename.as_str();
-                let evalue = failure.evalue.as_str();
-                format!(in alloc; "error {ename} {evalue}")?
-            }
-            Output::ExecuteReply(
-                Outcome::Done {
-                    execution_count: count,
-                },
-            ) => format!(in alloc; "ok {count}")?,
-            Output::ExecuteReply(
-                Outcome::Failed {
-                    execution_count: count,
-                    failure,
-                },
-            ) => {
-                let ename = failure.ename.as_str();
-                format!(in alloc; "err {count} {ename}")?
-            }
-            Output::ExecuteReply(Outcome::Aborted) => format!(in alloc; "aborted")?,
-            Output::InterruptReply => format!(in alloc; "interrupt_reply")?,
-            _ => format!(in alloc; "another")?,
-        },
-    };
-    text.push_str(told.as_str())?;
-    let end = format!(in alloc; " to {to}\n")?;
-    text.push_str(end.as_str())?;
-    Ok(())
-}
-
-/// What is pending, a line for each entry. 8 is all, 9 is nobody.
-fn shown(alloc: Global, kernel: &mut Kernel) -> Result<String, Fail> {
-    let mut text = String::new(alloc);
-    let marks = kernel.pending_marks();
-    for entry in &kernel.take_pending(marks)? {
-        add_told(alloc, &mut text, &entry.copy()?)?;
-    }
-    Ok(text)
-}
-
-/// Whether what is pending is this.
-fn shows(alloc: Global, kernel: &mut Kernel, wanted: &str) -> Result<bool, Fail> {
-    Ok(shown(alloc, kernel)?.as_str() == wanted)
-}
-
-/// Whether so many turns come to this.
-fn works(kernel: &mut Kernel, turns: u64, wanted: Work) -> bool {
-    kernel.work(turns) == wanted
-}
-
-/// Takes what is no cell.
-fn take(kernel: &mut Kernel, seat: u8, what: What) -> Result<(), Fail> {
-    let number = 1;
-    kernel.take(Arrival { seat, number, what })?;
-    Ok(())
-}
+const UNLINKED: &str = "@";
 
 /// The next text to be parsed.
-fn next(kernel: &mut Kernel) -> Result<Option<Job>, Fail> {
+fn next<L: Language>(kernel: &mut Kernel<L>) -> Result<Option<Job>, Fail> {
     Ok(kernel.next_job()?)
 }
 
 /// Whether what a job's parse gives is kept.
-fn is_kept(alloc: Global, kernel: &mut Kernel, job: Job) -> bool {
+fn is_kept<L: Language>(alloc: Global, kernel: &mut Kernel<L>, job: Job) -> bool {
     matches!(kernel.parsed(job.parse(alloc)), Used::Kept)
 }
 
 /// Whether the parse of another text under the first number is given back.
-fn is_stranger(alloc: Global, kernel: &mut Kernel, text: &str) -> Result<bool, Fail> {
+fn is_stranger<L: Language>(
+    alloc: Global,
+    kernel: &mut Kernel<L>,
+    text: &str,
+) -> Result<bool, Fail> {
     let number = 1;
     let text = Text::from_str(alloc, text)?;
     let used = kernel.parsed(Job { number, text }.parse(alloc));
     Ok(matches!(used, Used::Stranger(_)))
 }
 
-fn slices(rt: &impl Abort, alloc: Global, kernel: &mut Kernel) -> Result<(), Fail> {
+fn slices<L: Language>(
+    rt: &impl Abort,
+    alloc: Global,
+    kernel: &mut Kernel<L>,
+) -> Result<(), Fail> {
     assert!(rt; works(kernel, 10, Work::Rest));
     take_cell(alloc, kernel, 1, "m1", WRITES, "")?;
     assert!(rt; works(kernel, 10, Work::NeedsParse));
     read_all(alloc, kernel)?;
     assert!(rt; works(kernel, 1, Work::Ran));
-    assert!(rt; shows(alloc, kernel, "busy m1 to 8\ninput 1 to 8\nstream 4 to 8\n")?);
+    assert!(rt;
+        shows(
+            alloc,
+            kernel,
+            "busy for m1 to 8\ninput 1 for m1 to 8\nstream 4 for m1 to 8\n"
+        )?
+    );
+    assert!(rt; !kernel.is_at_rest());
     assert!(rt; works(kernel, 1, Work::Ran));
-    assert!(rt; shows(alloc, kernel, "stream 2 to 8\nok 1 to 1\nidle m1 to 8\n")?);
+    assert!(rt;
+        shows(
+            alloc,
+            kernel,
+            "stream 2 for m1 to 8\nok 1 for m1 to 1\nidle for m1 to 8\n"
+        )?
+    );
+    assert!(rt; kernel.is_at_rest());
     assert!(rt; works(kernel, 1, Work::Rest));
     Ok(())
 }
 
+/// A slice that writes nothing marks nothing.
+fn quiet_slices<L: Language>(
+    rt: &impl Abort,
+    alloc: Global,
+    kernel: &mut Kernel<L>,
+) -> Result<(), Fail> {
+    take_cell(alloc, kernel, 1, "m1", "......x", "")?;
+    read_all(alloc, kernel)?;
+    for _ in 0..3 {
+        assert!(rt; works(kernel, 2, Work::Ran));
+        assert_eq!(rt; kernel.pending_marks(), 1);
+    }
+    assert!(rt; works(kernel, 0, Work::Ran));
+    assert_eq!(rt; kernel.pending_marks(), 1);
+    assert!(rt; works(kernel, 2, Work::Ran));
+    assert_eq!(rt; kernel.pending_marks(), 3);
+    assert!(rt;
+        shows(
+            alloc,
+            kernel,
+            "busy for m1 to 8\ninput 1 for m1 to 8\nstream x for m1 to 8\nok 1 for m1 to 1\nidle for m1 to 8\n"
+        )?
+    );
+    Ok(())
+}
+
 /// The two texts that wait are parsed, and the second comes first.
-fn parse_in_reverse(rt: &impl Abort, alloc: Global, kernel: &mut Kernel) -> Result<(), Fail> {
+fn parse_in_reverse<L: Language>(
+    rt: &impl Abort,
+    alloc: Global,
+    kernel: &mut Kernel<L>,
+) -> Result<(), Fail> {
     if let (Some(first), Some(second)) = (next(kernel)?, next(kernel)?) {
         assert_eq!(rt; (first.number, second.number), (1, 2));
         assert!(rt; is_kept(alloc, kernel, second));
@@ -170,7 +112,11 @@ fn parse_in_reverse(rt: &impl Abort, alloc: Global, kernel: &mut Kernel) -> Resu
     Ok(())
 }
 
-fn reverse_order(rt: &impl Abort, alloc: Global, kernel: &mut Kernel) -> Result<(), Fail> {
+fn reverse_order<L: Language>(
+    rt: &impl Abort,
+    alloc: Global,
+    kernel: &mut Kernel<L>,
+) -> Result<(), Fail> {
     take_cell(alloc, kernel, 1, "m1", WRITES, "")?;
     take_cell(alloc, kernel, 2, "m2", "", "")?;
     parse_in_reverse(rt, alloc, kernel)?;
@@ -181,13 +127,17 @@ fn reverse_order(rt: &impl Abort, alloc: Global, kernel: &mut Kernel) -> Result<
         shows(
             alloc,
             kernel,
-            "busy m1 to 8\ninput 1 to 8\nstream 42 to 8\nok 1 to 1\nidle m1 to 8\nbusy m2 to 8\ninput 2 to 8\nok 2 to 2\nidle m2 to 8\n"
+            "busy for m1 to 8\ninput 1 for m1 to 8\nstream 42 for m1 to 8\nok 1 for m1 to 1\nidle for m1 to 8\nbusy for m2 to 8\ninput 2 for m2 to 8\nok 2 for m2 to 2\nidle for m2 to 8\n"
         )?
     );
     Ok(())
 }
 
-fn another_text(rt: &impl Abort, alloc: Global, kernel: &mut Kernel) -> Result<(), Fail> {
+fn another_text<L: Language>(
+    rt: &impl Abort,
+    alloc: Global,
+    kernel: &mut Kernel<L>,
+) -> Result<(), Fail> {
     take_cell(alloc, kernel, 1, "m1", WRITES, "")?;
     assert!(rt; is_stranger(alloc, kernel, "other")?);
     read_all(alloc, kernel)?;
@@ -195,8 +145,12 @@ fn another_text(rt: &impl Abort, alloc: Global, kernel: &mut Kernel) -> Result<(
     Ok(())
 }
 
-fn aborting_error(rt: &impl Abort, alloc: Global, kernel: &mut Kernel) -> Result<(), Fail> {
-    take_cell(alloc, kernel, 1, "m1", BREAKS_A_RULE, "")?;
+fn aborting_error<L: Language>(
+    rt: &impl Abort,
+    alloc: Global,
+    kernel: &mut Kernel<L>,
+) -> Result<(), Fail> {
+    take_cell(alloc, kernel, 1, "m1", REFUSED, "")?;
     take_cell(alloc, kernel, 2, "m2", "", "")?;
     read_all(alloc, kernel)?;
     assert!(rt; works(kernel, 1000, Work::Ran));
@@ -204,7 +158,7 @@ fn aborting_error(rt: &impl Abort, alloc: Global, kernel: &mut Kernel) -> Result
         shows(
             alloc,
             kernel,
-            "busy m1 to 8\ninput 1 to 8\nerror CompileError compile error 10 at 1:17 to 8\nerr 1 CompileError to 1\nidle m1 to 8\nbusy m2 to 8\naborted to 2\nidle m2 to 8\n"
+            "busy for m1 to 8\ninput 1 for m1 to 8\nerror CompileError compile error 5 at 1:1 for m1 to 8\nerr 1 CompileError for m1 to 1\nidle for m1 to 8\nbusy for m2 to 8\naborted for m2 to 2\nidle for m2 to 8\n"
         )?
     );
     take_cell(alloc, kernel, 2, "m3", "", "")?;
@@ -214,33 +168,26 @@ fn aborting_error(rt: &impl Abort, alloc: Global, kernel: &mut Kernel) -> Result
         shows(
             alloc,
             kernel,
-            "busy m3 to 8\ninput 2 to 8\nok 2 to 2\nidle m3 to 8\n"
+            "busy for m3 to 8\ninput 2 for m3 to 8\nok 2 for m3 to 2\nidle for m3 to 8\n"
         )?
     );
     Ok(())
 }
 
-fn error_that_stops_nothing(
+fn errors_that_stop_nothing<L: Language>(
     rt: &impl Abort,
     alloc: Global,
-    kernel: &mut Kernel,
+    kernel: &mut Kernel<L>,
 ) -> Result<(), Fail> {
-    take_cell(
-        alloc,
-        kernel,
-        1,
-        "m1",
-        UNREADABLE,
-        ",\"stop_on_error\":false",
-    )?;
-    take_cell(alloc, kernel, 2, "m2", BREAKS_A_RULE, "")?;
+    take_cell(alloc, kernel, 1, "m1", TRAPS, ",\"stop_on_error\":false")?;
+    take_cell(alloc, kernel, 2, "m2", UNLINKED, "")?;
     read_all(alloc, kernel)?;
     assert!(rt; works(kernel, 1000, Work::Ran));
     assert!(rt;
         shows(
             alloc,
             kernel,
-            "busy m1 to 8\ninput 1 to 8\nerror CompileError compile error 2 at 1:1 to 8\nerr 1 CompileError to 1\nidle m1 to 8\n"
+            "busy for m1 to 8\ninput 1 for m1 to 8\nstream ab for m1 to 8\nerror Trap trap 2 in , line 1 for m1 to 8\nerr 1 Trap for m1 to 1\nidle for m1 to 8\n"
         )?
     );
     assert!(rt; works(kernel, 1000, Work::Ran));
@@ -248,21 +195,43 @@ fn error_that_stops_nothing(
         shows(
             alloc,
             kernel,
-            "busy m2 to 8\ninput 2 to 8\nerror CompileError compile error 10 at 1:17 to 8\nerr 2 CompileError to 2\nidle m2 to 8\n"
+            "busy for m2 to 8\ninput 2 for m2 to 8\nok 2 for m2 to 2\nidle for m2 to 8\n"
         )?
     );
     Ok(())
 }
 
-fn silent_cell(rt: &impl Abort, alloc: Global, kernel: &mut Kernel) -> Result<(), Fail> {
-    take_cell(alloc, kernel, 1, "m1", BREAKS_A_RULE, ",\"silent\":true")?;
+fn unlinked<L: Language>(
+    rt: &impl Abort,
+    alloc: Global,
+    kernel: &mut Kernel<L>,
+) -> Result<(), Fail> {
+    take_cell(alloc, kernel, 1, "m1", UNLINKED, "")?;
     read_all(alloc, kernel)?;
     assert!(rt; works(kernel, 1000, Work::Ran));
     assert!(rt;
         shows(
             alloc,
             kernel,
-            "busy m1 to 8\nerr 0 CompileError to 1\nidle m1 to 8\n"
+            "busy for m1 to 8\ninput 1 for m1 to 8\nerror LinkError link error 30: M for m1 to 8\nerr 1 LinkError for m1 to 1\nidle for m1 to 8\n"
+        )?
+    );
+    Ok(())
+}
+
+fn silent_cell<L: Language>(
+    rt: &impl Abort,
+    alloc: Global,
+    kernel: &mut Kernel<L>,
+) -> Result<(), Fail> {
+    take_cell(alloc, kernel, 1, "m1", TRAPS, ",\"silent\":true")?;
+    read_all(alloc, kernel)?;
+    assert!(rt; works(kernel, 1000, Work::Ran));
+    assert!(rt;
+        shows(
+            alloc,
+            kernel,
+            "busy for m1 to 8\nerr 0 Trap for m1 to 1\nidle for m1 to 8\n"
         )?
     );
     take_cell(alloc, kernel, 1, "m2", "", "")?;
@@ -272,31 +241,32 @@ fn silent_cell(rt: &impl Abort, alloc: Global, kernel: &mut Kernel) -> Result<()
         shows(
             alloc,
             kernel,
-            "busy m2 to 8\ninput 1 to 8\nok 1 to 1\nidle m2 to 8\n"
+            "busy for m2 to 8\ninput 1 for m2 to 8\nok 1 for m2 to 1\nidle for m2 to 8\n"
         )?
     );
     Ok(())
 }
 
-const INTERRUPT: &str =
-    "{\"channel\":\"control\",\"header\":{\"msg_id\":\"i1\",\"msg_type\":\"interrupt_request\",\"session\":\"s\"},\"content\":{}}";
-
-fn interrupt(rt: &impl Abort, alloc: Global, kernel: &mut Kernel) -> Result<(), Fail> {
+fn interrupt<L: Language>(
+    rt: &impl Abort,
+    alloc: Global,
+    kernel: &mut Kernel<L>,
+) -> Result<(), Fail> {
     take(kernel, 3, What::Join)?;
     take_cell(alloc, kernel, 3, "m1", WRITES, "")?;
     read_all(alloc, kernel)?;
     assert!(rt; works(kernel, 1, Work::Ran));
-    take(kernel, 0, What::Control(request(alloc, INTERRUPT)?))?;
+    take_interrupt(alloc, kernel, 0)?;
     assert!(rt;
         shows(
             alloc,
             kernel,
-            "joined 3 1 to 9\nbusy m1 to 8\ninput 1 to 8\nstream 4 to 8\nbusy i1 to 8\ninterrupt_reply to 0\nidle i1 to 8\nerror Interrupted  to 8\nerr 1 Interrupted to 3\nidle m1 to 8\n"
+            "joined 3 1 for nothing to 9\nbusy for m1 to 8\ninput 1 for m1 to 8\nstream 4 for m1 to 8\nbusy for i1 to 8\ninterrupt_reply for i1 to 0\nidle for i1 to 8\nerror Interrupted  for m1 to 8\nerr 1 Interrupted for m1 to 3\nidle for m1 to 8\n"
         )?
     );
     assert!(rt; works(kernel, 10, Work::Rest));
     take(kernel, 0, What::Leave)?;
-    assert_eq!(rt; kernel.pending_marks(), 0);
+    assert!(rt; shows(alloc, kernel, "left 0 1 for nothing to 9\n")?);
     Ok(())
 }
 
@@ -304,36 +274,41 @@ fn interrupt(rt: &impl Abort, alloc: Global, kernel: &mut Kernel) -> Result<(), 
 #[derive(Clone, Copy)]
 enum Play {
     OneCellInSlices,
+    QuietSlices,
     ResultsInReverseOrder,
     AnotherText,
     AbortingError,
-    ErrorThatStopsNothing,
+    ErrorsThatStopNothing,
+    Unlinked,
     SilentCell,
     Interrupt,
 }
 
-fn play_on(rt: &impl Abort, alloc: Global, kernel: &mut Kernel, play: Play) -> Result<(), Fail> {
+/// Plays on a kernel that has taken nothing.
+fn play_anew(rt: &impl Abort, alloc: Global, play: Play) -> Result<(), Fail> {
+    let mut kernel: Kernel<TestLanguage> = Kernel::new(alloc)?;
+    let kernel = &mut kernel;
     match play {
         Play::OneCellInSlices => slices(rt, alloc, kernel),
+        Play::QuietSlices => quiet_slices(rt, alloc, kernel),
         Play::ResultsInReverseOrder => reverse_order(rt, alloc, kernel),
         Play::AnotherText => another_text(rt, alloc, kernel),
         Play::AbortingError => aborting_error(rt, alloc, kernel),
-        Play::ErrorThatStopsNothing => error_that_stops_nothing(rt, alloc, kernel),
+        Play::ErrorsThatStopNothing => errors_that_stop_nothing(rt, alloc, kernel),
+        Play::Unlinked => unlinked(rt, alloc, kernel),
         Play::SilentCell => silent_cell(rt, alloc, kernel),
         Play::Interrupt => interrupt(rt, alloc, kernel),
     }
 }
 
-/// Plays on a kernel that has taken nothing. No other test's function owns a kernel, since the proof of its drop
-/// is long.
-fn play_anew(rt: &impl Abort, alloc: Global, play: Play) -> Result<(), Fail> {
-    let mut kernel = Kernel::new(alloc)?;
-    play_on(rt, alloc, &mut kernel, play)
-}
-
 #[test]
 fn one_cell_in_slices(rt: HostRuntime) -> Result<(), Fail> {
     play_anew(&rt, rt.alloc(), Play::OneCellInSlices)
+}
+
+#[test]
+fn slices_that_write_nothing(rt: HostRuntime) -> Result<(), Fail> {
+    play_anew(&rt, rt.alloc(), Play::QuietSlices)
 }
 
 #[test]
@@ -353,7 +328,12 @@ fn an_error_aborts_what_waits(rt: HostRuntime) -> Result<(), Fail> {
 
 #[test]
 fn an_error_that_stops_nothing(rt: HostRuntime) -> Result<(), Fail> {
-    play_anew(&rt, rt.alloc(), Play::ErrorThatStopsNothing)
+    play_anew(&rt, rt.alloc(), Play::ErrorsThatStopNothing)
+}
+
+#[test]
+fn a_cell_that_does_not_link(rt: HostRuntime) -> Result<(), Fail> {
+    play_anew(&rt, rt.alloc(), Play::Unlinked)
 }
 
 #[test]

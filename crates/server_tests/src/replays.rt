@@ -1,277 +1,197 @@
-use jk_replay::{End, ReplayFault, replay_lines};
+use crate::devices::{Limited, Trickle, played};
+use crate::lines::{
+    cell_line, ended, failed, first_cell, input_line, input_request, stream, whole_cell,
+};
+use jk_replay::{End, ReplayFault, Side, replay_lines};
 use json_form::Fault;
 use std::alloc::Global;
 use std::io;
-use std::io::{ErrorKind, Read, Write};
+use std::io::Read;
 use std::process::Abort;
 use std::test::Fail;
+use test_language::TestLanguage;
 
-/// Gives at most `step` bytes a read, and fails at read number `fault`, counted from 1.
-#[derive(Drop)]
-struct Trickle<'a> {
-    rest: &'a [u8],
-    step: usize,
-    reads: u64,
-    fault: u64,
-}
-
-impl Read for Trickle<'_> {
-    fn read(&mut self, buf: &mut [u8]) -> io::Result<usize> {
-        self.reads = self.reads.wrapping_add(1);
-        if self.reads == self.fault {
-            return Err(ErrorKind::ConnectionReset.into());
-        }
-        let count = self.rest.len().min(buf.len()).min(self.step);
-        buf[..count].copy_from_slice(&self.rest[..count]);
-        self.rest = &self.rest[count..];
-        Ok(count)
-    }
-}
-
-/// Takes at most 7 bytes a write, and fails at write number `fault`, counted from 1.
-#[derive(Drop)]
-struct Limited {
-    written: Vec<u8>,
-    writes: u64,
-    fault: u64,
-}
-
-impl Write for Limited {
-    fn write(&mut self, buf: &[u8]) -> io::Result<usize> {
-        self.writes = self.writes.wrapping_add(1);
-        if self.writes == self.fault {
-            return Err(ErrorKind::ConnectionReset.into());
-        }
-        let count = buf.len().min(7);
-        self.written.extend_from_slice(&buf[..count])?;
-        Ok(count)
-    }
-
-    fn flush(&mut self) -> io::Result<()> {
-        Ok(())
-    }
-}
-
-/// How a replay of an input ends, with what it writes. Reads and writes fail as told, 0 for never.
-fn played(
-    alloc: Global,
-    input: &[u8],
-    step: usize,
-    read_fault: u64,
-    write_fault: u64,
-) -> (Result<End, ReplayFault>, Vec<u8>) {
-    let mut reader = Trickle {
-        rest: input,
-        step,
-        reads: 0,
-        fault: read_fault,
-    };
-    let mut writer = Limited {
-        written: Vec::new(alloc),
-        writes: 0,
-        fault: write_fault,
-    };
-    let end = replay_lines(alloc, &mut reader, &mut writer);
-    (end, writer.written)
-}
-
-/// A line that asks for a cell.
-fn cell_line(alloc: Global, id: &str, code: &str) -> Result<String, Fail> {
-    Ok(format!(in alloc;
-        "{{\"content\":{{\"code\":\"{code}\"}},\"header\":{{\"msg_id\":\"{id}\",\"msg_type\":\"execute_request\",\"session\":\"s\"}}}}\n"
-    )?)
-}
-
-/// A line of an entry to all.
-fn told(alloc: Global, id: &str, kind: &str, content: &str) -> Result<String, Fail> {
-    Ok(format!(in alloc;
-        "{{\"channel\":\"iopub\",\"content\":{content},\"msg_type\":\"{kind}\",\"parent\":\"{id}\",\"to\":\"all\"}}\n"
-    )?)
-}
-
-/// The lines of a reply, and idle.
-fn replied(alloc: Global, id: &str, content: &str) -> Result<String, Fail> {
-    let idle = told(alloc, id, "status", "{\"execution_state\":\"idle\"}")?;
-    let idle = idle.as_str();
-    Ok(format!(in alloc;
-        "{{\"channel\":\"shell\",\"content\":{content},\"msg_type\":\"execute_reply\",\"parent\":\"{id}\",\"to\":0}}\n{idle}"
-    )?)
-}
-
-/// The lines of busy, the input of a cell, its streams, and a reply.
-fn cell_lines(
-    alloc: Global,
-    id: &str,
-    code: &str,
-    streams: &[&str],
-    reply: &str,
-) -> Result<String, Fail> {
-    let mut lines = told(alloc, id, "status", "{\"execution_state\":\"busy\"}")?;
-    let input = format!(in alloc; "{{\"code\":\"{code}\",\"execution_count\":1}}")?;
-    lines.push_str(told(alloc, id, "execute_input", input.as_str())?.as_str())?;
-    for text in streams {
-        let stream = format!(in alloc; "{{\"name\":\"stdout\",\"text\":\"{text}\"}}")?;
-        lines.push_str(told(alloc, id, "stream", stream.as_str())?.as_str())?;
-    }
-    lines.push_str(reply)?;
-    Ok(lines)
-}
-
-const OK: &str = "{\"execution_count\":1,\"payload\":[],\"status\":\"ok\",\"user_expressions\":{}}";
-
-/// The lines of an error of the first cell.
-fn failed(alloc: Global, id: &str, ename: &str, evalue: &str) -> Result<String, Fail> {
-    let error = format!(in alloc;
-        "{{\"ename\":\"{ename}\",\"evalue\":\"{evalue}\",\"traceback\":[\"{ename}: {evalue}\"]}}"
-    )?;
-    let reply = format!(in alloc;
-        "{{\"ename\":\"{ename}\",\"evalue\":\"{evalue}\",\"execution_count\":1,\"status\":\"error\",\"traceback\":[\"{ename}: {evalue}\"]}}"
-    )?;
-    let mut lines = told(alloc, id, "error", error.as_str())?;
-    lines.push_str(replied(alloc, id, reply.as_str())?.as_str())?;
-    Ok(lines)
-}
-
-/// An input rests at its end and writes just this. In particular no memory is wanted, and no device failed.
-fn assert_rests<R: AllocGlobal + Abort>(rt: &R, input: &str, wanted: &str) -> Result<(), Fail> {
-    let (end, written) = played(rt.alloc(), input.as_bytes(), 50, 0, 0);
+/// An input ends so and writes just this. In particular no memory is wanted, and no device failed.
+fn assert_ends<R: AllocGlobal + Abort>(
+    rt: &R,
+    input: &str,
+    wanted: &str,
+    wanted_end: End,
+) -> Result<(), Fail> {
+    let (end, written) = played::<TestLanguage>(rt.alloc(), input.as_bytes(), 50, 0, 0);
     assert_eq!(rt; std::str::from_utf8(written.as_slice()), Ok(wanted));
-    assert_eq!(rt; end, Ok(End::Rest));
+    assert_eq!(rt; end, Ok(wanted_end));
     Ok(())
 }
-
-const COUNTS: &str =
-    "MODULE L; IMPORT Out; VAR i: INTEGER; BEGIN WHILE i < 3 DO Out.Int(i, 2); i := i + 1 END END L.";
 
 #[test]
 fn an_empty_cell(rt: HostRuntime) -> Result<(), Fail> {
-    let wanted = cell_lines(
-        rt.alloc(),
-        "m",
-        "",
-        &[],
-        replied(rt.alloc(), "m", OK)?.as_str(),
+    let line = cell_line(rt.alloc(), "m", "", "")?;
+    let wanted = whole_cell(rt.alloc(), "", &[])?;
+    assert_ends(&rt, line.as_str(), wanted.as_str(), End::Rest)
+}
+
+#[test]
+fn a_cell_whole_and_in_slices(rt: HostRuntime) -> Result<(), Fail> {
+    let line = cell_line(rt.alloc(), "m", "a..b", "")?;
+    let line = line.as_str();
+    let whole = whole_cell(rt.alloc(), "a..b", &["ab"])?;
+    assert_ends(&rt, line, whole.as_str(), End::Rest)?;
+    let four = format!(in rt.alloc(); "{line}{{\"run\":4}}\n")?;
+    assert_ends(&rt, four.as_str(), whole.as_str(), End::Rest)?;
+    let parts = whole_cell(rt.alloc(), "a..b", &["a", "b"])?;
+    let one = format!(in rt.alloc(); "{line}{{\"run\":1}}\n\n{{\"run\":0}}\n{{\"run\":2}}")?;
+    assert_ends(&rt, one.as_str(), parts.as_str(), End::Rest)
+}
+
+#[test]
+fn errors(rt: HostRuntime) -> Result<(), Fail> {
+    for (code, streams, ename, evalue) in [
+        ("#", [].as_slice(), "CompileError", "compile error 5 at 1:1"),
+        ("@", [].as_slice(), "LinkError", "link error 30: M"),
+        ("!ab", ["ab"].as_slice(), "Trap", "trap 2 in , line 1"),
+    ] {
+        let line = cell_line(rt.alloc(), "m", code, "")?;
+        let failure = failed(rt.alloc(), "m", 1, ename, evalue)?;
+        let wanted = first_cell(rt.alloc(), code, streams, failure.as_str())?;
+        assert_ends(&rt, line.as_str(), wanted.as_str(), End::Rest)?;
+    }
+    Ok(())
+}
+
+#[test]
+fn a_line_that_is_asked_for(rt: HostRuntime) -> Result<(), Fail> {
+    let line = cell_line(rt.alloc(), "m", "a?$", "")?;
+    let request = input_request(rt.alloc(), "m")?;
+    let asks = first_cell(rt.alloc(), "a?$", &["a"], request.as_str())?;
+    assert_ends(&rt, line.as_str(), asks.as_str(), End::WorkLeft)?;
+    let input = format!(in rt.alloc();
+        "{}{{\"run\":1000}}\n{}", line.as_str(), input_line(rt.alloc(), "xyz")?.as_str()
     )?;
-    assert_rests(
-        &rt,
-        cell_line(rt.alloc(), "m", "")?.as_str(),
-        wanted.as_str(),
-    )
+    let wanted = format!(in rt.alloc();
+        "{}{}{}",
+        asks.as_str(),
+        stream(rt.alloc(), "m", "x")?.as_str(),
+        ended(rt.alloc(), "m", 1)?.as_str()
+    )?;
+    assert_ends(&rt, input.as_str(), wanted.as_str(), End::Rest)
 }
 
 #[test]
-fn a_loop_whole_and_in_slices(rt: HostRuntime) -> Result<(), Fail> {
-    let line = cell_line(rt.alloc(), "m", COUNTS)?;
-    let reply = replied(rt.alloc(), "m", OK)?;
-    let whole = cell_lines(rt.alloc(), "m", COUNTS, &[" 0 1 2"], reply.as_str())?;
-    assert_rests(&rt, line.as_str(), whole.as_str())?;
-    let six = format!(in rt.alloc(); "{}{{\"run\":6}}\n", line.as_str())?;
-    assert_rests(&rt, six.as_str(), whole.as_str())?;
-    let three = format!(in rt.alloc(); "{}{{\"run\":3}}\n\n", line.as_str())?;
-    let parts = cell_lines(rt.alloc(), "m", COUNTS, &[" 0", " 1 2"], reply.as_str())?;
-    assert_rests(&rt, three.as_str(), parts.as_str())
-}
-
-#[test]
-fn compile_errors(rt: HostRuntime) -> Result<(), Fail> {
-    let unknown = "MODULE A; BEGIN x := 1 END A.";
-    let mixed = "MODULE L; VAR x: INTEGER; BEGIN x := x < 1 END L.";
-    for (code, told) in [
-        (unknown, "compile error 10 at 1:17"),
-        (mixed, "compile error 12 at 1:38"),
-        ("(* (* *)", "compile error 2 at 1:1"),
-    ] {
-        let line = cell_line(rt.alloc(), "m", code)?;
-        let failure = failed(rt.alloc(), "m", "CompileError", told)?;
-        let wanted = cell_lines(rt.alloc(), "m", code, &[], failure.as_str())?;
-        assert_rests(&rt, line.as_str(), wanted.as_str())?;
-    }
-    Ok(())
-}
-
-#[test]
-fn link_errors(rt: HostRuntime) -> Result<(), Fail> {
-    for (code, told) in [
-        ("Q.P", "link error 30: Q"),
-        ("Out.Ln; Q.P", "link error 31: Out.Ln"),
-    ] {
-        let line = cell_line(rt.alloc(), "m", code)?;
-        let failure = failed(rt.alloc(), "m", "LinkError", told)?;
-        let wanted = cell_lines(rt.alloc(), "m", code, &[], failure.as_str())?;
-        assert_rests(&rt, line.as_str(), wanted.as_str())?;
-    }
-    Ok(())
+fn no_line_to_be_had(rt: HostRuntime) -> Result<(), Fail> {
+    let wanted = whole_cell(rt.alloc(), "a?b", &["ab"])?;
+    let forbidden = cell_line(rt.alloc(), "m", "a?b", ",\"allow_stdin\":false")?;
+    assert_ends(&rt, forbidden.as_str(), wanted.as_str(), End::Rest)?;
+    let line = cell_line(rt.alloc(), "m", "a?b", "")?;
+    let left = format!(in rt.alloc(); "{}{{\"leave\":0}}\n", line.as_str())?;
+    assert_ends(&rt, left.as_str(), wanted.as_str(), End::Rest)
 }
 
 #[test]
 fn a_loop_without_end(rt: HostRuntime) -> Result<(), Fail> {
-    let code = "MODULE L; VAR i: INTEGER; BEGIN WHILE i < 1 DO i := i * 1 END END L.";
-    let line = cell_line(rt.alloc(), "m", code)?;
-    let (end, written) = played(rt.alloc(), line.as_bytes(), 50, 0, 0);
-    let wanted = cell_lines(rt.alloc(), "m", code, &[], "")?;
+    // More turns than all slices behind the last line have.
+    let code = String::from_utf8(Vec::from_elem(rt.alloc(), b'.', 1_000_001)?).or(Err("text"))?;
+    let line = cell_line(rt.alloc(), "m", code.as_str(), "")?;
+    let (end, written) = played::<TestLanguage>(rt.alloc(), line.as_bytes(), 16_384, 0, 0);
+    let wanted = first_cell(rt.alloc(), code.as_str(), &[], "")?;
     assert_eq!(rt; end, Ok(End::WorkLeft));
     assert!(rt; written.as_slice() == wanted.as_bytes());
     Ok(())
 }
 
-/// The first line that is refused, behind an empty line and a slice, and its fault.
-fn refused(alloc: Global, line: &[u8]) -> Result<Option<Fault>, Fail> {
+/// Where an input is refused, and for which fault, where nothing is written.
+fn refused(alloc: Global, input: &[u8], step: usize) -> Option<(u64, Fault)> {
+    match played::<TestLanguage>(alloc, input, step, 0, 0) {
+        (Err(ReplayFault::Line(number, fault)), written) if written.is_empty() => {
+            Some((number, fault))
+        }
+        _ => None,
+    }
+}
+
+/// The fault of a line behind an empty one and a slice.
+fn third_refused(alloc: Global, line: &[u8]) -> Result<Option<Fault>, Fail> {
     let mut input = Vec::from_slice(alloc, b"\n{\"run\":1}\n")?;
     input.extend_from_slice(line)?;
-    match played(alloc, input.as_slice(), 20_000, 0, 0) {
-        (Err(ReplayFault::Line(3, fault)), written) if written.is_empty() => Ok(Some(fault)),
+    match refused(alloc, input.as_slice(), 20_000) {
+        Some((3, fault)) => Ok(Some(fault)),
         _ => Ok(None),
     }
 }
 
 #[test]
 fn bad_lines(rt: HostRuntime) -> Result<(), Fail> {
-    assert_eq!(rt; refused(rt.alloc(), b"{")?, Some(Fault::NotJson));
-    assert_eq!(rt; refused(rt.alloc(), b"\xff\n")?, Some(Fault::NotJson));
-    let good = cell_line(rt.alloc(), "m", "")?;
+    assert_eq!(rt; third_refused(rt.alloc(), b"{")?, Some(Fault::NotJson));
+    assert_eq!(rt; third_refused(rt.alloc(), b"\xff\n")?, Some(Fault::NotJson));
+    let good = cell_line(rt.alloc(), "m", "", "")?;
     let good = good.as_str();
-    let kind = good.replace(rt.alloc(), "\"code\":\"\"", "\"code\":7")?;
-    assert_eq!(rt;
-        refused(rt.alloc(), kind.as_bytes())?,
-        Some(Fault::WrongKind)
-    );
-    let missing = good.replace(rt.alloc(), "\"msg_id\":\"m\",", "")?;
-    assert_eq!(rt;
-        refused(rt.alloc(), missing.as_bytes())?,
-        Some(Fault::Missing)
-    );
-    let part = good.replace(rt.alloc(), "\"code\":\"\"", "\"code\":\"\",\"n\":1.5")?;
-    assert_eq!(rt;
-        refused(rt.alloc(), part.as_bytes())?,
-        Some(Fault::NotWhole)
-    );
+    for (old, new, fault) in [
+        ("\"code\":\"\"", "\"code\":7", Fault::WrongKind),
+        ("\"msg_id\":\"m\",", "", Fault::Missing),
+        ("\"code\":\"\"", "\"code\":\"\",\"n\":1.5", Fault::NotWhole),
+        ("{\"content\"", "{\"seat\":8,\"content\"", Fault::WrongKind),
+    ] {
+        let line = good.replace(rt.alloc(), old, new)?;
+        assert_eq!(rt; third_refused(rt.alloc(), line.as_bytes())?, Some(fault));
+    }
     for step in [
         "{\"run\":1000001}",
         "{\"run\":-1}",
         "{\"run\":\"1\"}",
-        "{\"leave\":0}",
+        "{\"leave\":8}",
+        "{\"leave\":-1}",
+        "{\"leave\":\"0\"}",
     ] {
         assert_eq!(rt;
-            refused(rt.alloc(), step.as_bytes())?,
+            third_refused(rt.alloc(), step.as_bytes())?,
             Some(Fault::WrongKind)
         );
     }
-    let seat = good.replace(rt.alloc(), "{\"content\"", "{\"seat\":8,\"content\"")?;
-    assert_eq!(rt;
-        refused(rt.alloc(), seat.as_bytes())?,
-        Some(Fault::WrongKind)
-    );
     Ok(())
+}
+
+#[test]
+fn seats_that_leave(rt: HostRuntime) -> Result<(), Fail> {
+    // A message that the kernel drops.
+    let line = input_line(rt.alloc(), "x")?;
+    let line = line.as_str();
+    let leave = "{\"leave\":0}\n";
+    let never = format!(in rt.alloc(); "{leave}{line}")?;
+    let twice = format!(in rt.alloc(); "{line}{leave}{leave}{line}")?;
+    let another = format!(in rt.alloc(); "{line}{{\"leave\":1}}\n")?;
+    for (input, number) in [(never, 1), (twice, 3), (another, 2)] {
+        assert_eq!(rt;
+            refused(rt.alloc(), input.as_bytes(), 50),
+            Some((number, Fault::WrongKind))
+        );
+    }
+    let again = format!(in rt.alloc(); "{line}{leave}{line}{leave}{line}")?;
+    assert_ends(&rt, again.as_str(), "", End::Rest)
 }
 
 #[test]
 fn long_lines(rt: HostRuntime) -> Result<(), Fail> {
     let mut line = Vec::from_elem(rt.alloc(), b' ', 1_048_576)?;
-    assert_eq!(rt; refused(rt.alloc(), line.as_slice())?, Some(Fault::NotJson));
+    assert_eq!(rt; third_refused(rt.alloc(), line.as_slice())?, Some(Fault::NotJson));
     line.push(b' ')?;
-    assert_eq!(rt; refused(rt.alloc(), line.as_slice())?, Some(Fault::TooLong));
+    assert_eq!(rt; third_refused(rt.alloc(), line.as_slice())?, Some(Fault::TooLong));
     line.push(b'\n')?;
-    assert_eq!(rt; refused(rt.alloc(), line.as_slice())?, Some(Fault::TooLong));
+    assert_eq!(rt; third_refused(rt.alloc(), line.as_slice())?, Some(Fault::TooLong));
+    Ok(())
+}
+
+#[test]
+fn long_lines_that_are_no_text(rt: HostRuntime) -> Result<(), Fail> {
+    let mut line = Vec::from_elem(rt.alloc(), b' ', 1_048_579)?;
+    line.push(0xff)?;
+    line.push(b'\n')?;
+    // The line's end comes with the piece behind the first 1,048,576 bytes, or is not looked for.
+    for step in [16_384, 1_048_577, 1_000] {
+        assert_eq!(rt;
+            refused(rt.alloc(), line.as_slice(), step),
+            Some((1, Fault::TooLong))
+        );
+    }
     Ok(())
 }
 
@@ -303,26 +223,54 @@ impl Read for Slices {
 fn an_input_without_end(rt: HostRuntime) -> Result<(), Fail> {
     let mut reader = Slices { given: 0 };
     let mut written = Vec::new(rt.alloc());
-    let end = replay_lines(rt.alloc(), &mut reader, &mut written);
-    assert_eq!(rt; end, Err(ReplayFault::Device));
+    let end = replay_lines::<TestLanguage, _, _>(rt.alloc(), &mut reader, &mut written);
+    assert_eq!(rt; end, Err(ReplayFault::Device(Side::Input)));
     assert_eq!(rt; reader.given, 67_108_865);
     Ok(())
 }
 
 #[test]
-fn each_read_and_each_write_fails_in_turn(rt: HostRuntime) -> Result<(), Fail> {
-    let input = cell_line(rt.alloc(), "m", COUNTS)?;
-    let (_, whole) = played(rt.alloc(), input.as_bytes(), 50, 0, 0);
-    for fault in 1..5 {
-        let (end, written) = played(rt.alloc(), input.as_bytes(), 50, fault, 0);
-        assert_eq!(rt; end, Err(ReplayFault::Device));
-        assert!(rt; whole.as_slice().starts_with(written.as_slice()));
-    }
+fn each_write_fails_in_turn(rt: HostRuntime) -> Result<(), Fail> {
+    let input = cell_line(rt.alloc(), "m", "ab", "")?;
+    let whole = whole_cell(rt.alloc(), "ab", &["ab"])?;
     let writes = whole.len() as u64 / 7;
     for fault in 1..writes {
-        let (end, written) = played(rt.alloc(), input.as_bytes(), 50, 0, fault);
-        assert_eq!(rt; end, Err(ReplayFault::Device));
-        assert!(rt; whole.as_slice().starts_with(written.as_slice()));
+        let (end, written) = played::<TestLanguage>(rt.alloc(), input.as_bytes(), 50, 0, fault);
+        assert_eq!(rt; end, Err(ReplayFault::Device(Side::Output)));
+        assert!(rt; whole.as_bytes().starts_with(written.as_slice()));
+    }
+    Ok(())
+}
+
+/// Where a read fails, all is written that the lines before show.
+#[test]
+fn each_read_fails_in_turn(rt: HostRuntime) -> Result<(), Fail> {
+    let cell = cell_line(rt.alloc(), "m", "a.b", "")?;
+    let input = format!(in rt.alloc(); "{}{{\"run\":1}}\n{{\"run\":9}}\n", cell.as_str())?;
+    let before = first_cell(rt.alloc(), "a.b", &["a"], "")?;
+    let whole = whole_cell(rt.alloc(), "a.b", &["a", "b"])?;
+    let first = cell.len() + 10;
+    let all = input.len();
+    for fault in 1..200 {
+        let mut reader = Trickle {
+            rest: input.as_bytes(),
+            step: 1,
+            reads: 0,
+            fault,
+        };
+        let mut writer = Limited::new(rt.alloc(), 0);
+        let end = replay_lines::<TestLanguage, _, _>(rt.alloc(), &mut reader, &mut writer);
+        let given = fault as usize - 1;
+        let wanted = if given < first {
+            ""
+        } else if given < all {
+            before.as_str()
+        } else {
+            whole.as_str()
+        };
+        assert!(rt; writer.written.as_slice() == wanted.as_bytes());
+        let failed = given <= all;
+        assert_eq!(rt; end == Err(ReplayFault::Device(Side::Input)), failed);
     }
     Ok(())
 }

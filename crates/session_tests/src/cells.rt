@@ -1,23 +1,24 @@
-ghost use Rattle.std.specs.Prelude.{◌≡◌, true, false, IfOk};
+ghost use Rattle.std.specs.Prelude.{◌≡◌, ◌≤◌, true, false, IfOk};
 ghost use Rattle.jk_language.specs.Runs.{tells_end, tells_line};
 ghost use Rattle.ob_load.specs.MachineState.{state_of};
 
-use jk_language::{Begun, Language, LinkFault, Refusal, Turned};
+use jk_language::{Begun, Language, LinkFault, Refusal, Trap, Turned};
 use ob_language::Oberon;
 use ob_load::{Machine, Session};
 use std::alloc::{AllocError, Global};
 use std::test::Fail;
 
-// A million turns, where there were few before.
-fn slice(machine: &mut Machine) -> Turned
+// At most so many turns, where there were few before.
+fn slice(machine: &mut Machine, most: u64) -> Turned
     requires on { (state_of machine.old).over ≡ false }
+    requires few { most ≤ 1000000 }
     ensures on { tells_end result ≡ false → (state_of machine.new).over ≡ false }
     ensures asks { tells_line result ≡ true → (state_of machine.new).asks ≡ true }
 {
     if Oberon::used(machine) > 1_000_000_000 {
         return Turned::Stopped;
     }
-    Oberon::turns(machine, 1_000_000)
+    Oberon::turns(machine, most)
 }
 
 // Where a line was asked for, gives this one and goes on.
@@ -30,18 +31,32 @@ fn given(machine: &mut Machine, turned: Turned, line: Option<&str>) -> Result<Tu
     match turned {
         Turned::NeedsLine => {
             Oberon::give_line(machine, line)?;
-            Ok(slice(machine))
+            Ok(slice(machine, 1_000_000))
         }
         other => Ok(other),
     }
 }
 
-// Runs a machine to its end, with these lines and none behind them: what it writes, and `!` with the number of a trap.
-fn ran(machine: Machine, lines: &[&str], written: &mut String) -> Result<Session, AllocError>
+// How a cell runs.
+#[derive(Drop)]
+enum Pace<'a> {
+    // To its end, with these lines and none after them.
+    Whole(&'a [&'a str]),
+    // In so many slices of so many turns, and no further.
+    Slices(u32, u64),
+}
+
+// Runs a machine to its end: what it writes, and `!` with the number, the module and the line of a trap.
+fn ran(
+    alloc: Global,
+    machine: Machine,
+    lines: &[&str],
+    written: &mut String,
+) -> Result<Session, AllocError>
     requires on { (state_of machine).over ≡ false }
 {
     let mut machine = machine;
-    let mut turned = slice(&mut machine);
+    let mut turned = slice(&mut machine, 1_000_000);
     for line in lines {
         turned = given(&mut machine, turned, Some(*line))?;
     }
@@ -51,10 +66,43 @@ fn ran(machine: Machine, lines: &[&str], written: &mut String) -> Result<Session
     written.push_str(Oberon::take_output(&mut machine).as_str())?;
     match turned {
         Turned::Ended => {}
-        Turned::Trapped(trap) => numbered(written, '!', trap.number as u64)?,
+        Turned::Trapped(trap) => trapped(alloc, written, &trap)?,
         _ => written.push('.')?,
     }
     Ok(Oberon::finish(machine))
+}
+
+// Runs a machine slice by slice: what it writes.
+fn sliced(
+    machine: Machine,
+    count: u32,
+    most: u64,
+    written: &mut String,
+) -> Result<Session, AllocError>
+    requires on { (state_of machine).over ≡ false }
+    requires few { most ≤ 1000000 }
+{
+    let mut machine = machine;
+    for _ in 0..count {
+        let turned = slice(&mut machine, most);
+        written.push_str(Oberon::take_output(&mut machine).as_str())?;
+        match turned {
+            Turned::Stopped => {}
+            _ => break,
+        }
+    }
+    Ok(Oberon::finish(machine))
+}
+
+fn trapped(alloc: Global, written: &mut String, trap: &Trap) -> Result<(), AllocError> {
+    numbered(written, '!', trap.number as u64)?;
+    written.push(' ')?;
+    for letter in trap.module.as_slice() {
+        written.push(*letter as char)?;
+    }
+    let line = trap.line;
+    let place = format!(in alloc; ":{line}")?;
+    written.push_str(place.as_str())
 }
 
 fn numbered(written: &mut String, sign: char, number: u64) -> Result<(), AllocError> {
@@ -92,7 +140,7 @@ fn one(
     alloc: Global,
     session: Session,
     text: &str,
-    lines: &[&str],
+    pace: &Pace,
     written: &mut String,
 ) -> Result<Session, AllocError> {
     let tree = match Oberon::parse(alloc, text) {
@@ -100,7 +148,10 @@ fn one(
         Err(_) => return Err(AllocError),
     };
     let after = match Oberon::begin(alloc, session, &tree) {
-        Ok(Begun::Runs(machine)) => ran(machine, lines, written)?,
+        Ok(Begun::Runs(machine)) => match pace {
+            Pace::Whole(lines) => ran(alloc, machine, *lines, written)?,
+            Pace::Slices(count, most) => sliced(machine, *count, (*most).min(1_000_000), written)?,
+        },
         Ok(Begun::Refused(back, refusal)) => {
             refused(written, &refusal)?;
             back
@@ -111,18 +162,23 @@ fn one(
     Ok(after)
 }
 
-// Cells of one session, one after the other, each with these lines.
-fn cells_with(alloc: Global, texts: &[&str], lines: &[&str]) -> Result<String, AllocError> {
+// Cells of one session, one after the other.
+fn cells_at(alloc: Global, texts: &[&str], pace: &Pace) -> Result<String, AllocError> {
     let mut session = Oberon::opening(alloc);
     let mut written = String::new(alloc);
     for text in texts {
-        session = one(alloc, session, text, lines, &mut written)?;
+        session = one(alloc, session, text, pace, &mut written)?;
     }
     Ok(written)
 }
 
 fn cells(alloc: Global, texts: &[&str]) -> Result<String, AllocError> {
     cells_with(alloc, texts, &[])
+}
+
+// Each with these lines.
+fn cells_with(alloc: Global, texts: &[&str], lines: &[&str]) -> Result<String, AllocError> {
+    cells_at(alloc, texts, &Pace::Whole(lines))
 }
 
 #[test]
@@ -163,7 +219,7 @@ fn traps_end_a_cell_and_its_module_stays(rt: HostRuntime) -> Result<(), Fail> {
             "MODULE D; IMPORT Out; VAR x: INTEGER; BEGIN Out.Int(5, 0); x := 1 DIV x END D.",
         ],
     )?;
-    assert_eq!(rt; written.as_str(), "!8|1000|!1|5!2|");
+    assert_eq!(rt; written.as_str(), "!8 R:1|1000|!1 F:1|5!2 D:1|");
     Ok(())
 }
 
@@ -225,5 +281,34 @@ fn lines_are_read(rt: HostRuntime) -> Result<(), Fail> {
     assert_eq!(rt; one.as_str(), "35|");
     let none = cells(rt.alloc(), &[READER])?;
     assert_eq!(rt; none.as_str(), "-5|");
+    Ok(())
+}
+
+const STEPS: &str =
+    "MODULE G; IMPORT Out; VAR n: INTEGER; PROCEDURE Show*; BEGIN Out.Int(n, 0) END Show; BEGIN WHILE n < 2000 DO INC(n); IF n MOD 500 = 0 THEN Out.Int(n, 5) END END END G.";
+
+#[test]
+fn slices_are_one_run(rt: HostRuntime) -> Result<(), Fail> {
+    let whole = cells(rt.alloc(), &[STEPS, "G.Show"])?;
+    assert_eq!(rt; whole.as_str(), "  500 1000 1500 2000|2000|");
+    let slices = cells_at(rt.alloc(), &[STEPS, "G.Show"], &Pace::Slices(1000, 3))?;
+    assert_eq!(rt; slices.as_str(), whole.as_str());
+    let stopped = cells_at(rt.alloc(), &[STEPS, "G.Show"], &Pace::Slices(1, 1001))?;
+    assert_eq!(rt; stopped.as_str(), "  500|1000|");
+    Ok(())
+}
+
+#[test]
+fn a_trap_is_where_it_happens(rt: HostRuntime) -> Result<(), Fail> {
+    let written = cells(
+        rt.alloc(),
+        &[
+            "MODULE N; VAR v*: INTEGER; PROCEDURE Bad*;\nBEGIN INC(v);\nASSERT(v < 2) END Bad; END N.",
+            "MODULE M; IMPORT N, Out; PROCEDURE P*; BEGIN N.Bad END P; PROCEDURE Show*; BEGIN Out.Int(N.v, 0) END Show; END M.",
+            "M.P M.Show M.P M.Show",
+            "M.Show",
+        ],
+    )?;
+    assert_eq!(rt; written.as_str(), "||1!4 N:3|2|");
     Ok(())
 }

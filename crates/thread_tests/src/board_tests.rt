@@ -4,25 +4,64 @@ ghost use Rattle.jk_board.specs.Ends.{published, publisher_board, AreNew};
 
 use crate::following::{begin, read_times};
 use crate::joins::publish_joins;
-use jk_board::{Board, Followers, Publisher};
-use std::alloc::Global;
+use jk_board::{Board, Follower, Followers, Publisher};
+use std::alloc::{AllocError, Global};
 use std::process::Abort;
 use std::sync::Wait;
 use std::test::Fail;
-use std::thread::Threads;
+use std::thread::{JoinHandle, Threads};
+use test_language::TestLanguage;
 
-/// Eight follow beside the publisher, each all of a thousand publications. The ninth was told of the board, and reads
-/// all in sixteen reads; so does a follower that comes when all is published.
-fn follow<R>(
+/// Eight readers, each in a thread of its own.
+type Readers = Vec<JoinHandle<Result<u64, AllocError>>>;
+
+/// Starts eight that read a thousand entries each.
+fn begin_eight<R>(
     rt: R,
     alloc: Global,
-    publisher: &mut Publisher,
-    followers: Followers,
+    eight: [Follower<TestLanguage>; 8],
+) -> Result<Readers, AllocError>
+where
+    R: Threads + Wait + Copy + Send + 'static,
+{
+    let mut readers = Vec::new(alloc);
+    for follower in eight {
+        readers.push(begin(rt, alloc, follower, 1_000)?)?;
+    }
+    Ok(readers)
+}
+
+/// Each of the eight has read all. So have the ninth, in sixteen reads, and a follower that comes when all is published.
+fn end_all<R>(
+    rt: R,
+    alloc: Global,
+    publisher: &mut Publisher<TestLanguage>,
+    readers: Readers,
+    recorder: Follower<TestLanguage>,
 ) -> Result<(), Fail>
 where
     R: Threads + Wait + Abort + Copy + Send + 'static,
-    requires empty { published publisher.old ≡ [] }
-    requires followers { AreNew (publisher_board publisher.old) followers }
+{
+    for reader in readers {
+        assert_eq!(&rt; reader.join(&rt)?, 1_000);
+    }
+    let late = publisher.late_follower()?;
+    assert_eq!(&rt; read_times(alloc, late, 16)?, 1_000);
+    assert_eq!(&rt; read_times(alloc, recorder, 16)?, 1_000);
+    Ok(())
+}
+
+/// Eight follow beside the publisher, each all of a thousand publications. The ninth was told of the board before.
+fn follow<R>(
+    rt: R,
+    alloc: Global,
+    publisher: Publisher<TestLanguage>,
+    followers: Followers<TestLanguage>,
+) -> (Publisher<TestLanguage>, Result<(), Fail>)
+where
+    R: Threads + Wait + Abort + Copy + Send + 'static,
+    requires empty { published publisher ≡ [] }
+    requires followers { AreNew (publisher_board publisher) followers }
 {
     let Followers {
         zero,
@@ -35,19 +74,19 @@ where
         seven,
         mut recorder,
     } = followers;
+    let mut publisher = publisher;
     publisher.inform(&mut recorder);
-    let mut readers = Vec::new(alloc);
-    for follower in [zero, one, two, three, four, five, six, seven] {
-        readers.push(begin(rt, alloc, follower, 1_000)?)?;
-    }
-    publish_joins(&rt, alloc, publisher, 1_000, 1)?;
-    for reader in readers {
-        assert_eq!(&rt; reader.join(&rt)?, 1_000);
-    }
-    let mut late = publisher.late_follower()?;
-    assert_eq!(&rt; read_times(alloc, &mut late, 16)?, 1_000);
-    assert_eq!(&rt; read_times(alloc, &mut recorder, 16)?, 1_000);
-    Ok(())
+    let eight = [zero, one, two, three, four, five, six, seven];
+    let readers = match begin_eight(rt, alloc, eight) {
+        Ok(readers) => readers,
+        Err(error) => return (publisher, Err(error.into())),
+    };
+    let (mut publisher, done) = publish_joins(&rt, alloc, publisher, 1_000, 1);
+    let done = match done {
+        Ok(()) => end_all(rt, alloc, &mut publisher, readers, recorder),
+        Err(error) => Err(error.into()),
+    };
+    (publisher, done)
 }
 
 #[test]
@@ -56,9 +95,8 @@ fn reader_beside_writer(rt: HostRuntime) -> Result<(), Fail> {
     let Board {
         publisher,
         followers,
-    } = Board::new(&rt, alloc)?;
-    let mut publisher = publisher;
-    let done = follow(rt, alloc, &mut publisher, followers);
+    } = Board::<TestLanguage>::new(&rt, alloc)?;
+    let (publisher, done) = follow(rt, alloc, publisher, followers);
     publisher.end(&rt);
     done
 }

@@ -2,10 +2,12 @@
 
 use jk_board::Follower;
 use jk_core::{Entry, Told};
+use jk_language::Language;
 use std::alloc::{AllocError, Global};
 use std::sync::Wait;
 use std::thread;
 use std::thread::{JoinHandle, Threads};
+use test_language::TestLanguage;
 
 /// Whether the entry is the join of this number.
 fn is_join(entry: &Entry, number: u64) -> bool {
@@ -14,7 +16,7 @@ fn is_join(entry: &Entry, number: u64) -> bool {
             seat: _,
             number: known,
         } => *known == number,
-        Told::Output(_) => false,
+        _ => false,
     }
 }
 
@@ -31,20 +33,26 @@ fn in_order(entries: &[Entry], before: u64) -> u64 {
 }
 
 /// Reads so many times. The answer is the number of the last join, where all joins come from the first on and in order.
-pub fn read_times(alloc: Global, follower: &mut Follower, times: u64) -> Result<u64, AllocError> {
+pub fn read_times<L: Language>(
+    alloc: Global,
+    follower: Follower<L>,
+    times: u64,
+) -> Result<u64, AllocError> {
+    let mut follower = follower;
     let mut last = 0u64;
     for _ in 0..times {
-        let entries = follower.read(alloc, 64)?;
-        last = last.wrapping_add(in_order(entries.as_slice(), last));
+        let (same, found) = follower.read(alloc, 64);
+        follower = same;
+        last = last.wrapping_add(in_order(found?.as_slice(), last));
     }
     Ok(last)
 }
 
 /// Reads until so many entries were read, and answers as `read_times` does.
-pub fn read_all<R: Wait>(
+pub fn read_all<L: Language, R: Wait>(
     rt: &R,
     alloc: Global,
-    follower: Follower,
+    follower: Follower<L>,
     all: u64,
 ) -> Result<u64, AllocError> {
     let mut follower = follower;
@@ -54,7 +62,9 @@ pub fn read_all<R: Wait>(
         if count >= all {
             return Ok(last);
         }
-        let entries = follower.read(alloc, 64)?;
+        let (same, found) = follower.read(alloc, 64);
+        follower = same;
+        let entries = found?;
         count = count.wrapping_add(entries.len() as u64);
         last = last.wrapping_add(in_order(entries.as_slice(), last));
         thread::yield_now();
@@ -66,7 +76,7 @@ pub fn read_all<R: Wait>(
 pub fn begin<R>(
     rt: R,
     alloc: Global,
-    follower: Follower,
+    follower: Follower<TestLanguage>,
     all: u64,
 ) -> Result<JoinHandle<Result<u64, AllocError>>, AllocError>
 where

@@ -2,23 +2,28 @@
 ghost use Rattle.std.specs.Prelude.{◌≡◌, [], List, OnOk, IfOk};
 ghost use Rattle.jk_core.specs.declared.entry.Entry.{Entry};
 ghost use Rattle.jk_board.specs.Ends.{published};
-ghost use Rattle.thread_tests.specs.Shown.{IsShown};
+ghost use Rattle.thread_tests.specs.Shown.{HasShown};
 
 use jk_board::Publisher;
 use jk_core::{Arrival, Kernel, What};
+use jk_language::Language;
 use std::alloc::{AllocError, Global};
 use std::sync::Wait;
 
 /// A kernel of which nothing was shown.
-fn fresh_kernel(alloc: Global) -> Result<Kernel, AllocError>
-    ensures { IfOk result (IsShown []) }
+fn fresh_kernel<L: Language>(alloc: Global) -> Result<Kernel<L>, AllocError>
+    ensures { IfOk result (HasShown L.spoken []) }
 {
     Kernel::new(alloc)
 }
 
 /// Takes the join of a seat, which is shown by one entry.
-fn take_join(kernel: &mut Kernel, seat: u8, number: u64) -> Result<(), AllocError>
-    ensures { OnOk result ((shown : List Entry) → IsShown shown kernel.old → IsShown shown kernel.new) }
+fn take_join<L: Language>(
+    kernel: &mut Kernel<L>,
+    seat: u8,
+    number: u64,
+) -> Result<(), AllocError>
+    ensures { OnOk result ((shown : List Entry) → HasShown L.spoken shown kernel.old → HasShown L.spoken shown kernel.new) }
 {
     let what = What::Join;
     kernel.take(Arrival { seat, number, what })?;
@@ -26,8 +31,12 @@ fn take_join(kernel: &mut Kernel, seat: u8, number: u64) -> Result<(), AllocErro
 }
 
 /// Takes joins of these numbers.
-fn take_joins(kernel: &mut Kernel, first: u64, behind: u64) -> Result<(), AllocError>
-    ensures { OnOk result ((shown : List Entry) → IsShown shown kernel.old → IsShown shown kernel.new) }
+fn take_joins<L: Language>(
+    kernel: &mut Kernel<L>,
+    first: u64,
+    behind: u64,
+) -> Result<(), AllocError>
+    ensures { OnOk result ((shown : List Entry) → HasShown L.spoken shown kernel.old → HasShown L.spoken shown kernel.new) }
 {
     for number in first..behind {
         take_join(kernel, 1, number)?;
@@ -37,38 +46,68 @@ fn take_joins(kernel: &mut Kernel, first: u64, behind: u64) -> Result<(), AllocE
 
 /// Publishes all that is pending.
 #[tactic(auto, using(crate::proofs::Showing::next_board, crate::proofs::Showing::next_shown))]
-fn publish_pending<R: Wait>(
+fn publish_pending<L: Language, R: Wait>(
     rt: &R,
     alloc: Global,
-    kernel: &mut Kernel,
-    publisher: &mut Publisher,
-) -> Result<(), AllocError>
-    requires { IsShown (published publisher.old) kernel.old }
-    ensures { OnOk result (IsShown (published publisher.new) kernel.new) }
+    kernel: &mut Kernel<L>,
+    publisher: Publisher<L>,
+) -> (Publisher<L>, Result<(), AllocError>)
+    requires { HasShown L.spoken (published publisher) kernel.old }
+    ensures { OnOk result.1 (HasShown L.spoken (published result.0) kernel.new) }
 {
     let marks = kernel.pending_marks();
-    let entries = kernel.take_pending(marks)?;
-    match publisher.publish(rt, alloc, entries) {
-        Ok(()) => Ok(()),
-        Err(_) => Err(AllocError),
+    let entries = match kernel.take_pending(marks) {
+        Ok(entries) => entries,
+        Err(error) => return (publisher, Err(error)),
+    };
+    let (publisher, done) = publisher.publish(rt, alloc, entries);
+    if done.is_err() {
+        return (publisher, Err(AllocError));
+    }
+    (publisher, Ok(()))
+}
+
+/// Takes the joins of one publication, and publishes them.
+fn publish_next<L: Language, R: Wait>(
+    rt: &R,
+    alloc: Global,
+    kernel: &mut Kernel<L>,
+    publisher: Publisher<L>,
+    first: u64,
+    behind: u64,
+) -> (Publisher<L>, Result<(), AllocError>)
+    requires { HasShown L.spoken (published publisher) kernel.old }
+    ensures { OnOk result.1 (HasShown L.spoken (published result.0) kernel.new) }
+{
+    match take_joins(kernel, first, behind) {
+        Ok(()) => publish_pending(rt, alloc, kernel, publisher),
+        Err(error) => (publisher, Err(error)),
     }
 }
 
 /// Publishes joins numbered from 1 in so many publications, so many in each.
-pub fn publish_joins<R: Wait>(
+pub fn publish_joins<L: Language, R: Wait>(
     rt: &R,
     alloc: Global,
-    publisher: &mut Publisher,
+    publisher: Publisher<L>,
     publications: u32,
     each: u32,
-) -> Result<(), AllocError>
-    requires { published publisher.old ≡ [] }
+) -> (Publisher<L>, Result<(), AllocError>)
+    requires { published publisher ≡ [] }
 {
-    let mut kernel = fresh_kernel(alloc)?;
+    let mut kernel = match fresh_kernel::<L>(alloc) {
+        Ok(kernel) => kernel,
+        Err(error) => return (publisher, Err(error)),
+    };
+    let mut publisher = publisher;
     for place in 0..publications {
         let first = u64::from(place) * u64::from(each) + 1;
-        take_joins(&mut kernel, first, first + u64::from(each))?;
-        publish_pending(rt, alloc, &mut kernel, publisher)?;
+        let behind = first + u64::from(each);
+        let (same, done) = publish_next(rt, alloc, &mut kernel, publisher, first, behind);
+        publisher = same;
+        if done.is_err() {
+            return (publisher, done);
+        }
     }
-    Ok(())
+    (publisher, Ok(()))
 }

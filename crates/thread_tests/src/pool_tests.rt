@@ -1,6 +1,6 @@
 //! Two workers parse at once.
 
-use jk_core::{Job, Parsed};
+use jk_core::{Job, Parsed, ParsedCell};
 use jk_queues::{Gate, Pool, WorkerEnd, worker};
 use json_form::Text;
 use std::alloc::{AllocError, Global};
@@ -9,6 +9,11 @@ use std::sync::{Arc, Wait};
 use std::test::Fail;
 use std::thread;
 use std::thread::{JoinHandle, Threads};
+use test_language::TestLanguage;
+
+type Parsers = Pool<ParsedCell<TestLanguage>>;
+
+type Parser = WorkerEnd<ParsedCell<TestLanguage>>;
 
 /// Holds job 1 until job 2 is answered.
 #[derive(Drop)]
@@ -39,7 +44,7 @@ impl Gate for HoldsFirst {
 }
 
 /// Offers a text, and tries again while there is no room.
-fn offer<R: Wait>(rt: &R, pool: &mut Pool, number: u64, text: Text) {
+fn offer<R: Wait>(rt: &R, pool: &mut Parsers, number: u64, text: Text) {
     let mut job = Job { number, text };
     for _ in rt.forever() {
         match pool.offer(rt, job) {
@@ -51,7 +56,7 @@ fn offer<R: Wait>(rt: &R, pool: &mut Pool, number: u64, text: Text) {
 }
 
 /// The next result: its job, and whether its text has a tree.
-fn next_result<R: Wait>(rt: &R, pool: &mut Pool) -> (u64, bool) {
+fn next_result<R: Wait>(rt: &R, pool: &mut Parsers) -> (u64, bool) {
     for _ in rt.forever() {
         if let Some(parsed) = pool.collect(rt) {
             return (parsed.job(), matches!(parsed.outcome(), Parsed::Tree(_)));
@@ -66,12 +71,14 @@ fn begin<R>(
     rt: R,
     alloc: Global,
     gate: Arc<HoldsFirst>,
-    end: WorkerEnd,
-) -> Result<JoinHandle<()>, AllocError>
+    end: Parser,
+) -> Result<JoinHandle<Parser>, AllocError>
 where
     R: Threads + Wait + Copy + Send + 'static,
 {
-    Ok(thread::spawn(&rt, move || worker(&rt, alloc, &*gate, end))?)
+    Ok(thread::spawn(&rt, move || {
+        worker::<TestLanguage, R, HoldsFirst>(&rt, alloc, &*gate, end)
+    })?)
 }
 
 #[test]
@@ -84,20 +91,20 @@ fn two_parsers_at_once(rt: HostRuntime) -> Result<(), Fail> {
             gave_up: AtomicBool::new(false),
         },
     )?;
-    let (mut pool, ends) = Pool::new(alloc, 2)?;
-    let tree = Text::from_str(alloc, "MODULE A; END A.")?;
-    let open = Text::from_str(alloc, "(* (* *)")?;
+    let (mut pool, ends) = Parsers::new(alloc, 2)?;
+    let tree = Text::from_str(alloc, "abc")?;
+    let refused = Text::from_str(alloc, "#")?;
     offer(&rt, &mut pool, 1, tree);
-    offer(&rt, &mut pool, 2, open);
+    offer(&rt, &mut pool, 2, refused);
     let mut workers = Vec::new(alloc);
     for end in ends {
         workers.push(begin(rt, alloc, Arc::try_clone(&gate)?, end)?)?;
     }
     let first = next_result(&rt, &mut pool);
     let second = next_result(&rt, &mut pool);
-    pool.stop();
+    pool.stop(&rt);
     for worker in workers {
-        worker.join(&rt);
+        drop(worker.join(&rt));
     }
     assert!(rt; !gate.gave_up.load(Ordering::SeqCst));
     assert_eq!(rt; first, (2, false));

@@ -10,34 +10,23 @@ ghost use Rattle.jk_board.specs.Boards.{IsBoard};
 use super::{Copies, Publisher, Replace};
 use crate::follower::Follower;
 use crate::rule::{Finds, Notes};
-use core::mem::replace_with;
 use jk_core::Entry;
+use jk_language::Language;
 use std::alloc::{AllocError, Global};
 use std::sync::Wait;
 
-impl Publisher {
-    /// Puts the entries behind all that was published. They come back where there is no memory.
+impl<L: Language> Publisher<L> {
+    /// Puts the entries behind all that was published.
+    ///
+    /// # Errors
+    /// The entries come back where there is no memory. What was published stays as it was.
     pub fn publish<R: Wait>(
-        &mut self,
-        rt: &R,
-        alloc: Global,
-        entries: Vec<Entry>,
-    ) -> Result<(), (Vec<Entry>, AllocError)>
-        requires { IsBoard (published self.old ++ entries.items) }
-        ensures { MatchResult result (λ _. published self.new ≡ published self.old ++ entries.items) (λ back. (back.0 ≡ entries) × (published self.new ≡ published self.old)) }
-    {
-        replace_with(self, entries, |publisher, entries| {
-            publisher.publish_all(rt, alloc, entries)
-        })
-    }
-
-    fn publish_all<R: Wait>(
         self,
         rt: &R,
         alloc: Global,
         entries: Vec<Entry>,
-    ) -> (Publisher, Result<(), (Vec<Entry>, AllocError)>)
-        requires { IsBoard (published self ++ entries.items) }
+    ) -> (Publisher<L>, Result<(), (Vec<Entry>, AllocError)>)
+        requires { IsBoard L.spoken (published self ++ entries.items) }
         ensures { MatchResult result.1 (λ _. published result.0 ≡ published self ++ entries.items) (λ back. (back.0 ≡ entries) × (published result.0 ≡ published self)) }
     {
         let Publisher { mut copies } = self;
@@ -47,7 +36,7 @@ impl Publisher {
         };
         match copies.append(Replace { posted }) {
             Ok(()) => {
-                let copies = show_next(rt, copies);
+                let copies = show_next::<L, R>(rt, copies);
                 (Publisher { copies }, Ok(()))
             }
             Err(next) => {
@@ -58,7 +47,7 @@ impl Publisher {
     }
 
     /// Tells a follower of all that was published: from now on it finds no less.
-    pub fn inform(&mut self, follower: &mut Follower)
+    pub fn inform(&mut self, follower: &mut Follower<L>)
         requires { follower_board follower.old ≡ publisher_board self.old }
         ensures told { told_to follower.new ≡ published self.old ∷ told_to follower.old }
         ensures same { published self.new ≡ published self.old }
@@ -75,15 +64,15 @@ impl Publisher {
 }
 
 /// Shows the one board that is pending. It can fail only where too many share it, and then tries again.
-fn show_next<R: Wait>(rt: &R, copies: Copies) -> Copies
-    requires { IsNext (all_of copies.desk.shown.value) (drop copies.behind copies.log.items) }
+fn show_next<L: Language, R: Wait>(rt: &R, copies: Copies<L>) -> Copies<L>
+    requires { IsNext L.spoken (all_of copies.desk.shown.value) (drop copies.behind copies.log.items) }
     ensures nothing_pending { drop result.behind result.log.items ≡ [] }
     ensures saw_all { (view result.desk.place).seen ≡ all_of result.desk.shown.value }
     ensures shown { all_of result.desk.shown.value ≡ fold (λ all next. all_of next.posted) (all_of copies.desk.shown.value) (drop copies.behind copies.log.items) }
 {
     let mut copies = copies;
     for _ in rt.forever() {
-        let (turned, shown) = copies.publish_as::<Finds, R>(rt);
+        let (turned, shown) = copies.publish_as::<Finds<L>, R>(rt);
         if shown.is_ok() {
             return turned;
         }

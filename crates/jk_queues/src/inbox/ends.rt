@@ -15,6 +15,10 @@ use std::alloc::{AllocError, Global};
 use std::sync::{Arc, Wait};
 
 impl Inbox {
+    /// A new inbox: the taker, and the eight seats, each of which has sent nothing.
+    ///
+    /// # Errors
+    /// Where memory is refused.
     pub fn new(alloc: Global) -> Result<Inbox, AllocError>
         ensures taker { IfOk result (λ b. taker_view b.taker ≡ part [] true []) }
         ensures seats { IfOk result (λ b. AreAllOf (taker_inbox b.taker) b.seats × AreNew b.seats) }

@@ -1,12 +1,12 @@
 use Rattle.std.proofs.Common.{◌∷◌, [], ◌++◌, sym, ap, ◌∙◌, take, arith}
-use Rattle.ob_linked.specs.CommandsCode.{calls_from}
+use Rattle.ob_linked.specs.CommandsCode.{calls_body}
 use Rattle.ob_load.proofs.Called.{calls_next}
 use Rattle.ob_load.proofs.commands.commands_tree.Goals as goal
 
-pub loop-import-preserved : goal.loop-import-preserved
-loop-import-preserved c =
-    let places = c.args.places.now in
-    let n = c.loop-import.import in
-    c.in_ok-push.ensures.ok ∙ ap (λ b. b ++ c.call_of.result ∷ []) c.loop-import.invariant
-    ∙ ap (λ s. calls_from 0 (take n places) ++ s ∷ []) c.call_of.ensures
-    ∙ sym (calls_next places n 0 (omega (arith, c.loop-import-test.true)))
+pub loop-call-preserved : goal.loop-call-preserved
+loop-call-preserved c =
+    let calls = c.args.calls.now in
+    let n = c.loop-call.call-index in
+    c.in_ok-push.ensures.ok ∙ ap (λ b. b ++ c.call_of.result ∷ []) c.loop-call.invariant
+    ∙ ap (λ s. calls_body (take n calls) ++ s ∷ []) c.call_of.ensures
+    ∙ sym (calls_next calls n (0, 0) (omega (arith, c.loop-call-test.true)))

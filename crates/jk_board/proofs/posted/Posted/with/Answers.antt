@@ -4,7 +4,6 @@ use Rattle.std.specs.declared.alloc.Global.{Global}
 use Rattle.jk_core.specs.declared.entry.Entry.{Entry}
 use Rattle.jk_board.specs.declared.posted.Part.{Part}
 use Rattle.jk_board.specs.Parts.{flat, AreNumbered}
-use Rattle.jk_board.specs.Parts.{of_part}
 use Rattle.jk_board.proofs.Copying.{numbered_more, counted_more}
 use Rattle.jk_board.proofs.posted.Posted.with.Goals as goal
 

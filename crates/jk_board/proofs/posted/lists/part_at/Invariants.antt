@@ -1,4 +1,4 @@
-use Rattle.std.proofs.Common.{◌≡◌, ◌-◌, ◌≤◌, take, length}
+use Rattle.std.proofs.Common.{◌-◌, ◌≤◌, take, length}
 use Rattle.jk_board.specs.Parts.{flat}
 use Rattle.jk_board.proofs.posted.lists.part_at.Given as goal
 

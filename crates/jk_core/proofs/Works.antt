@@ -1,0 +1,235 @@
+-- What one slice comes to.
+use Rattle.std.proofs.Common.{◌⊎◌, ◌≡◌, ◌≢◌, ℕ, ◌+◌, ◌≤◌, Bool, true, false, List, [], ◌∷◌, ◌++◌, length, drop, refl, sym, ◌∙◌, ap, subst, arith, Option, None, Some, Result, Ok, Err, OnOk, IfErr, inl, inr}
+use Rattle.std.specs.Prelude.{IsTrue, is_some, ◌&&◌, ◌==◌, not}
+use Rattle.std.proofs.lemmas.List.{append-nil}
+use Rattle.jk_language.specs.declared.outcome.Refusal.{Refusal}
+use Rattle.jk_language.specs.Parts.{Line as AsLine, Meaning}
+use Rattle.jk_language.specs.MachineState.{MachineState, here}
+use Rattle.jk_language.specs.Runs.{unshown, line_given, output_taken, HasTurned, IsGiven, OutcomeIs, tells_end, tells_line}
+use Rattle.jk_language.specs.declared.outcome.Outcome.TheVariants as outcome
+use Rattle.jk_language.specs.declared.outcome.Turned.{Turned}
+use Rattle.jk_language.specs.declared.outcome.Turned.TheVariants as turned
+use Rattle.jk_language.specs.Spoken.{Spoken, IsLanguage}
+use Rattle.jk_language.specs.Beginning.{IsFresh}
+use Rattle.jp_msg.specs.declared.message.Execute.{Execute}
+use Rattle.jk_core.specs.declared.arrival.Arrival.{Arrival}
+use Rattle.jk_core.specs.declared.arrival.Sort.{Sort}
+use Rattle.jk_core.specs.declared.arrival.Sort.TheVariants as sort
+use Rattle.jk_core.specs.Asked.{input_in, sort_as}
+use Rattle.jk_core.specs.declared.desk.Active.{Active}
+use Rattle.jk_core.specs.declared.desk.Wants.{Wants}
+use Rattle.jk_core.specs.declared.desk.Wants.TheVariants as wants
+use Rattle.jk_core.specs.declared.desk.Place.{Place}
+use Rattle.jk_core.specs.declared.desk.Place.TheVariants.{Resting, Running as Runs}
+use Rattle.jk_core.specs.declared.desk.Desk.{Desk}
+use Rattle.jk_core.specs.declared.start.Opening.{Opening}
+use Rattle.jk_core.specs.declared.start.Opening.TheVariants as opening
+use Rattle.jk_core.specs.declared.job.Parsed.{Parsed}
+use Rattle.jk_core.specs.declared.job.Parsed.TheVariants as parsed
+use Rattle.jk_core.specs.Results.{IsResult}
+use Rattle.jk_core.specs.declared.mark.Item.{Item}
+use Rattle.jk_core.specs.declared.mark.Item.TheVariants.{Took, Marked}
+use Rattle.jk_core.specs.declared.mark.Kind.TheVariants.{Abort, Ask, Begin, End, Flush, Interrupt, Line, Refuse, Stop}
+use Rattle.jk_core.specs.declared.mark.Ending.TheVariants as ending
+use Rattle.jk_core.specs.declared.mark.Cause.{Cause}
+use Rattle.jk_core.specs.declared.mark.Cause.TheVariants as cause
+use Rattle.jk_core.specs.declared.kernel.Work.{Work}
+use Rattle.jk_core.specs.declared.kernel.Work.TheVariants as work
+use Rattle.jk_core.specs.declared.script.Waiting.{Waiting}
+use Rattle.jk_core.specs.Log.{Log, Running, running, running_with, session, count as count_of, meaning, meaning_in, shown_in, stood, stood_in, next_count, option_or, option_with, opened, flushed_at, asking, lined, unread, nones, left, asker, asked_of, execute_at, input_at, seat_at}
+use Rattle.jk_core.specs.Legal.{IsLineless, MayAsk}
+use Rattle.jk_core.specs.State.{KernelState, first_of}
+use Rattle.jk_core.specs.Steps.{allows_at, allowed, answered, begun, broken, closed, failing, flushed as flushed_to, given_to, gone_on, has_lines, limit, noted, sliced, took, written, written_out, stopped, stops_at, taken, with_waits, BeginsAt, Closes, GoesOn, GoesWithout, IsAsking, IsBrokenAt, Moves, Starts, StartsFirst, Works}
+use Rattle.jk_core.specs.Kept.{CanStop, HoldsAt, IsHeld, IsKept, IsLineFor, IsOf, IsResultOf, IsRunBy, IsWanting, Opens, RunsBy, Stands, StartsOr, WantsAt, AllWait, IsWaiting, has_asked, is_asking, line_to, lined_up}
+use Rattle.jk_core.specs.Slices.{HasAsked, HasCome, HasStuck, IsAtWork, IsInSlice, may_ask}
+use Rattle.jk_core.proofs.Keeps.{failing_moves, flushed_runs, asking_runs, lined_runs, no_lines, meaning_shown, runs_as, silent_slice, kept-taken, some_same, stops_same}
+use Rattle.jk_core.proofs.Logs.{input_grows, input_newest}
+use Rattle.jk_core.proofs.Turns.{count_same, here_is, lacks, law_of, lineless, may_by, not_lineless, not_stopped, ran_same, seat_left, stood_at}
+use Rattle.std.proofs.Common.{zero, suc}
+use Rattle.jk_core.proofs.Desks.{no_given}
+
+-- the cell that runs after it went on without a line
+module _ {S T : Type 0} (spoken : Spoken S T) where
+  runs_after : (nones n : ℕ) (r : Running) (old : KernelState T) (now : Running) (k : KernelState T) → GoesWithout spoken nones n r old now k → running old.log ≡ Some r → running k.log ≡ Some now
+  runs_after zero n r old now k (e, f) runs = ap (λ (j : KernelState T). running j.log) f ∙ runs ∙ ap (λ (q : Running). Some q) (sym e)
+  runs_after (suc more) n r old now k (first, rest) runs =
+      runs_after more n (lined None r) (noted r.at (Line None) old) now k rest (lined_runs (running old.log) r None runs)
+
+  goes_asking : (turns : ℕ) (r : Running) (old new : KernelState T) → running old.log ≡ Some r → GoesOn spoken turns r old work.NeedsLine new → IsAsking new.log
+  goes_asking turns r old new runs (nones, now, k, without, (may, o, e)) =
+      let n = limit turns old in
+      let cell = asking (flushed_at (meaning spoken k.log now n).turns now) in
+      subst (λ (k : KernelState T). IsAsking k.log) (sym e)
+      (cell, asking_runs _ (flushed_at (meaning spoken k.log now n).turns now) (flushed_runs (running k.log) now _ (runs_after nones n r old now k without runs)), refl, may.here)
+
+  goes_works : (turns : ℕ) (r : Running) (old : KernelState T) (does : Work) (new : KernelState T) → running old.log ≡ Some r → GoesOn spoken turns r old does new → Works spoken turns old does new
+  goes_works turns r old work.Rest new runs (nones, now, k, without, closes) = absurd closes
+  goes_works turns r old work.NeedsParse new runs (nones, now, k, without, closes) = absurd closes
+  goes_works turns r old work.Ran new runs goes = inl (r, runs, goes)
+  goes_works turns r old work.NeedsLine new runs goes = (goes_asking turns r old new runs goes, inr (inl (r, runs, goes)))
+  goes_works turns r old work.NoMemory new runs goes = inr (inl (r, runs, goes))
+
+  pub resumed : (turns : ℕ) (old got : KernelState T) (does : Work) (new : KernelState T) → got ≡ old → (r : Running) × (running got.log ≡ Some r) × GoesOn spoken turns r got does new → Works spoken turns old does new
+  resumed turns old got does new e (r, runs, goes) =
+      subst (λ (k : KernelState T). Works spoken turns k does new) e (goes_works turns r got does new runs goes)
+
+  -- what waits first starts: only a cell that goes on asks
+  starts_asking : (turns at : ℕ) (o : Option (Parsed T)) (old new : KernelState T) → Starts spoken turns at o old work.NeedsLine new → IsAsking new.log
+  starts_asking turns at None old new s = absurd s
+  starts_asking turns at (Some parsed.Memory) old new (e, f) = never_ran _ e
+    where
+      never_ran : (P : Type 0) → work.NeedsLine ≡ work.Ran → P
+      never_ran P e = cc
+  starts_asking turns at (Some (parsed.Fault fault)) old new (e, f) = never_ran _ e
+    where
+      never_ran : (P : Type 0) → work.NeedsLine ≡ work.Ran → P
+      never_ran P e = cc
+  starts_asking turns at (Some (parsed.Tree tree)) old new (inl (r, runs, goes)) = goes_asking turns r (begun at old) new runs goes
+  starts_asking turns at (Some (parsed.Tree tree)) old new (inr (refusal, wrong, e, f)) = never_ran _ e
+    where
+      never_ran : (P : Type 0) → work.NeedsLine ≡ work.Ran → P
+      never_ran P e = cc
+
+  first_asking : (turns : ℕ) (all : List (Waiting T)) (old new : KernelState T) → StartsFirst spoken turns all old work.NeedsLine new → IsAsking new.log
+  first_asking turns [] old new s = absurd s
+  first_asking turns (w ∷ ws) old new s = starts_asking turns w.at w.result (with_waits ws old) new s
+
+  -- what starts does not rest
+  starts_on : (turns at : ℕ) (o : Option (Parsed T)) (old : KernelState T) (does : Work) (new : KernelState T) → ((P : Type 0) → does ≡ work.Ran → P) → ((r : Running) (k : KernelState T) → GoesOn spoken turns r k does new → ⊥) → Starts spoken turns at o old does new → ⊥
+  starts_on turns at None old does new ran goes s = absurd s
+  starts_on turns at (Some parsed.Memory) old does new ran goes (e, f) = ran ⊥ e
+  starts_on turns at (Some (parsed.Fault fault)) old does new ran goes (e, f) = ran ⊥ e
+  starts_on turns at (Some (parsed.Tree tree)) old does new ran goes (inl (r, runs, on)) = goes r (begun at old) on
+  starts_on turns at (Some (parsed.Tree tree)) old does new ran goes (inr (refusal, wrong, e, f)) = ran ⊥ e
+
+  first_on : (turns : ℕ) (all : List (Waiting T)) (old : KernelState T) (does : Work) (new : KernelState T) → ((P : Type 0) → does ≡ work.Ran → P) → ((r : Running) (k : KernelState T) → GoesOn spoken turns r k does new → ⊥) → StartsFirst spoken turns all old does new → ⊥
+  first_on turns [] old does new ran goes s = absurd s
+  first_on turns (w ∷ ws) old does new ran goes s = starts_on turns w.at w.result (with_waits ws old) does new ran goes s
+
+  never_rests : (turns : ℕ) (new : KernelState T) (r : Running) (k : KernelState T) → GoesOn spoken turns r k work.Rest new → ⊥
+  never_rests turns new r k (nones, now, j, without, closes) = absurd closes
+
+  never_parses : (turns : ℕ) (new : KernelState T) (r : Running) (k : KernelState T) → GoesOn spoken turns r k work.NeedsParse new → ⊥
+  never_parses turns new r k (nones, now, j, without, closes) = absurd closes
+
+  rest_ran : (P : Type 0) → work.Rest ≡ work.Ran → P
+  rest_ran P e = cc
+
+  parse_ran : (P : Type 0) → work.NeedsParse ≡ work.Ran → P
+  parse_ran P e = cc
+
+  pub started : (turns : ℕ) (old : KernelState T) (does : Work) (new : KernelState T) → running old.log ≡ None → StartsOr spoken turns old does new → Works spoken turns old does new
+  started turns old does new idle (inl (e, same)) = subst (λ (w : Work). Works spoken turns old w new) (sym e) (inl same)
+  started turns old work.Rest new idle (inr s) = absurd (first_on turns old.waits old work.Rest new rest_ran (never_rests turns new) s)
+  started turns old work.NeedsParse new idle (inr s) = absurd (first_on turns old.waits old work.NeedsParse new parse_ran (never_parses turns new) s)
+  started turns old work.Ran new idle (inr s) = inr (idle, s)
+  started turns old work.NeedsLine new idle (inr s) = (first_asking turns old.waits old new s, inr (inr (idle, s)))
+  started turns old work.NoMemory new idle (inr s) = inr (inr (idle, s))
+
+module _ {S T M : Type 0} (spoken : Spoken S T) (laws : IsLanguage spoken) (state : M → MachineState S) where
+  -- a cell that was given all its lines can go on
+  abbrev pub IsReady : Wants → Type 0
+  IsReady wants.Nothing = Unit {0}
+  IsReady wants.Asked = Unit {0}
+  IsReady (wants.Given place) = ⊥
+
+  waits_not : (gone : Bool) → true && not gone ≡ false → gone ≡ true
+  waits_not true e = refl
+  waits_not false e = cc
+
+  fresh_none : (w : Wants) (log : Log) (r : Running) (m : MachineState S) → IsReady w → IsWanting log w r m → r.fresh ≡ []
+  fresh_none wants.Nothing log r m ready h = h.1
+  fresh_none wants.Asked log r m ready h = h.1
+  fresh_none (wants.Given place) log r m ready h = absurd ready
+
+  asked_so : (w : Wants) (log : Log) (r : Running) (m : MachineState S) → IsReady w → IsWanting log w r m → HasAsked w r
+  asked_so wants.Nothing log r m ready h = h.0
+  asked_so wants.Asked log r m ready h = h.0
+  asked_so (wants.Given place) log r m ready h = absurd ready
+
+  needs_so : (w : Wants) (log : Log) (r : Running) (m : MachineState S) (gone : Bool) → IsReady w → gone ≡ left r.seat r.at log → has_asked w && not gone ≡ false → IsWanting log w r m → r.asked ≡ true → IsLineless log r × ((here m).outcome ≡ outcome.NeedsLine)
+  needs_so wants.Nothing log r m gone ready e waits h asked = false_true _ (sym h.0 ∙ asked)
+    where
+      false_true : (P : Type 0) → false ≡ true → P
+      false_true P e = cc
+  needs_so wants.Asked log r m gone ready e waits h asked = (inr (sym e ∙ waits_not gone waits), h.3)
+  needs_so (wants.Given place) log r m gone ready e waits h asked = absurd ready
+
+  pub at_work : (w : Wants) (k : KernelState T) (n : ℕ) (a : Active M) → a.wants ≡ w → IsReady w → RunsBy spoken state k a → is_asking a k.log ≡ false → k.ran ≤ n → IsAtWork spoken state k k n a
+  at_work w k n a is ready h waits le =
+      let r = h.runs.cell in
+      let same : h.wants.0 ≡ r = some_same h.wants.0 r (sym h.wants.1 ∙ h.runs.runs) in
+      let want : IsWanting k.log w r (state a.machine) = subst (λ (w : Wants). IsWanting k.log w r (state a.machine)) is
+      (subst (λ (q : Running). IsWanting k.log a.wants q (state a.machine)) same h.wants.3) in
+      let fresh = fresh_none w k.log r (state a.machine) ready want in
+      record {
+        stands = record {
+          first = r;
+          began = h.runs.runs;
+          nones = 0;
+          cell = r;
+          without = (refl, refl);
+          runs = h.runs.runs;
+          of = h.runs.of;
+          goes = h.runs.machine.goes;
+          lines = h.runs.lines ∙ sym (ap (λ (ls : List AsLine). r.lines ++ ls) fresh ∙ append-nil r.lines);
+          shown = h.runs.machine.shown;
+          used = h.runs.machine.used;
+          behind = h.runs.onward;
+          onward = (let at = h.runs.turns in omega arith);
+          within = (let at = h.runs.turns in omega arith);
+          read = h.wants.2 ∙ ap (λ (q : Running). has_lines q.fresh) same;
+          asked = subst (λ (w : Wants). HasAsked w r) (sym is) (asked_so w k.log r (state a.machine) ready want);
+          left = needs_so w k.log r (state a.machine) (left a.seat a.at k.log) ready (seat_left k.log r a h.runs.of) (ap (λ (w : Wants). has_asked w && not (left a.seat a.at k.log)) (sym is) ∙ waits) want;
+        };
+        on = h.runs.machine.on;
+      }
+
+  pub ready_work : (k : KernelState T) (n : ℕ) (a : Active M) → (a.wants ≡ wants.Nothing) ⊎ (a.wants ≡ wants.Asked) → RunsBy spoken state k a → is_asking a k.log ≡ false → k.ran ≤ n → IsAtWork spoken state k k n a
+  ready_work k n a (inl e) h waits le = at_work wants.Nothing k n a e tt h waits le
+  ready_work k n a (inr e) h waits le = at_work wants.Asked k n a e tt h waits le
+
+  -- a cell that was given its line now
+  pub at_work_given : (k : KernelState T) (n place : ℕ) (a : Active M) (m : M) (text : List ℕ) → a.wants ≡ wants.Given place → RunsBy spoken state k a → Some text ≡ input_at place k.log → state m ≡ line_given (Some text) (state a.machine) → k.ran ≤ n → IsAtWork spoken state k k n (record a { wants = wants.Nothing; machine = m })
+  at_work_given k n place a m text is h there given le =
+      let r = h.runs.cell in
+      let goes_same : h.wants.0 ≡ r = some_same h.wants.0 r (sym h.wants.1 ∙ h.runs.runs) in
+      let want : IsWanting k.log (wants.Given place) r (state a.machine) = subst (λ (w : Wants). IsWanting k.log w r (state a.machine)) is
+      (subst (λ (q : Running). IsWanting k.log a.wants q (state a.machine)) goes_same h.wants.3) in
+      let fresh : r.fresh ≡ Some text ∷ [] = want.4 ∙ ap (λ (t : List ℕ). Some t ∷ []) (some_same want.2 text (sym want.3 ∙ sym there)) in
+      let code = r.request.code in
+      let s = session spoken k.log in
+      let turns : (state m).turns ≡ k.ran = ap (λ (x : MachineState S). x.turns) given ∙ h.runs.turns in
+      let lines : (state m).lines ≡ r.lines ++ Some text ∷ [] = ap (λ (x : MachineState S). x.lines) given ∙ ap (λ (ls : List AsLine). ls ++ Some text ∷ []) h.runs.lines in
+      let goes_on : (ls : List AsLine) (j : ℕ) → (state m).goes ls j ≡ spoken.cell s code ls j = λ ls j. ap (λ (x : MachineState S). x.goes ls j) given ∙ h.runs.machine.goes ls j in
+      let before : (spoken.cell s code r.lines k.ran).turns ≡ k.ran = ap (λ (p : Meaning S). p.turns) (sym (h.runs.machine.goes (state a.machine).lines (state a.machine).turns
+      ∙ ap (λ (ls : List AsLine). spoken.cell s code ls (state a.machine).turns) h.runs.lines ∙ ap (spoken.cell s code r.lines) h.runs.turns)) ∙ h.runs.machine.used ∙ h.runs.turns in
+      let least = (laws.fed s code r.lines (Some text)).onward k.ran in
+      let most = (laws.lawful s code (r.lines ++ Some text ∷ [])).few k.ran in
+      let now : here (state m) ≡ spoken.cell s code (r.lines ++ Some text ∷ []) k.ran = goes_on (state m).lines (state m).turns
+      ∙ ap (λ (ls : List AsLine). spoken.cell s code ls (state m).turns) lines ∙ ap (spoken.cell s code (r.lines ++ Some text ∷ [])) turns in
+      record {
+        stands = record {
+          first = r;
+          began = h.runs.runs;
+          nones = 0;
+          cell = r;
+          without = (refl, refl);
+          runs = h.runs.runs;
+          of = (let of = h.runs.of in record { at = of.at; seat = of.seat; stops = of.stops; allows = of.allows });
+          goes = goes_on;
+          lines = lines ∙ sym (ap (λ (ls : List AsLine). r.lines ++ ls) fresh);
+          shown = ap (λ (x : MachineState S). x.shown) given ∙ h.runs.machine.shown;
+          used = ap (λ (p : Meaning S). p.turns) now ∙ omega (arith, before, least, most) ∙ sym turns;
+          behind = h.runs.onward;
+          onward = omega (arith, turns);
+          within = omega (arith, turns, le);
+          read = h.wants.2 ∙ ap (λ (q : Running). has_lines q.fresh) goes_same;
+          asked = want.0;
+          left = λ asked. false_true _ (sym want.0 ∙ asked);
+        };
+        on = ap (λ (x : MachineState S). x.over) given ∙ h.runs.machine.on;
+      }
+    where
+      false_true : (P : Type 0) → false ≡ true → P
+      false_true P e = cc

@@ -1,0 +1,16 @@
+use Rattle.std.proofs.Common.{Some, ◌≡◌, subst, sym, ap, refl, arith}
+use Rattle.std.specs.Prelude.{reverse, slice_get}
+use Rattle.jk_core.specs.Log.{Log, arrivals}
+use Rattle.jk_core.specs.State.{last_leave}
+use Rattle.jk_core.proofs.Logs.{zeros_get}
+use Rattle.jk_core.proofs.script.Script.new.Goals as goal
+
+pub invariant_of-result : goal.invariant_of-result
+invariant_of-result g c =
+    let empty = ap reverse c.new.ensures.items in
+    record {
+      shown = omega arith;
+      taken = sym (ap arrivals empty);
+      left = λ seat h. subst (λ (log : Log). slice_get c.none.result seat ≡ Some (last_leave seat log)) (sym empty)
+          (zeros_get seat c.none.result (let seats = c.none.ensures.seats in omega (arith, h)) c.none.ensures.none);
+    }

@@ -1,0 +1,192 @@
+//! Beginning what waits first.
+
+ghost use Rattle.std.specs.Prelude.{◌≡◌, ◌≢◌, ℕ, ◌+◌, ◌≤◌, List, length, IfOk, IfErr, Some, None, ◌⊎◌};
+ghost use Rattle.jk_core.specs.Log.{count as count_of, session as session_of, next_count as next_count_of, execute_at, running};
+ghost use Rattle.jk_core.specs.Results.{IsResult};
+ghost use Rattle.jk_core.specs.Steps.{stops_at as stops_at_of, allows_at as allows_at_of, broken, StartsFirst, BeginsAt, IsBrokenAt};
+ghost use Rattle.jp_msg.specs.declared.message.Execute.{Execute as ExecuteOf};
+ghost use Rattle.jk_core.specs.Kept.{IsKept, Stands, Opens, FirstRead, StartsOr};
+ghost use Rattle.jk_language.specs.Beginning.{IsFresh};
+
+use crate::desk::{Active, Desk, Place, Wants};
+use crate::job::Parsed;
+use crate::kernel::Work;
+use crate::mark::{Ending, Kind};
+use crate::script::Script;
+use crate::slice::go_on;
+use crate::taking::fail;
+use jk_language::{Begun, Language, Refusal};
+use json_form::Text;
+use std::alloc::Global;
+
+/// The count with which the request at a place begins.
+fn next_count<T: Drop>(script: &Script<T>, at: usize, count: u64) -> u64
+    requires counted { count ≡ count_of script.now.state.log }
+    requires few { count ≤ length script.now.state.log }
+    ensures { result ≡ next_count_of at script.now.state.log }
+{
+    let places = script.next_place();
+    prove!(count <= places as u64);
+    match script.execute_at(at) {
+        Some(execute) if execute.store_history && !execute.silent => count + 1,
+        _ => count,
+    }
+}
+
+/// Whether an error of the request at a place aborts what waits.
+fn stops_at<T: Drop>(script: &Script<T>, at: usize) -> bool
+    ensures { result ≡ stops_at_of at script.now.state.log }
+{
+    match script.execute_at(at) {
+        Some(execute) => execute.stop_on_error,
+        None => false,
+    }
+}
+
+/// Whether the request at a place allows input.
+fn allows_at<T: Drop>(script: &Script<T>, at: usize) -> bool
+    ensures { result ≡ allows_at_of at script.now.state.log }
+{
+    match script.execute_at(at) {
+        Some(execute) => execute.allow_stdin,
+        None => false,
+    }
+}
+
+/// What comes of the first request that waits.
+#[derive(Drop)]
+pub(crate) enum Opening<S, M> {
+    /// Its parse found no memory.
+    Refused(S),
+    /// Its text is refused by compiling, or its commands do not link.
+    Broken(S, Refusal),
+    Runs(M),
+}
+
+/// What comes of a request with this result. Where memory is refused, the session is handed back.
+fn open<L: Language>(
+    alloc: Global,
+    session: L::Session,
+    outcome: &Parsed<L::Tree>,
+) -> Result<Opening<L::Session, L::Machine>, L::Session>
+    ensures opened { IfOk result (λ o. (text : List ℕ) → IsResult L.spoken text outcome.now → Opens L.spoken L.state session text outcome.now o) }
+    ensures back { IfErr result (λ back. back ≡ session) }
+{
+    match outcome {
+        Parsed::Memory => Ok(Opening::Refused(session)),
+        Parsed::Fault(fault) => Ok(Opening::Broken(session, Refusal::Compile(*fault))),
+        Parsed::Tree(tree) => match L::begin(alloc, session, tree) {
+            Ok(Begun::Runs(machine)) => Ok(Opening::Runs(machine)),
+            Ok(Begun::Refused(session, refusal)) => Ok(Opening::Broken(session, refusal)),
+            Err((session, _)) => Err(session),
+        },
+    }
+}
+
+/// Begins, or refuses, the first request that waits, which has its result.
+pub(crate) fn start<L: Language>(
+    script: &mut Script<L::Tree>,
+    desk: &mut Desk<L::Session, L::Machine>,
+    session: L::Session,
+    turns: u64,
+) -> Work
+    requires counted { desk.old.count ≡ count_of script.old.state.log }
+    requires session { session ≡ session_of L.spoken script.old.state.log }
+    requires idle { running script.old.state.log ≡ None }
+    requires kept { IsKept L.spoken script.old.state }
+    requires read { FirstRead script.old.state.waits }
+    ensures starts { StartsOr L.spoken turns script.old.state result script.new.state }
+    ensures stands { Stands L.spoken L.state script.new.state desk.new }
+{
+    let more = 3 + script.waiting_len();
+    if script.reserve(more).is_err() {
+        desk.place = Place::Resting(session);
+        return Work::NoMemory;
+    }
+    let Some(first) = script.first() else {
+        unreachable!()
+    };
+    let Some(outcome) = &first.result else {
+        unreachable!()
+    };
+    let at = first.at;
+    let opening = match open::<L>(desk.alloc, session, outcome) {
+        Ok(opening) => opening,
+        Err(session) => {
+            desk.place = Place::Resting(session);
+            return Work::NoMemory;
+        }
+    };
+    let _ = script.pop_waiting();
+    match opening {
+        Opening::Refused(session) => {
+            let count = desk.count;
+            script.note(at, Kind::Refuse { count });
+            desk.place = Place::Resting(session);
+            Work::Ran
+        }
+        Opening::Broken(session, refusal) => {
+            end_broken::<L>(script, desk, at, session, refusal);
+            Work::Ran
+        }
+        Opening::Runs(machine) => begin::<L>(script, desk, at, machine, turns),
+    }
+}
+
+/// Begins a cell.
+fn begin<L: Language>(
+    script: &mut Script<L::Tree>,
+    desk: &mut Desk<L::Session, L::Machine>,
+    at: usize,
+    machine: L::Machine,
+    turns: u64,
+) -> Work
+    requires room { 3 + length script.old.state.waits ≤ script.old.room }
+    requires counted { desk.old.count ≡ count_of script.old.state.log }
+    requires few { count_of script.old.state.log ≤ length script.old.state.log }
+    requires begins { (e : ExecuteOf) × (execute_at at script.old.state.log ≡ Some e) × IsFresh L.spoken (session_of L.spoken script.old.state.log) e.code (L.state machine) }
+    ensures begins { BeginsAt L.spoken turns at script.old.state result script.new.state }
+    ensures stands { Stands L.spoken L.state script.new.state desk.new }
+{
+    let active = Active {
+        at,
+        seat: script.seat_at(at),
+        stops: stops_at(script, at),
+        allows: allows_at(script, at),
+        wants: Wants::Nothing,
+        read: false,
+        machine,
+    };
+    let count = next_count(script, at, desk.count);
+    desk.count = count;
+    script.note(at, Kind::Begin { count });
+    go_on::<L>(script, desk, active, turns)
+}
+
+/// Begins and ends a cell that does not run.
+fn end_broken<L: Language>(
+    script: &mut Script<L::Tree>,
+    desk: &mut Desk<L::Session, L::Machine>,
+    at: usize,
+    session: L::Session,
+    refusal: Refusal,
+)
+    requires room { 3 + length script.old.state.waits ≤ script.old.room }
+    requires counted { desk.old.count ≡ count_of script.old.state.log }
+    requires few { count_of script.old.state.log ≤ length script.old.state.log }
+    requires session { session ≡ session_of L.spoken script.old.state.log }
+    requires breaks { IsBrokenAt L.spoken at refusal script.old.state.log }
+    ensures ended { script.new.state ≡ broken at refusal script.old.state }
+    ensures stands { Stands L.spoken L.state script.new.state desk.new }
+{
+    let stops = stops_at(script, at);
+    let count = next_count(script, at, desk.count);
+    desk.count = count;
+    script.note(at, Kind::Begin { count });
+    let text = Text::from_string(String::new(desk.alloc));
+    script.note(at, Kind::Flush { turns: 0, text });
+    let ending = Ending::Refused(refusal);
+    script.note(at, Kind::End { ending, count });
+    fail(script, stops);
+    desk.place = Place::Resting(session);
+}

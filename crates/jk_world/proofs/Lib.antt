@@ -1,0 +1,16 @@
+pub mod Basics
+pub mod Once
+pub mod Ordered
+pub mod Lines
+pub mod Streams
+pub mod Parents
+pub mod Ends
+pub mod Outcomes
+pub mod Views
+pub mod Goes
+pub mod Worlds
+pub mod Handing
+pub mod Answered
+pub mod Counted
+pub mod Texts
+pub mod Asks

@@ -1,0 +1,298 @@
+-- Each request is begun, refused or aborted at most once.
+use Rattle.std.proofs.Common.{◌≡◌, ◌≢◌, ◌⊎◌, ℕ, ◌+◌, ◌≤◌, Bool, true, false, cond, List, [], ◌∷◌, ◌++◌, length, map, drop, refl, sym, ◌∙◌, ap, subst, arith, Option, None, Some, inl, inr, eqb}
+use Rattle.std.specs.Prelude.{slice_get}
+use Rattle.std.proofs.lemmas.List.{append-nil}
+use Rattle.std.proofs.lemmas.Option.{none-some, same_Some}
+use Rattle.std.proofs.Common.{eq-eqb}
+use Rattle.std.proofs.lemmas.Bool.Decides.{eqb_tells}
+use Rattle.jk_language.specs.Spoken.{Spoken}
+use Rattle.jp_msg.specs.declared.message.Execute.{Execute}
+use Rattle.jk_core.specs.declared.arrival.Arrival.{Arrival}
+use Rattle.jk_core.specs.Asked.{sort_as, input_in}
+use Rattle.jk_core.specs.declared.mark.Item.{Item}
+use Rattle.jk_core.specs.declared.mark.Item.TheVariants.{Took, Marked}
+use Rattle.jk_core.specs.declared.mark.Mark.{Mark}
+use Rattle.jk_core.specs.declared.mark.Kind.{Kind}
+use Rattle.jk_core.specs.declared.mark.Kind.TheVariants.{Join, Leave, Begin, Flush, Ask, Line, End, Stop, Refuse, Abort, Interrupt}
+use Rattle.jk_core.specs.declared.mark.Ending.{Ending}
+use Rattle.jk_core.specs.declared.mark.Ending.TheVariants.{Completed, Trapped, Refused}
+use Rattle.jk_core.specs.declared.mark.Cause.TheVariants.{Interrupted}
+use Rattle.jk_core.specs.Log.{Log, Running, running, waiting, waiting_after, waits_as, execute_at, asker}
+use Rattle.jk_core.specs.Legal.{ends_due, line_due, Due, MarkDue, FlushDue, StopDue, abort_due, EachFollows, MayMark, JustFlushedBy, IsForced, owed, dues_of, dues_after, dues_after_end, aborts_due}
+use Rattle.jk_core.proofs.Logs.{by_sort, execute_grows, execute_newest, executes}
+use Rattle.jk_world.specs.Cells.{times_answered}
+
+-- the aborts that are owed are of what waits
+abbrev Fits : List Due → List ℕ → Type 0
+Fits [] places = Unit {0}
+Fits (FlushDue ∷ ds) places = Fits ds places
+Fits (StopDue cause ∷ ds) places = ds ≡ []
+Fits (MarkDue at Abort ∷ ds) places = (rest : List ℕ) × (places ≡ at ∷ rest) × Fits ds rest
+Fits (MarkDue at other ∷ ds) places = Fits ds places
+
+aborts_fit : (places : List ℕ) → Fits (map abort_due places) places
+aborts_fit [] = tt
+aborts_fit (p ∷ ps) = (ps, refl, aborts_fit ps)
+
+aborts_fit_if : (b : Bool) (places : List ℕ) → Fits (cond b (map abort_due places) []) places
+aborts_fit_if true places = aborts_fit places
+aborts_fit_if false places = tt
+
+due_fit : (o : Option Running) (places : List ℕ) → Fits (aborts_due o places) places
+due_fit None places = tt
+due_fit (Some r) places = aborts_fit_if r.request.stop_on_error places
+
+end_fit : (e : Ending) (o : Option Running) (places : List ℕ) → Fits (dues_after_end e o places) places
+end_fit Completed o places = tt
+end_fit (Trapped trap) o places = due_fit o places
+end_fit (Refused refusal) o places = due_fit o places
+
+ends_fit : (o : Option Running) (places : List ℕ) → Fits (ends_due Interrupted o) places
+ends_fit None places = tt
+ends_fit (Some r) places = refl
+
+line_fit : (text : Option (List ℕ)) (at : Option ℕ) (places : List ℕ) → Fits (line_due text at) places
+line_fit None at places = tt
+line_fit (Some text) None places = tt
+line_fit (Some text) (Some at) places = tt
+
+took_fit : (a : Arrival) (past : Log) (places : List ℕ) → Fits (dues_of (sort_as a.what) a past) places
+took_fit a past places =
+    by_sort (λ s. Fits (dues_of s a past) places) tt tt tt (line_fit (input_in a.what) (asker a.seat past) places) (ends_fit (running past) places) tt (sort_as a.what)
+
+none_fit : (ds : List Due) (places : List ℕ) → Fits ds places → Fits (ds ++ []) places
+none_fit ds places h = subst (λ (ds : List Due). Fits ds places) (sym (append-nil ds)) h
+
+pub just_flush : (kind : Kind) → JustFlushedBy kind → (turns : ℕ) × (text : List ℕ) × (kind ≡ Flush turns text)
+just_flush (Flush turns text) h = (turns, text, refl)
+just_flush Join h = absurd h
+just_flush Leave h = absurd h
+just_flush Ask h = absurd h
+just_flush (Line line) h = absurd h
+just_flush (Begin n) h = absurd h
+just_flush (End ending n) h = absurd h
+just_flush (Stop turns cause n) h = absurd h
+just_flush (Refuse n) h = absurd h
+just_flush Abort h = absurd h
+just_flush Interrupt h = absurd h
+
+-- what is owed after a mark fits what waits then
+abbrev FitsAfter : List Due → Kind → Option Running → List ℕ → Type 0
+FitsAfter ds kind o places = Fits (drop 1 ds ++ dues_after kind o places) (waiting_after kind places)
+
+drop_fit : (ds : List Due) (at : ℕ) (rest places : List ℕ) → places ≡ at ∷ rest → Fits ds rest → Fits ds (drop 1 places)
+drop_fit ds at rest places e h = subst (λ (ps : List ℕ). Fits ds (drop 1 ps)) (sym e) h
+
+stop_fit : (ds : List Due) (o : Option Running) (places : List ℕ) → ds ≡ [] → Fits (ds ++ aborts_due o places) places
+stop_fit ds o places e = subst (λ (ds : List Due). Fits (ds ++ aborts_due o places) places) (sym e) (due_fit o places)
+
+forced_fit : (at : ℕ) (kind : Kind) (ds : List Due) (o : Option Running) (places : List ℕ) → IsForced kind → Fits (MarkDue at kind ∷ ds) places → FitsAfter (MarkDue at kind ∷ ds) kind o places
+forced_fit at Abort ds o places f (rest, e, h) = none_fit ds (drop 1 places) (drop_fit ds at rest places e h)
+forced_fit at Join ds o places f h = none_fit ds places h
+forced_fit at Leave ds o places f h = none_fit ds places h
+forced_fit at Interrupt ds o places f h = none_fit ds places h
+forced_fit at (Line line) ds o places f h = none_fit ds places h
+forced_fit at Ask ds o places f h = absurd f
+forced_fit at (Begin n) ds o places f h = absurd f
+forced_fit at (Flush turns text) ds o places f h = absurd f
+forced_fit at (End ending n) ds o places f h = absurd f
+forced_fit at (Stop turns cause n) ds o places f h = absurd f
+forced_fit at (Refuse n) ds o places f h = absurd f
+
+abbrev Answers : Kind → Type 0
+Answers (Begin n) = Unit {0}
+Answers (Refuse n) = Unit {0}
+Answers Abort = Unit {0}
+Answers other = ⊥
+
+-- a mark that is due and answers a request is an abort of the first that waits
+forced_first : (at : ℕ) (kind : Kind) (ds : List Due) (places : List ℕ) → IsForced kind → Answers kind → Fits (MarkDue at kind ∷ ds) places → slice_get places 0 ≡ Some at
+forced_first at Abort ds places f a (rest, e, h) = ap (λ (ps : List ℕ). slice_get ps 0) e
+forced_first at (Begin n) ds places f a h = absurd f
+forced_first at (Refuse n) ds places f a h = absurd f
+forced_first at Join ds places f a h = absurd a
+forced_first at Leave ds places f a h = absurd a
+forced_first at Interrupt ds places f a h = absurd a
+forced_first at (Line line) ds places f a h = absurd a
+forced_first at Ask ds places f a h = absurd a
+forced_first at (Flush turns text) ds places f a h = absurd a
+forced_first at (End ending n) ds places f a h = absurd a
+forced_first at (Stop turns cause n) ds places f a h = absurd a
+
+-- how often a place stands in a list
+abbrev pub is_at : ℕ → ℕ → ℕ
+is_at at p = cond (eqb p at) 1 0
+
+abbrev pub count_in : ℕ → List ℕ → ℕ
+count_in at [] = 0
+count_in at (p ∷ ps) = is_at at p + count_in at ps
+
+count_more : (at : ℕ) (ps qs : List ℕ) → count_in at (ps ++ qs) ≡ count_in at ps + count_in at qs
+count_more at [] qs = omega arith
+count_more at (p ∷ ps) qs = let e = count_more at ps qs in omega arith
+
+pub from_first : (places : List ℕ) (at : ℕ) → slice_get places 0 ≡ Some at → (rest : List ℕ) × (places ≡ at ∷ rest)
+from_first [] at e = absurd (none-some at e)
+from_first (p ∷ ps) at e = (ps, ap (λ (q : ℕ). q ∷ ps) (same_Some p at e))
+
+-- how often a request was answered or waits
+abbrev seen_at : ℕ → Log → ℕ
+seen_at at log = times_answered at log + count_in at (waiting log)
+
+dropped : (at p : ℕ) (places : List ℕ) → slice_get places 0 ≡ Some p → count_in at places ≡ is_at at p + count_in at (drop 1 places)
+dropped at p places e =
+    let first = from_first places p e in
+    subst (λ (ps : List ℕ). count_in at ps ≡ is_at at p + count_in at (drop 1 ps)) (sym first.1) refl
+
+sums : (a b c d : ℕ) → d ≡ b + c → (a + b) + c ≡ a + d
+sums a b c d e = omega arith
+
+answered_once : (at p a : ℕ) (places : List ℕ) → slice_get places 0 ≡ Some p → (a + is_at at p) + count_in at (drop 1 places) ≡ a + count_in at places
+answered_once at p a places e = sums a (is_at at p) (count_in at (drop 1 places)) (count_in at places) (dropped at p places e)
+
+not_answered : (b : Bool) (a c : ℕ) → (a + cond b 0 0) + c ≡ a + c
+not_answered true a c = omega arith
+not_answered false a c = omega arith
+
+-- each place that waits has an execute request
+abbrev pub AllAsk : Log → List ℕ → Type 0
+AllAsk log [] = Unit {0}
+AllAsk log (p ∷ ps) = ((e : Execute) × (execute_at p log ≡ Some e)) × AllAsk log ps
+
+pub asks_grow : (log : Log) (e : Item) (ps : List ℕ) → AllAsk log ps → AllAsk (e ∷ log) ps
+asks_grow log e [] h = tt
+asks_grow log e (p ∷ ps) h = ((h.0.0, execute_grows log e p h.0.0 h.0.1), asks_grow log e ps h.1)
+
+pub asks_append : (log : Log) (ps qs : List ℕ) → AllAsk log ps → AllAsk log qs → AllAsk log (ps ++ qs)
+asks_append log [] qs a b = b
+asks_append log (p ∷ ps) qs a b = (a.0, asks_append log ps qs a.1 b)
+
+asks_drop : (log : Log) (ps : List ℕ) → AllAsk log ps → AllAsk log (drop 1 ps)
+asks_drop log [] h = tt
+asks_drop log (p ∷ ps) h = h.1
+
+took_asks : (a : Arrival) (past : Log) → AllAsk (Took a ∷ past) (waits_as (sort_as a.what) (length past))
+took_asks a past =
+    by_sort (λ s. sort_as a.what ≡ s → AllAsk (Took a ∷ past) (waits_as s (length past))) (λ e. tt) (λ e. tt)
+    (λ e. let x = executes a.what e in ((x.0, execute_newest past a ∙ x.1), tt)) (λ e. tt) (λ e. tt) (λ e. tt) (sort_as a.what) refl
+
+mark_asks : (log : Log) (kind : Kind) (ps : List ℕ) → AllAsk log ps → AllAsk log (waiting_after kind ps)
+mark_asks log (Begin n) ps h = asks_drop log ps h
+mark_asks log (Refuse n) ps h = asks_drop log ps h
+mark_asks log Abort ps h = asks_drop log ps h
+mark_asks log other ps h = h
+
+asks : (log : Log) → AllAsk log (waiting log)
+asks [] = tt
+asks (Took a ∷ past) = asks_append (Took a ∷ past) (waiting past) _ (asks_grow past (Took a) (waiting past) (asks past)) (took_asks a past)
+asks (Marked m ∷ past) = mark_asks (Marked m ∷ past) m.kind (waiting past) (asks_grow past (Marked m) (waiting past) (asks past))
+
+-- the first that waits has an execute request
+pub first_asks : (log : Log) (at : ℕ) → slice_get (waiting log) 0 ≡ Some at → (e : Execute) × (execute_at at log ≡ Some e)
+first_asks log at e =
+    let first = from_first (waiting log) at e in
+    (subst (AllAsk log) first.1 (asks log)).0
+
+module _ {S T : Type 0} (spoken : Spoken S T) where
+  mark_fit : (past : Log) (ds : List Due) (at : ℕ) (kind : Kind) → MayMark spoken past ds (record { at = at; kind = kind }) → Fits ds (waiting past) → FitsAfter ds kind (running past) (waiting past)
+  mark_fit past [] at (End ending n) may h = end_fit ending (running past) (waiting past)
+  mark_fit past [] at (Stop turns cause n) may h = due_fit (running past) (waiting past)
+  mark_fit past [] at Join may h = tt
+  mark_fit past [] at Leave may h = tt
+  mark_fit past [] at (Begin n) may h = tt
+  mark_fit past [] at (Flush turns text) may h = tt
+  mark_fit past [] at Ask may h = tt
+  mark_fit past [] at (Line line) may h = tt
+  mark_fit past [] at (Refuse n) may h = tt
+  mark_fit past [] at Abort may h = tt
+  mark_fit past [] at Interrupt may h = tt
+  mark_fit past (MarkDue a due ∷ ds) at kind (same, forced) h =
+      subst (λ (k : Kind). FitsAfter (MarkDue a due ∷ ds) k (running past) (waiting past)) (sym (ap (λ (m : Mark). m.kind) same))
+      (forced_fit a due ds (running past) (waiting past) forced h)
+  mark_fit past (FlushDue ∷ ds) at kind may h =
+      let just = just_flush kind may.0 in
+      subst (λ (k : Kind). FitsAfter (FlushDue ∷ ds) k (running past) (waiting past)) (sym just.2) (none_fit ds (waiting past) h)
+  mark_fit past (StopDue cause ∷ ds) at kind (turns, n, e, rest) h =
+      subst (λ (k : Kind). FitsAfter (StopDue cause ∷ ds) k (running past) (waiting past)) (sym e) (stop_fit ds (running past) (waiting past) h)
+
+  fits : (log : Log) → EachFollows spoken log → Fits (owed log) (waiting log)
+  fits [] h = tt
+  fits (Took a ∷ past) h = took_fit a past _
+  fits (Marked m ∷ past) h = mark_fit past (owed past) m.at m.kind h.1 (fits past h.0)
+
+  first_waits : (past : Log) (ds : List Due) (at : ℕ) (kind : Kind) → Answers kind → MayMark spoken past ds (record { at = at; kind = kind }) → Fits ds (waiting past) → slice_get (waiting past) 0 ≡ Some at
+  first_waits past [] at (Begin n) a may h = may.0.first
+  first_waits past [] at (Refuse n) a may h = may.0.first
+  first_waits past [] at Abort a may h = absurd may
+  first_waits past [] at Join a may h = absurd a
+  first_waits past [] at Leave a may h = absurd a
+  first_waits past [] at (Flush turns text) a may h = absurd a
+  first_waits past [] at Ask a may h = absurd a
+  first_waits past [] at (Line line) a may h = absurd a
+  first_waits past [] at (End ending n) a may h = absurd a
+  first_waits past [] at (Stop turns cause n) a may h = absurd a
+  first_waits past [] at Interrupt a may h = absurd a
+  first_waits past (MarkDue b due ∷ ds) at kind a (same, forced) h =
+      forced_first b due ds (waiting past) forced (subst Answers (ap (λ (m : Mark). m.kind) same) a) h
+      ∙ ap (λ (m : Mark). Some m.at) (sym same)
+  first_waits past (FlushDue ∷ ds) at kind a may h = absurd (subst Answers (just_flush kind may.0).2 a)
+  first_waits past (StopDue cause ∷ ds) at kind a (turns, n, e, rest) h = absurd (subst Answers e a)
+
+  -- what is begun, refused or aborted is the first that waits
+  pub answers_first : (past : Log) (at : ℕ) (kind : Kind) → EachFollows spoken past → MayMark spoken past (owed past) (record { at = at; kind = kind }) → Answers kind → slice_get (waiting past) 0 ≡ Some at
+  answers_first past at kind each may a = first_waits past (owed past) at kind a may (fits past each)
+
+  mark_seen : (past : Log) (at p : ℕ) (kind : Kind) → EachFollows spoken past → MayMark spoken past (owed past) (record { at = p; kind = kind }) → seen_at at (Marked (record { at = p; kind = kind }) ∷ past) ≡ seen_at at past
+  mark_seen past at p (Begin n) each may = answered_once at p (times_answered at past) (waiting past) (answers_first past p (Begin n) each may tt)
+  mark_seen past at p (Refuse n) each may = answered_once at p (times_answered at past) (waiting past) (answers_first past p (Refuse n) each may tt)
+  mark_seen past at p Abort each may = answered_once at p (times_answered at past) (waiting past) (answers_first past p Abort each may tt)
+  mark_seen past at p other each may = not_answered (eqb p at) (times_answered at past) (count_in at (waiting past))
+
+  -- at most once, and never before it was taken
+  record IsOnce (at : ℕ) (log : Log) : Type 0 where
+    few : seen_at at log ≤ 1
+    late : length log ≤ at → seen_at at log ≡ 0
+
+  more_if : (a : Arrival) (at p : ℕ) → count_in at (waits_as (sort_as a.what) p) ≤ is_at at p
+  more_if a at p = by_sort (λ s. count_in at (waits_as s p) ≤ is_at at p) (omega arith) (omega arith) (omega arith) (omega arith) (omega arith) (omega arith) (sort_as a.what)
+
+  took_once : (at : ℕ) (a : Arrival) (past : Log) → IsOnce at past → IsOnce at (Took a ∷ past)
+  took_once at a past h = tells (eqb_tells (length past) at)
+    where
+      sum : seen_at at (Took a ∷ past) ≡ times_answered at past + (count_in at (waiting past) + count_in at (waits_as (sort_as a.what) (length past)))
+      sum = ap (λ (n : ℕ). times_answered at past + n) (count_more at (waiting past) _)
+
+      tells : ((eqb (length past) at ≡ true) × (length past ≡ at)) ⊎ ((eqb (length past) at ≡ false) × (length past ≢ at)) → IsOnce at (Took a ∷ past)
+      tells (inl (b, e)) =
+          let one : is_at at (length past) ≡ 1 = ap (λ (b : Bool). cond b 1 0) b in
+          let more = more_if a at (length past) in
+          let none = h.late (omega (arith, e)) in
+          record { few = omega (arith, sum, one, more, none); late = λ l. absurd (omega (arith, l, e)) }
+      tells (inr (b, e)) =
+          let zero_more : is_at at (length past) ≡ 0 = ap (λ (b : Bool). cond b 1 0) b in
+          let more = more_if a at (length past) in
+          let few = h.few in
+          record { few = omega (arith, sum, zero_more, more, few); late = λ l. (let none = h.late (omega (arith, l)) in omega (arith, sum, zero_more, more, none)) }
+
+  is_once : (at : ℕ) (log : Log) → EachFollows spoken log → IsOnce at log
+  is_once at [] h = record { few = omega arith; late = λ l. refl }
+  is_once at (Took a ∷ past) h = took_once at a past (is_once at past h.0)
+  is_once at (Marked m ∷ past) h =
+      let before = is_once at past h.0 in
+      let same = mark_seen past at m.at m.kind h.0 h.1 in
+      record {
+        few = subst (λ (n : ℕ). n ≤ 1) (sym same) before.few;
+        late = λ l. same ∙ before.late (omega (arith, l));
+      }
+
+  -- each place is begun, refused or aborted at most once
+  pub answered_at_most_once : (log : Log) → EachFollows spoken log → (at : ℕ) → times_answered at log ≤ 1
+  answered_at_most_once log each at = let few = (is_once at log each).few in omega (arith, few)
+
+  -- what waits first was not answered yet
+  pub first_new : (log : Log) → EachFollows spoken log → (at : ℕ) → slice_get (waiting log) 0 ≡ Some at → times_answered at log ≡ 0
+  first_new log each at e =
+      let few = (is_once at log each).few in
+      let drops = dropped at at (waiting log) e in
+      let one : is_at at at ≡ 1 = ap (λ (b : Bool). cond b 1 0) (eq-eqb at at refl) in
+      omega (arith, few, drops, one)

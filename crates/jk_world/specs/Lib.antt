@@ -1,0 +1,9 @@
+pub mod World
+pub mod Cells
+pub mod Order
+pub mod Sessions
+pub mod Counts
+pub mod Input
+pub mod Requests
+pub mod View
+pub mod Parents

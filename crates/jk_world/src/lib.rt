@@ -1,0 +1,91 @@
+//! Laws of a kernel and of the world round it, for every language: what holds after any list of steps, and what a legal
+//! log tells of each request.
+#![tactic(auto)]
+
+ghost use Rattle.std.specs.Prelude.{◌≡◌, ◌++◌, ◌||◌, List, ℕ, None, Some};
+ghost use Rattle.jk_core.specs.declared.entry.Entry.{Entry};
+ghost use Rattle.jk_core.specs.Log.{Log};
+ghost use Rattle.jk_core.specs.Legal.{IsLegal};
+ghost use Rattle.jk_core.specs.Render.{render};
+ghost use Rattle.jk_world.specs.World.{World, Event, opening, Run, IsTrueWorld, HasGoneOn};
+ghost use Rattle.jk_world.specs.Cells.{IsAnsweredOnce, begun_in, CellIsRight};
+ghost use Rattle.jk_world.specs.Order.{IsFalling, answered_places};
+ghost use Rattle.jk_world.specs.Sessions.{IsHandedOn};
+ghost use Rattle.jk_world.specs.Input.{IsInputRight};
+ghost use Rattle.jk_world.specs.Counts.{TellCounts};
+ghost use Rattle.jk_world.specs.Requests.{IsShownRight};
+ghost use Rattle.jk_world.specs.Parents.{ParentsFit};
+ghost use Rattle.jk_world.specs.View.{view, part, has_joined};
+
+use jk_language::Language;
+
+/// After any list of steps, whatever the seats send: the log is legal; the board and the pending entries together are
+/// what is shown of the log; each follower has read a beginning of the board; and what was taken from each seat is a
+/// beginning of what it sent.
+pub fn world_law<L: Language>()
+    ensures { (followers : ℕ) (events : List (Event L.Tree)) (w : World L.Tree)
+        → Run L.spoken (opening followers) events w → IsTrueWorld L.spoken w }
+{}
+
+/// In any list of steps nothing that was sent, taken, marked or published is lost or changed.
+pub fn growth_law<L: Language>()
+    ensures { (w : World L.Tree) (events : List (Event L.Tree)) (v : World L.Tree)
+        → Run L.spoken w events v → HasGoneOn w v }
+{}
+
+/// In a legal log each request is begun, refused or aborted at most once, and a cell that was begun either runs or was
+/// ended or stopped once.
+pub fn once_law<L: Language>()
+    ensures { (log : Log) (at : ℕ) → IsLegal L.spoken log → IsAnsweredOnce log at }
+{}
+
+/// In a legal log the requests are begun, refused or aborted in the order in which they were taken.
+pub fn order_law<L: Language>()
+    ensures { (log : Log) → IsLegal L.spoken log → IsFalling (answered_places log) }
+{}
+
+/// In a legal log the streams of each begun cell, joined, are the output of its meaning: in the session in which it was
+/// begun, with the lines given before its last flush, after the turns of that flush, all of which it has used. A cell that
+/// was ended or stopped was so as that meaning says.
+pub fn streams_law<L: Language>()
+    ensures { (log : Log) (at : ℕ) (begun : L.Session) → IsLegal L.spoken log
+        → begun_in L.spoken at log ≡ Some begun → CellIsRight L.spoken log at begun }
+{}
+
+/// In a legal log each cell is begun in the session that the cell before it left, the first in the opening session. While
+/// no cell runs the session is what the last one left.
+pub fn session_law<L: Language>()
+    ensures { (log : Log) → IsLegal L.spoken log → IsHandedOn L.spoken log }
+{}
+
+/// In a legal log a cell asks for a line at most once at each number of turns. The texts that it is given are lines that
+/// the seat of its request sent, in their order, each at most once.
+pub fn input_law<L: Language>()
+    ensures { (log : Log) (at : ℕ) → IsLegal L.spoken log → IsInputRight log at }
+{}
+
+/// In a legal log each count that is told is the number of the cells begun so far that are to be stored.
+pub fn count_law<L: Language>()
+    ensures { (log : Log) → IsLegal L.spoken log → TellCounts log }
+{}
+
+/// In what is shown of a legal log each entry goes to whom it must. Each request that was begun, refused or aborted has
+/// one execute reply, once its cell no longer runs. The streams of a request are those of its cell, or none where it is
+/// silent.
+pub fn shown_law<L: Language>()
+    ensures { (log : Log) (at : ℕ) → IsLegal L.spoken log → IsShownRight log at }
+{}
+
+/// In what is shown of a legal log each stream and each error is for the request of the last `ExecuteInput` before it.
+pub fn parents_law<L: Language>()
+    ensures { (log : Log) → IsLegal L.spoken log → ParentsFit None (render log) }
+{}
+
+/// The view of two joined lists is the view of the first followed by the part that the second adds. That part depends on
+/// the second and on whether the Join is in the first.
+pub fn view_law()
+    ensures more { (xs ys : List Entry) (seat number : ℕ) → view (xs ++ ys) seat number
+        ≡ view xs seat number ++ part (has_joined seat number xs) ys seat number }
+    ensures joined { (xs ys : List Entry) (seat number : ℕ) → has_joined seat number (xs ++ ys)
+        ≡ (has_joined seat number xs || has_joined seat number ys) }
+{}

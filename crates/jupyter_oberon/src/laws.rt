@@ -1,0 +1,91 @@
+//! The laws of a kernel and the world round it, for Oberon: a legal log is here one of the written meaning of Oberon-07.
+
+ghost use Rattle.std.specs.Prelude.{◌≡◌, List, ℕ, None, Some};
+ghost use Rattle.jk_core.specs.Log.{Log};
+ghost use Rattle.jk_core.specs.Legal.{IsLegal};
+ghost use Rattle.jk_core.specs.Render.{render};
+ghost use Rattle.jk_world.specs.World.{World, Event, opening, Run, IsTrueWorld, HasGoneOn};
+ghost use Rattle.jk_world.specs.Cells.{IsAnsweredOnce, begun_in, CellIsRight};
+ghost use Rattle.jk_world.specs.Order.{IsFalling, answered_places};
+ghost use Rattle.jk_world.specs.Sessions.{IsHandedOn};
+ghost use Rattle.jk_world.specs.Input.{IsInputRight};
+ghost use Rattle.jk_world.specs.Counts.{TellCounts};
+ghost use Rattle.jk_world.specs.Requests.{IsShownRight};
+ghost use Rattle.jk_world.specs.Parents.{ParentsFit};
+ghost use Rattle.ob_parse.specs.declared.tree.Cell.{Cell};
+ghost use Rattle.ob_text.specs.Oberon.{spoken_oberon};
+
+use ob_language::Oberon;
+
+/// After any list of steps the world is true.
+pub fn world_law()
+    ensures { (followers : ℕ) (events : List (Event Cell)) (w : World Cell)
+        → Run spoken_oberon (opening followers) events w → IsTrueWorld spoken_oberon w }
+{
+    jk_world::world_law::<Oberon>()
+}
+
+/// No step loses or changes anything.
+pub fn growth_law()
+    ensures { (w : World Cell) (events : List (Event Cell)) (v : World Cell)
+        → Run spoken_oberon w events v → HasGoneOn w v }
+{
+    jk_world::growth_law::<Oberon>()
+}
+
+/// Each request is answered at most once.
+pub fn once_law()
+    ensures { (log : Log) (at : ℕ) → IsLegal spoken_oberon log → IsAnsweredOnce log at }
+{
+    jk_world::once_law::<Oberon>()
+}
+
+/// Requests are answered in order.
+pub fn order_law()
+    ensures { (log : Log) → IsLegal spoken_oberon log → IsFalling (answered_places log) }
+{
+    jk_world::order_law::<Oberon>()
+}
+
+/// The streams of a begun cell are the output of its meaning.
+pub fn streams_law()
+    ensures { (log : Log) (at begun : ℕ) → IsLegal spoken_oberon log
+        → begun_in spoken_oberon at log ≡ Some begun → CellIsRight spoken_oberon log at begun }
+{
+    jk_world::streams_law::<Oberon>()
+}
+
+/// The session goes from cell to cell.
+pub fn session_law()
+    ensures { (log : Log) → IsLegal spoken_oberon log → IsHandedOn spoken_oberon log }
+{
+    jk_world::session_law::<Oberon>()
+}
+
+/// What cells ask for, and are given.
+pub fn input_law()
+    ensures { (log : Log) (at : ℕ) → IsLegal spoken_oberon log → IsInputRight log at }
+{
+    jk_world::input_law::<Oberon>()
+}
+
+/// The counts that are told.
+pub fn count_law()
+    ensures { (log : Log) → IsLegal spoken_oberon log → TellCounts log }
+{
+    jk_world::count_law::<Oberon>()
+}
+
+/// What is shown of each arrival.
+pub fn shown_law()
+    ensures { (log : Log) (at : ℕ) → IsLegal spoken_oberon log → IsShownRight log at }
+{
+    jk_world::shown_law::<Oberon>()
+}
+
+/// Whose each stream and error is.
+pub fn parents_law()
+    ensures { (log : Log) → IsLegal spoken_oberon log → ParentsFit None (render log) }
+{
+    jk_world::parents_law::<Oberon>()
+}

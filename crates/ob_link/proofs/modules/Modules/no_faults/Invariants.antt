@@ -1,6 +1,0 @@
-use Rattle.std.proofs.Common.{◌≡◌, None, take, map}
-use Rattle.ob_session.specs.Session.{Module}
-use Rattle.ob_link.proofs.modules.Modules.no_faults.Given as goal
-
-abbrev pub invariant-loop-module : goal.invariant-loop-module
-invariant-loop-module l = l.so_far.items ≡ map (λ (m : Module). None) (take l._module-index l._module-items)
