@@ -20,8 +20,6 @@ mod link;
 #[cfg(test)]
 mod parse;
 #[cfg(test)]
-mod part;
-#[cfg(test)]
 mod scan;
 #[cfg(test)]
 mod types;

@@ -1,64 +1,267 @@
-//! Stack code of the first part, and that of the whole language in `whole`.
-
-mod whole;
-
-use ob_code::checked::validate;
-use ob_code::instr::{CodeModule, Instr, Line, Procedure};
-use ob_mean::tree::Operator;
+use ob_code::whole::checked::validate;
+use ob_code::whole::instr::{
+    CodeModule, Entries, Entry, Extent, Instr, Line, LinkedModule, Procedure, Root, Target,
+};
+use ob_code::whole::linked::are_linked;
+use ob_mean::whole::{Adjustment, Callee, Operator, Relation};
 use std::alloc::{AllocError, Global};
 use std::test::Fail;
 
-// Whether these lines, as the body of a module with one variable, are code that may run.
-fn is_code(alloc: Global, lines: &[Line]) -> Result<bool, AllocError> {
-    let lines = Vec::from_slice(alloc, lines)?;
-    let mut procedures = Vec::new(alloc);
-    procedures.push(Procedure { room: 4, lines })?;
-    Ok(validate(CodeModule {
-        variables: 1,
-        procedures,
-    })
-    .is_some())
+fn line(operands: usize, names: usize, instr: Instr) -> Line {
+    Line {
+        operands,
+        names,
+        instr,
+    }
 }
 
-fn line(height: usize, instr: Instr) -> Line {
-    Line { height, instr }
+fn cells(from: usize, cells: usize) -> Root {
+    Root::OfModule(Extent { from, cells })
 }
 
-// WHILE i < 3 DO Out.Int(i, 2) END, with this jump to the guard and this way back
-fn counting(alloc: Global, skip: usize, back: usize) -> Result<bool, AllocError> {
-    is_code(
-        alloc,
-        &[
-            line(0, Instr::Skip(skip)),
-            line(0, Instr::Load(0)),
-            line(1, Instr::Push(2)),
-            line(2, Instr::PutInt),
-            line(0, Instr::Load(0)),
-            line(1, Instr::Push(3)),
-            line(2, Instr::Operate(Operator::Less, 1)),
-            line(1, Instr::EnterBack(back)),
-        ],
-    )
+const NOTHING: Entry = Entry {
+    operands: 0,
+    names: 0,
+    is_function: false,
+};
+
+fn procedure(entry: Entry, cells: usize, lines: Vec<Line>) -> Procedure {
+    Procedure {
+        entry,
+        cells,
+        operand_room: 3,
+        name_room: 1,
+        lines,
+    }
+}
+
+// A function of a value and of a name, which gives the named variable's second cell.
+fn second(alloc: Global) -> Result<Procedure, AllocError> {
+    let lines = vec![in alloc;
+        line(0, 0, Instr::Push(1)),
+        line(1, 0, Instr::LoadAt(Root::Named(0))),
+    ]?;
+    let entry = Entry {
+        operands: 1,
+        names: 1,
+        is_function: true,
+    };
+    Ok(procedure(entry, 1, lines))
+}
+
+// Whether code may run that has this procedure, this one as its body, three cells, and an import of two cells with a
+// procedure to which a name is passed.
+fn is_code(alloc: Global, first: Procedure, body: Procedure) -> Result<bool, AllocError> {
+    let known = Entries {
+        cells: 2,
+        exported: vec![in alloc;
+            Entry {
+                operands: 0,
+                names: 1,
+                is_function: false
+            },
+        ]?,
+    };
+    let code = CodeModule {
+        cells: 3,
+        procedures: vec![in alloc; first, body]?,
+        exported: vec![in alloc; 0usize]?,
+        imports: vec![in alloc; known]?,
+    };
+    Ok(validate(code).is_some())
+}
+
+// These lines as a body
+fn runs(alloc: Global, lines: Vec<Line>) -> Result<bool, AllocError> {
+    is_code(alloc, second(alloc)?, procedure(NOTHING, 0, lines))
+}
+
+// WHILE x < 3 DO INC(x) END, with the variable here, this jump to the guard and this way back
+fn counting(alloc: Global, x: Root, skip: usize, back: usize) -> Result<bool, AllocError> {
+    let lines = vec![in alloc;
+        line(0, 0, Instr::Skip(skip)),
+        line(0, 0, Instr::Push(0)),
+        line(1, 0, Instr::Push(1)),
+        line(2, 0, Instr::AdjustAt(Adjustment::Increase, x)),
+        line(0, 0, Instr::Skip(0)),
+        line(0, 0, Instr::Load(x)),
+        line(1, 0, Instr::Push(3)),
+        line(2, 0, Instr::Operate(Operator::Compare(Relation::Less), 1)),
+        line(1, 0, Instr::EnterBack(back)),
+    ]?;
+    runs(alloc, lines)
 }
 
 #[test]
 fn loops(rt: HostRuntime) -> Result<(), Fail> {
     let alloc = rt.alloc();
-    assert!(rt; counting(alloc, 3, 6)?);
-    assert!(rt; !counting(alloc, 4, 6)?);
-    assert!(rt; !counting(alloc, 8, 6)?);
-    assert!(rt; !counting(alloc, 3, 8)?);
+    assert!(rt; counting(alloc, cells(2, 1), 4, 7)?);
+    assert!(rt; !counting(alloc, cells(2, 1), 5, 7)?);
+    assert!(rt; !counting(alloc, cells(2, 1), 9, 7)?);
+    assert!(rt; !counting(alloc, cells(2, 1), 4, 6)?);
+    assert!(rt; !counting(alloc, cells(2, 1), 4, 9)?);
     Ok(())
 }
 
 #[test]
-fn operands(rt: HostRuntime) -> Result<(), Fail> {
+fn objects(rt: HostRuntime) -> Result<(), Fail> {
     let alloc = rt.alloc();
-    assert!(rt; is_code(alloc, &[])?);
-    assert!(rt; is_code(alloc, &[line(0, Instr::Push(1)), line(1, Instr::Store(0))])?);
-    assert!(rt; !is_code(alloc, &[line(0, Instr::Push(1)), line(1, Instr::Store(1))])?);
-    assert!(rt; !is_code(alloc, &[line(0, Instr::Store(0))])?);
-    assert!(rt; !is_code(alloc, &[line(0, Instr::Push(1))])?);
-    assert!(rt; !is_code(alloc, &[line(0, Instr::Invoke(1, 1))])?);
+    let import = |from, cells| Root::OfImport(0, Extent { from, cells });
+    assert!(rt; !counting(alloc, cells(3, 1), 4, 7)?);
+    assert!(rt; counting(alloc, import(1, 1), 4, 7)?);
+    assert!(rt; !counting(alloc, import(1, 2), 4, 7)?);
+    assert!(rt; !counting(alloc, Root::OfImport(1, Extent { from: 0, cells: 1 }), 4, 7)?);
+    assert!(rt; !counting(alloc, Root::OfCall(Extent { from: 0, cells: 1 }), 4, 7)?);
+    assert!(rt; !counting(alloc, Root::Named(0), 4, 7)?);
+    Ok(())
+}
+
+// A call with this many operands and names before it and behind it
+fn calling(
+    alloc: Global,
+    callee: Callee,
+    operands: usize,
+    names: usize,
+    left: usize,
+) -> Result<bool, AllocError> {
+    let lines = vec![in alloc;
+        line(0, 0, Instr::Push(5)),
+        line(1, 0, Instr::Push(0)),
+        line(2, 0, Instr::NamePlace(cells(0, 3), 3)),
+        line(operands, names, Instr::Invoke(callee, 1)),
+        line(left, 0, Instr::Drop),
+    ]?;
+    runs(alloc, lines)
+}
+
+#[test]
+fn calls(rt: HostRuntime) -> Result<(), Fail> {
+    let alloc = rt.alloc();
+    assert!(rt; calling(alloc, Callee::OfModule(0), 1, 1, 1)?);
+    assert!(rt; calling(alloc, Callee::OfImport(0, 0), 1, 1, 1)?);
+    assert!(rt; !calling(alloc, Callee::OfModule(0), 1, 0, 1)?);
+    assert!(rt; !calling(alloc, Callee::OfModule(0), 1, 1, 0)?);
+    assert!(rt; !calling(alloc, Callee::OfModule(1), 1, 1, 1)?);
+    assert!(rt; !calling(alloc, Callee::OfModule(2), 1, 1, 1)?);
+    assert!(rt; !calling(alloc, Callee::OfImport(0, 1), 1, 1, 1)?);
+    assert!(rt; !calling(alloc, Callee::OfImport(1, 0), 1, 1, 1)?);
+    Ok(())
+}
+
+// In.Int(x), with this instruction where the line is asked for
+fn reading(alloc: Global, ask: Instr) -> Result<bool, AllocError> {
+    let lines = vec![in alloc;
+        line(0, 0, Instr::Push(0)),
+        line(1, 0, Instr::CallInput),
+        line(1, 0, Instr::Read(Target::Int(cells(0, 1)))),
+        line(1, 0, ask),
+        line(1, 0, Instr::TakeLine),
+    ]?;
+    runs(alloc, lines)
+}
+
+#[test]
+fn input(rt: HostRuntime) -> Result<(), Fail> {
+    let alloc = rt.alloc();
+    assert!(rt; reading(alloc, Instr::AskLine)?);
+    assert!(rt; !reading(alloc, Instr::CallInput)?);
+    assert!(rt; !runs(alloc, vec![in alloc; line(0, 0, Instr::TakeLine)]?)?);
+    Ok(())
+}
+
+#[test]
+fn procedures(rt: HostRuntime) -> Result<(), Fail> {
+    let alloc = rt.alloc();
+    assert!(rt; runs(alloc, Vec::new(alloc))?);
+    assert!(rt; !runs(alloc, vec![in alloc; line(0, 0, Instr::Push(1))]?)?);
+    let second_as_body = is_code(alloc, second(alloc)?, second(alloc)?)?;
+    assert!(rt; !second_as_body);
+    let body_with_cells = is_code(
+        alloc,
+        second(alloc)?,
+        procedure(NOTHING, 1, Vec::new(alloc)),
+    )?;
+    assert!(rt; !body_with_cells);
+    let mut without_cells = second(alloc)?;
+    without_cells.cells = 0;
+    assert!(rt; !is_code(alloc, without_cells, procedure(NOTHING, 0, Vec::new(alloc)))?);
+    let mut without_result = second(alloc)?;
+    without_result.entry.is_function = false;
+    assert!(rt;
+        !is_code(
+            alloc,
+            without_result,
+            procedure(NOTHING, 0, Vec::new(alloc))
+        )?
+    );
+    Ok(())
+}
+
+// Two modules of two and of one cell, of which the second imports the first, and knows it so. The first exports `second`.
+fn links(
+    alloc: Global,
+    first_cell: usize,
+    import: usize,
+    known: Entries,
+    may_run: &[bool],
+) -> Result<bool, AllocError> {
+    let imported = CodeModule {
+        cells: 2,
+        procedures: vec![in alloc; second(alloc)?, procedure(NOTHING, 0, Vec::new(alloc))]?,
+        exported: vec![in alloc; 0usize]?,
+        imports: Vec::new(alloc),
+    };
+    let client = CodeModule {
+        cells: 1,
+        procedures: vec![in alloc; procedure(NOTHING, 0, Vec::new(alloc))]?,
+        exported: Vec::new(alloc),
+        imports: vec![in alloc; known]?,
+    };
+    let modules = vec![in alloc;
+        LinkedModule {
+            code: imported,
+            imports: Vec::new(alloc),
+            cells: 0
+        },
+        LinkedModule {
+            code: client,
+            imports: vec![in alloc; import]?,
+            cells: first_cell
+        },
+    ]?;
+    Ok(are_linked(&modules, may_run))
+}
+
+fn known(
+    alloc: Global,
+    cells: usize,
+    names: usize,
+    is_function: bool,
+) -> Result<Entries, AllocError> {
+    let entry = Entry {
+        operands: 1,
+        names,
+        is_function,
+    };
+    Ok(Entries {
+        cells,
+        exported: vec![in alloc; entry]?,
+    })
+}
+
+#[test]
+fn linking(rt: HostRuntime) -> Result<(), Fail> {
+    let alloc = rt.alloc();
+    let both = [true, true];
+    assert!(rt; links(alloc, 2, 0, known(alloc, 2, 1, true)?, &both)?);
+    assert!(rt; links(alloc, 2, 0, known(alloc, 1, 1, true)?, &both)?);
+    assert!(rt; !links(alloc, 1, 0, known(alloc, 2, 1, true)?, &both)?);
+    assert!(rt; !links(alloc, 2, 2, known(alloc, 2, 1, true)?, &both)?);
+    assert!(rt; !links(alloc, 2, 0, known(alloc, 3, 1, true)?, &both)?);
+    assert!(rt; !links(alloc, 2, 0, known(alloc, 2, 0, true)?, &both)?);
+    assert!(rt; !links(alloc, 2, 0, known(alloc, 2, 1, false)?, &both)?);
+    // a module that doesn't fit its import may stay, but neither it nor what imports it may run
+    assert!(rt; links(alloc, 2, 0, known(alloc, 3, 1, true)?, &[true, false])?);
+    assert!(rt; !links(alloc, 2, 0, known(alloc, 2, 1, true)?, &[false, true])?);
     Ok(())
 }

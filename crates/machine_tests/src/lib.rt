@@ -1,8 +1,6 @@
-//! Tests of stack code, of the plain evaluator, of compiled programs that a machine runs, and of cells that run.
+//! Tests of stack code, of the plain evaluator, and of compiled programs that a machine runs.
 #![tactic(auto)]
 
-#[cfg(test)]
-mod cell;
 #[cfg(test)]
 mod code;
 #[cfg(test)]

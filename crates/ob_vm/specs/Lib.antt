@@ -1,5 +1,1 @@
-pub mod Stacks
-pub mod Steps
-pub mod States
-pub mod Operands
 pub mod whole

@@ -1,14 +1,4 @@
 //! The machine: it runs stack code in slices of turns.
 #![tactic(auto)]
 
-mod image;
-mod machine;
-mod operands;
-mod run;
-mod state;
-mod step;
 pub mod whole;
-
-pub use image::Image;
-pub use machine::{Machine, Room};
-pub use run::Turned;

@@ -1,7 +1,0 @@
-pub mod Parts
-pub mod Programs
-pub mod Cell
-pub mod MachineState
-pub mod Runs
-pub mod Kept
-pub mod Beginning
