@@ -11,8 +11,8 @@ pub struct Oberon;
 
 impl Language for Oberon {
     ghost use Rattle.ob_load.specs.MachineState.{state_of};
-    ghost use Rattle.ob_text.specs.Oberon.{spoken_oberon};
-    ghost use Rattle.ob_text.proofs.Lawful.{oberon_lawful};
+    ghost use Rattle.ob_cell.specs.Oberon.{spoken_oberon};
+    ghost use Rattle.ob_cell.proofs.Lawful.{oberon_lawful};
 
     type Session = Session;
 
@@ -29,7 +29,7 @@ impl Language for Oberon {
     }
 
     fn parse(alloc: Global, text: &str) -> Result<Cell, Refused> {
-        ob_text::parse(alloc, text)
+        ob_cell::parse(alloc, text)
     }
 
     fn begin(
@@ -37,7 +37,7 @@ impl Language for Oberon {
         session: Session,
         tree: &Cell,
     ) -> Result<Begun<Session, Machine>, (Session, AllocError)> {
-        ob_text::begin(alloc, session, tree)
+        ob_cell::begin(alloc, session, tree)
     }
 
     fn turns(machine: &mut Machine, most: u64) -> Turned {

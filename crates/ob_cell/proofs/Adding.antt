@@ -1,0 +1,58 @@
+-- The modules that are loaded, added one after the other, are those that the rules see.
+use Rattle.std.proofs.Common.{◌≡◌, ℕ, zero, suc, Bool, cond, ◌||◌, List, [], ◌∷◌, length, map, take, ◌+◌, Option, Some, None, option_map, slice_get, refl, ◌∙◌, ap, arith}
+use Rattle.std.specs.List.{list_any}
+use Rattle.std.specs.Str.{bytes_eq}
+use Rattle.std.proofs.lemmas.Option.{slice_get-map}
+use Rattle.ob_declare.specs.Exports.{Modules as Loaded}
+use Rattle.ob_declare.specs.Imports.{added}
+use Rattle.ob_session.specs.Session.{Import, Module, name_of, find_module}
+use Rattle.ob_link.specs.Reaching as found
+use Rattle.ob_cell.specs.Texts as meaning
+use Rattle.ob_link.specs.Modules.{AllDistinct}
+use Rattle.ob_link.proofs.Named.{turned}
+use Rattle.ob_cell.proofs.Named.{other_name}
+
+-- ---- what reaches a name is what the rules have
+
+behind_same : (o : Option Module) (reaches : Import → Bool) → found.any_behind o reaches ≡ meaning.any_behind o reaches
+behind_same None reaches = refl
+behind_same (Some m) reaches = refl
+
+reaches_same : (modules : List Module) (most : ℕ) (name : List ℕ) (i : Import) → found.reaches modules most name i ≡ meaning.reaches modules most name i
+reaches_same modules zero name i = refl
+reaches_same modules (suc most) name i =
+    ap (λ (t : Import → Bool). bytes_eq i.name name || found.any_behind (find_module modules i.name) t) (λ x j. reaches_same modules most name j x)
+    ∙ ap (λ b. bytes_eq i.name name || b) (behind_same (find_module modules i.name) (meaning.reaches modules most name))
+
+pub reached_same : (modules : List Module) (name : List ℕ) (m : Module) → found.reached_by modules name m ≡ meaning.reached_by modules name m
+reached_same modules name m = ap (λ (t : Import → Bool). list_any t m.imports) (λ x i. reaches_same modules (length modules) name i x)
+
+-- ---- one more
+
+pub added_next : (all ms : List Module) (name : List ℕ) (k : ℕ) (m : Module) → AllDistinct ms → slice_get ms k ≡ Some m → added (map (meaning.loaded_as all name) (take k ms)) (meaning.loaded_as all name m) ≡ map (meaning.loaded_as all name) (take (suc k) ms)
+added_next all [] name k m distinct e = absurd (let f : None ≡ Some m = e in cc)
+added_next all (n ∷ ms) name zero m distinct e =
+    let same : m ≡ n = cc in
+    ap (λ (x : Module). meaning.loaded_as all name x ∷ []) same
+added_next all (n ∷ ms) name (suc k) m distinct e =
+    let other = turned (name_of m) (name_of n) (other_name ms k m (name_of n) distinct.0 e) in
+    let loaded = meaning.loaded_as all name in
+    ap (λ b. cond b (loaded m ∷ map loaded (take k ms)) (loaded n ∷ added (map loaded (take k ms)) (loaded m))) other
+    ∙ ap (λ l. loaded n ∷ l) (added_next all ms name k m distinct.1 e)
+
+flag_there : (modules : List Module) (name : List ℕ) (k : ℕ) (m : Module) (flag : Bool) → slice_get modules k ≡ Some m → slice_get (found.reaching modules name) k ≡ Some flag → flag ≡ meaning.reached_by modules name m
+flag_there modules name k m flag e f =
+    let read : slice_get (found.reaching modules name) k ≡ Some (found.reached_by modules name m) = slice_get-map (found.reached_by modules name) modules k ∙ ap (option_map (found.reached_by modules name)) e in
+    let same : flag ≡ found.reached_by modules name m = cc in
+    same ∙ reached_same modules name m
+
+-- the module of a number, added to those before it with what it reaches
+pub added_more : (modules : List Module) (name : List ℕ) (k : ℕ) (m : Module) (flag : Bool) (reached : List (List ℕ)) (so_far more : Loaded) → AllDistinct modules → slice_get modules k ≡ Some m → slice_get (found.reaching modules name) k ≡ Some flag → reached ≡ cond flag (name ∷ []) [] → so_far ≡ map (meaning.loaded_as modules name) (take k modules) → more ≡ added so_far (record { interface = m.interface; reached = reached }) → more ≡ map (meaning.loaded_as modules name) (take (k + 1) modules)
+added_more modules name k m flag reached so_far more distinct e f r s a =
+    let own : reached ≡ cond (meaning.reached_by modules name m) (name ∷ []) [] = r ∙ ap (λ b. cond b (name ∷ []) []) (flag_there modules name k m flag e f) in
+    let n : suc k ≡ k + 1 = omega arith in
+    a
+    ∙ ap (λ (l : Loaded). added l (record { interface = m.interface; reached = reached })) s
+    ∙ ap (λ (l : List (List ℕ)). added (map (meaning.loaded_as modules name) (take k modules)) (record { interface = m.interface; reached = l })) own
+    ∙ added_next modules modules name k m distinct e
+    ∙ ap (λ j. map (meaning.loaded_as modules name) (take j modules)) n

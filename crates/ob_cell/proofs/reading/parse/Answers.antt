@@ -1,0 +1,15 @@
+use Rattle.std.proofs.Common.{Err, inl, subst}
+use Rattle.ob_base.specs.declared.fault.Refused as base
+use Rattle.ob_parse.specs.CellText.{FaultsBreak}
+use Rattle.ob_cell.specs.Oberon.{IsTreeOf, IsBroken}
+use Rattle.ob_cell.proofs.reading.parse.Goals as goal
+
+pub returns-in-Ok-clause-found : goal.returns-in-Ok-clause-found
+unfolding IsTreeOf
+returns-in-Ok-clause-found c = c.in-Ok.ensures.found
+
+pub returns-in-Err-Fault-clause-faults : goal.returns-in-Err-Fault-clause-faults
+unfolding IsBroken
+returns-in-Err-Fault-clause-faults c =
+    let breaks = subst (λ (r : base.Refused). FaultsBreak c.args.text.now (Err r)) c.in-Err-Fault.field-0-is c.in-Err-Fault.ensures.faults in
+    λ session. (c.in-Err-Fault.fault.code, c.numbered.ensures, inl breaks)

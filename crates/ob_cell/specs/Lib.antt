@@ -1,0 +1,4 @@
+pub mod Texts
+pub mod Planned
+pub mod Codes
+pub mod Oberon

@@ -1,0 +1,60 @@
+//! The modules that are loaded, as the static rules see them.
+
+ghost use Rattle.std.specs.Prelude.{◌≡◌, [], ◌∷◌, map, IfOk, if◌then◌else◌};
+ghost use Rattle.ob_declare.specs.Imports.{added};
+ghost use Rattle.ob_cell.specs.Texts as meaning;
+ghost use Rattle.ob_link.specs.Modules.{AllDistinct};
+
+use ob_base::Text;
+use ob_declare::Imports;
+use ob_link::{Modules, SessionModule};
+use std::alloc::{AllocError, Global};
+
+// A name alone.
+fn only_name(alloc: Global, name: &Text) -> Result<Vec<Text>, AllocError>
+    ensures { IfOk result (λ v. v.items ≡ name.now ∷ []) }
+{
+    let mut names = Vec::new(alloc);
+    names.push(name.copy(alloc)?)?;
+    Ok(names)
+}
+
+// A module more, which reaches these names.
+fn with_module(
+    imports: Imports,
+    new: &SessionModule,
+    reached: &[Text],
+) -> Result<Imports, AllocError>
+    ensures { IfOk result (λ more. more ≡ added imports (record { interface = new.now.interface; reached = reached.now })) }
+{
+    let mut imports = imports;
+    imports.add(new.interface(), reached)?;
+    Ok(imports)
+}
+
+// Those of them that reach a name reach it alone.
+fn reached_name(reaches: bool, name: &[Text]) -> &[Text]
+    ensures { result.now ≡ (if reaches then name.now else []) }
+{
+    if reaches { name } else { &[] }
+}
+
+/// The loaded modules, with their interfaces, as the rules for a module of this name see them.
+///
+/// # Errors
+///
+/// Want of memory.
+pub fn loaded_for(alloc: Global, modules: &Modules, name: &Text) -> Result<Imports, AllocError>
+    requires { AllDistinct modules.now }
+    ensures { IfOk result (λ imports. imports ≡ map (meaning.loaded_as modules.now name.now) modules.now) }
+{
+    let own = only_name(alloc, name)?;
+    let reaching = modules.reaching(name)?;
+    let modules = modules.as_slice();
+    let mut imports = Imports::empty(alloc);
+    for number in 0..modules.len() {
+        let reached = reached_name(reaching[number], own.as_slice());
+        imports = with_module(imports, &modules[number], reached)?;
+    }
+    Ok(imports)
+}

@@ -1,0 +1,40 @@
+//! Cells that are modules.
+
+ghost use Rattle.std.specs.Prelude.{IfOk, IfErr};
+ghost use Rattle.ob_parse.specs.declared.tree.Cell.TheVariants as cells;
+ghost use Rattle.ob_mean.specs.whole.Values.{Value};
+ghost use Rattle.ob_link.specs.Looking.{in_store};
+ghost use Rattle.ob_link.specs.Modules.{AllSolid, AllDistinct};
+ghost use Rattle.ob_cell.specs.Planned.{IsPlanned, IsStaticRefusal};
+
+use crate::compiled::{compiled, keyed_imports};
+use crate::loaded::loaded_for;
+use crate::planned::Plan;
+use ob_base::Refused;
+use ob_check::check;
+use ob_link::{LinkFault, Modules};
+use ob_parse::tree::Module;
+use std::alloc::Global;
+
+/// The module, checked, and compiled where it links.
+///
+/// `Refused::Fault` has the code of a broken rule and the place of a token there; `Refused::Memory` where memory was refused,
+/// or where variables have more cells than there are addresses.
+#[tactic(none)]
+pub fn module_plan(alloc: Global, modules: &Modules, tree: &Module) -> Result<Plan, Refused>
+    requires solid { AllSolid modules.now }
+    requires distinct { AllDistinct modules.now }
+    ensures found { IfOk result (λ plan. (store : Value) → IsPlanned (in_store modules.now store) (cells.Module tree.now) plan) }
+    ensures faults { IfErr result (λ refused. (store : Value) → IsStaticRefusal (in_store modules.now store) (cells.Module tree.now) refused) }
+{
+    let loaded = loaded_for(alloc, modules, &tree.name.name)?;
+    let checked = check(alloc, tree, &loaded)?;
+    let imports = keyed_imports(alloc, checked.imports())?;
+    match modules.link_fault(imports.as_slice())? {
+        Some(name) => Ok(Plan::Unlinked(LinkFault::OtherKey(name))),
+        None => {
+            let planned = compiled(alloc, &loaded, checked, imports)?;
+            Ok(Plan::Module(planned))
+        }
+    }
+}

@@ -1,6 +1,0 @@
-use Rattle.std.proofs.Common.{◌≡◌, map, take}
-use Rattle.ob_meaning.specs.Texts.{import_of}
-use Rattle.ob_plan.proofs.compiled.keyed_imports.Given as goal
-
-abbrev pub invariant-loop-import : goal.invariant-loop-import
-invariant-loop-import l = l.keyed ≡ map import_of (take l.import-index l.imports)
