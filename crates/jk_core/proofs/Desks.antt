@@ -1,11 +1,11 @@
 -- What stands beside the script is what the log answers.
-use Rattle.std.proofs.Common.{◌≡◌, ◌≢◌, ℕ, ◌+◌, ◌≤◌, Bool, true, false, List, [], ◌∷◌, ◌++◌, length, drop, refl, sym, ◌∙◌, ap, subst, arith, Option, None, Some, Result, Ok, Err, OnOk, IfErr, inl, inr}
-use Rattle.std.specs.Prelude.{IsTrue, is_some, ◌&&◌, ◌==◌, not}
+use Rattle.std.proofs.Common.{◌≡◌, ◌≢◌, ℕ, ◌≤◌, Bool, true, false, List, [], ◌∷◌, ◌++◌, length, drop, refl, sym, ◌∙◌, ap, subst, arith, Option, None, Some, Result, Ok, Err, OnOk, IfErr, inl, inr}
+use Rattle.std.specs.Prelude.{IsTrue}
 use Rattle.std.proofs.lemmas.List.{append-nil}
 use Rattle.jk_language.specs.declared.outcome.Refusal.{Refusal}
 use Rattle.jk_language.specs.Parts.{Line as AsLine, Meaning}
 use Rattle.jk_language.specs.MachineState.{MachineState, here}
-use Rattle.jk_language.specs.Runs.{unshown, line_given, output_taken, HasTurned, IsGiven, OutcomeIs, tells_end, tells_line}
+use Rattle.jk_language.specs.Runs.{output_taken, tells_end}
 use Rattle.jk_language.specs.declared.outcome.Outcome.TheVariants as outcome
 use Rattle.jk_language.specs.declared.outcome.Turned.{Turned}
 use Rattle.jk_language.specs.declared.outcome.Turned.TheVariants as turned
@@ -13,9 +13,6 @@ use Rattle.jk_language.specs.Spoken.{Spoken, IsLanguage}
 use Rattle.jk_language.specs.Beginning.{IsFresh}
 use Rattle.jp_msg.specs.declared.message.Execute.{Execute}
 use Rattle.jk_core.specs.declared.arrival.Arrival.{Arrival}
-use Rattle.jk_core.specs.declared.arrival.Sort.{Sort}
-use Rattle.jk_core.specs.declared.arrival.Sort.TheVariants as sort
-use Rattle.jk_core.specs.Asked.{input_in, sort_as}
 use Rattle.jk_core.specs.declared.desk.Active.{Active}
 use Rattle.jk_core.specs.declared.desk.Wants.{Wants}
 use Rattle.jk_core.specs.declared.desk.Wants.TheVariants as wants
@@ -28,23 +25,23 @@ use Rattle.jk_core.specs.declared.job.Parsed.{Parsed}
 use Rattle.jk_core.specs.declared.job.Parsed.TheVariants as parsed
 use Rattle.jk_core.specs.Results.{IsResult}
 use Rattle.jk_core.specs.declared.mark.Item.{Item}
-use Rattle.jk_core.specs.declared.mark.Item.TheVariants.{Took, Marked}
-use Rattle.jk_core.specs.declared.mark.Kind.TheVariants.{Abort, Ask, Begin, End, Flush, Interrupt, Line, Refuse, Stop}
+use Rattle.jk_core.specs.declared.mark.Item.TheVariants.{Marked}
+use Rattle.jk_core.specs.declared.mark.Kind.TheVariants.{Abort, Ask, Begin, End, Flush, Refuse, Stop}
 use Rattle.jk_core.specs.declared.mark.Ending.TheVariants as ending
 use Rattle.jk_core.specs.declared.mark.Cause.{Cause}
 use Rattle.jk_core.specs.declared.mark.Cause.TheVariants as cause
 use Rattle.jk_core.specs.declared.kernel.Work.{Work}
 use Rattle.jk_core.specs.declared.kernel.Work.TheVariants as work
 use Rattle.jk_core.specs.declared.script.Waiting.{Waiting}
-use Rattle.jk_core.specs.Log.{Log, Running, running, running_with, session, count as count_of, meaning, meaning_in, shown_in, stood, stood_in, next_count, option_or, option_with, opened, flushed_at, asking, lined, unread, nones, left, asker, asked_of, execute_at, input_at, seat_at}
+use Rattle.jk_core.specs.Log.{Log, Running, running, session, count as count_of, meaning, shown_in, stood_in, next_count, option_or, option_with, opened, flushed_at, asking, left, execute_at, seat_at}
 use Rattle.jk_core.specs.Legal.{IsLineless, MayAsk}
 use Rattle.jk_core.specs.State.{KernelState, first_of}
-use Rattle.jk_core.specs.Steps.{allows_at, allowed, answered, begun, broken, closed, failing, flushed as flushed_to, given_to, gone_on, has_lines, limit, noted, sliced, took, written, written_out, stopped, stops_at, taken, with_waits, BeginsAt, Closes, GoesOn, GoesWithout, IsAsking, IsBrokenAt, Moves, Starts, StartsFirst, Works}
-use Rattle.jk_core.specs.Kept.{CanStop, HoldsAt, IsKept, IsLineFor, IsOf, IsResultOf, IsRunBy, IsWanting, Opens, RunsBy, Stands, StartsOr, WantsAt, AllWait, IsWaiting, is_asking, line_to, lined_up}
-use Rattle.jk_core.specs.Slices.{HasAsked, HasCome, HasStuck, IsAtWork, IsInSlice, may_ask}
-use Rattle.jk_core.proofs.Keeps.{failing_moves, flushed_runs, asking_runs, lined_runs, no_lines, meaning_shown, runs_as, silent_slice, kept-taken, some_same, stops_same}
-use Rattle.jk_core.proofs.Logs.{input_grows, input_newest}
-use Rattle.jk_core.proofs.Turns.{count_same, here_is, lacks, law_of, lineless, may_by, not_lineless, not_stopped, ran_same, seat_left, stood_at}
+use Rattle.jk_core.specs.Steps.{allows_at, begun, broken, closed, failing, flushed as flushed_to, gone_on, has_lines, limit, noted, sliced, written, written_out, stopped, stops_at, taken, with_waits, BeginsAt, Closes, GoesOn, GoesWithout, IsBrokenAt, Starts, StartsFirst}
+use Rattle.jk_core.specs.Kept.{HoldsAt, IsKept, IsOf, IsResultOf, IsRunBy, IsWanting, Opens, Stands, WantsAt, AllWait, IsWaiting}
+use Rattle.jk_core.specs.Slices.{HasAsked, HasCome, IsAtWork, may_ask}
+use Rattle.jk_core.proofs.Keeps.{failing_moves, flushed_runs, asking_runs, no_lines, meaning_shown, silent_slice, kept-taken, some_same, stops_same}
+use Rattle.jk_core.proofs.Logs.{input_grows}
+use Rattle.jk_core.proofs.Turns.{count_same, lacks, law_of, may_by, not_lineless, not_stopped, ran_same, seat_left, stood_at}
 
 -- answers after which no cell runs
 abbrev pub IsOver : Turned → Type 0
@@ -141,9 +138,12 @@ module _ {S T M : Type 0} (spoken : Spoken S T) (laws : IsLanguage spoken) (stat
   pub goes_ran : (turns : ℕ) (old k mid new : KernelState T) (n used c : ℕ) (answer : Turned) (a : Active M) → (h : HasCome spoken state old k n answer a) → n ≡ limit turns old → answer ≢ turned.NeedsLine → used ≡ (state a.machine).turns → c ≡ count_of old.log → mid ≡ written_out spoken answer h.stands.cell h.turns k → new ≡ closed answer a.at a.stops used c mid → (r : Running) × (running old.log ≡ Some r) × GoesOn spoken turns r old work.Ran new
   goes_ran turns old k mid new n used c answer a h most last u counted m e =
       let s = h.stands in
-      let onward : k.ran ≤ h.turns = subst (λ (x : ℕ). x ≤ h.turns) (sym (ran_same spoken s.nones n s.first old s.cell k s.without)) h.onward in
-      (s.first, s.began, subst (λ (n : ℕ). GoesTo n s.first old work.Ran new) most
-      (s.nones, s.cell, k, s.without, (answer, h.turns, last, onward, h.all, h.outcome, closed_as old k mid new n used c answer a h u counted m e)))
+      let onward : k.ran ≤ h.turns = subst (λ (x : ℕ). x ≤ h.turns) (sym (ran_same spoken s.nones n s.first old s.cell k s.without)) h.onward in (
+        s.first,
+        s.began,
+        subst (λ (n : ℕ). GoesTo n s.first old work.Ran new) most
+            (s.nones, s.cell, k, s.without, (answer, h.turns, last, onward, h.all, h.outcome, closed_as old k mid new n used c answer a h u counted m e)),
+      )
 
   may_ask_is : (k : KernelState T) (r : Running) (a : Active M) → IsOf r a → HasAsked a.wants r → (r.asked ≡ true → IsLineless k.log r) → IsTrue (may_ask a k.log) → MayAsk k.log r
   may_ask_is k r a of asked none may = by a.wants asked
@@ -155,17 +155,30 @@ module _ {S T M : Type 0} (spoken : Spoken S T) (laws : IsLanguage spoken) (stat
 
   pub goes_asks : (turns : ℕ) (old k mid new : KernelState T) (n used c : ℕ) (a : Active M) → (h : HasCome spoken state old k n turned.NeedsLine a) → n ≡ limit turns old → IsTrue (may_ask a k.log) → used ≡ (state a.machine).turns → c ≡ count_of old.log → mid ≡ written_out spoken turned.NeedsLine h.stands.cell h.turns k → new ≡ noted a.at Ask mid → (r : Running) × (running old.log ≡ Some r) × GoesOn spoken turns r old work.NeedsLine new
   goes_asks turns old k mid new n used c a h most may u counted m e =
-      let s = h.stands in
-      (s.first, s.began, subst (λ (n : ℕ). GoesTo n s.first old work.NeedsLine new) most
-      (s.nones, s.cell, k, s.without, (may_ask_is k s.cell a s.of s.asked (λ e. (s.left e).0) may,
-      ap (λ (t : ℕ). (meaning spoken k.log s.cell t).outcome) (sym h.all) ∙ h.outcome,
-      closed_as old k mid new n used c turned.NeedsLine a h u counted m e ∙ ap (λ (t : ℕ). sliced spoken turned.NeedsLine s.cell t k) h.all)))
+      let s = h.stands in (
+        s.first,
+        s.began,
+        subst (λ (n : ℕ). GoesTo n s.first old work.NeedsLine new) most (
+          s.nones,
+          s.cell,
+          k,
+          s.without,
+          (
+            may_ask_is k s.cell a s.of s.asked (λ e. (s.left e).0) may,
+            ap (λ (t : ℕ). (meaning spoken k.log s.cell t).outcome) (sym h.all) ∙ h.outcome,
+            closed_as old k mid new n used c turned.NeedsLine a h u counted m e ∙ ap (λ (t : ℕ). sliced spoken turned.NeedsLine s.cell t k) h.all,
+          ),
+        ),
+      )
 
   pub goes_stuck : (turns : ℕ) (old k new : KernelState T) (n used : ℕ) (a : Active M) → (h : HasCome spoken state old k n turned.NeedsLine a) → n ≡ limit turns old → IsLineless k.log h.stands.cell → new ≡ written_out spoken turned.NeedsLine h.stands.cell h.turns k → (r : Running) × (running old.log ≡ Some r) × GoesOn spoken turns r old work.NoMemory new
   goes_stuck turns old k new n used a h most none e =
-      let s = h.stands in
-      (s.first, s.began, subst (λ (n : ℕ). GoesTo n s.first old work.NoMemory new) most
-      (s.nones, s.cell, k, s.without, (lacks spoken laws state old k n a h none, e ∙ ap (λ (t : ℕ). written_out spoken turned.NeedsLine s.cell t k) h.all)))
+      let s = h.stands in (
+        s.first,
+        s.began,
+        subst (λ (n : ℕ). GoesTo n s.first old work.NoMemory new) most
+            (s.nones, s.cell, k, s.without, (lacks spoken laws state old k n a h none, e ∙ ap (λ (t : ℕ). written_out spoken turned.NeedsLine s.cell t k) h.all)),
+      )
 
   -- the machine after its output was taken, and the cell after the flush of it
   flush_runs : (old k : KernelState T) (n : ℕ) (answer : Turned) (a b : Active M) (o : Option Running) → (h : HasCome spoken state old k n answer a) → tells_end answer ≡ false → IsOf h.stands.cell b → state b.machine ≡ output_taken (state a.machine) → o ≡ Some (flushed_at (meaning spoken k.log h.stands.cell h.turns).turns h.stands.cell) → IsRunBy spoken state (session spoken k.log) o (meaning spoken k.log h.stands.cell h.turns).turns b
@@ -404,6 +417,7 @@ module _ {S T M : Type 0} (spoken : Spoken S T) (laws : IsLanguage spoken) (stat
     where
       was_not : false ≡ true → ⊥
       was_not e = cc
+
       allows_same : (o : Option Execute) (e : Execute) → o ≡ Some e → option_or (λ (e : Execute). e.allow_stdin) false o ≡ e.allow_stdin
       allows_same o e there = rw there refl
 

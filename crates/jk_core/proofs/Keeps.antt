@@ -34,7 +34,7 @@ use Rattle.jk_core.specs.declared.script.Waiting.{Waiting}
 use Rattle.jk_core.specs.Log.{Log, Running, waits_as, running, running_with, waiting, session, meaning, meaning_in, shown_in, stood, stood_in, count, next_count, raised, execute_at, seat_at, asker, option_with, option_or, opened, flushed_at, asking, lined, unread, nones}
 use Rattle.jk_core.specs.Legal.{Flushes, Due, MarkDue, FlushDue, StopDue, abort_due, Settles, dues_of, dues_after, ends_due, line_due, aborts_due, dues_after_end, MayAsk, Lacks, MayCome, MayMark, EndsSo, IsForced, JustFlushed, IsLegal, IsStopped, StopsFor, owed}
 use Rattle.jk_core.specs.State.{KernelState}
-use Rattle.jk_core.specs.Steps.{aborting, failing, stopped, waits_with, took, noted, given_to, answered, taken, with_waits, begun, broken, gone_on, has_lines, sliced, written, limit, ran_after, BeginsAt, Closes, GoesOn, GoesWithout, IsBrokenAt, Moves, Starts, StartsFirst, Works}
+use Rattle.jk_core.specs.Steps.{aborting, failing, stopped, waits_with, took, noted, given_to, answered, taken, with_waits, begun, broken, gone_on, has_lines, sliced, written, limit, ran_after, Closes, GoesOn, GoesWithout, IsBrokenAt, Moves, Starts, StartsFirst, Works}
 use Rattle.jk_core.specs.Kept.{IsKept, IsGoing, IsHeld, IsStanding, AllWait, IsWaiting, IsResultOf}
 use Rattle.jk_core.proofs.Logs.{execute_grows, execute_newest, executes}
 

@@ -16,7 +16,7 @@ use Rattle.jk_core.proofs.Keeps.{failing_moves}
 use Rattle.jk_core.specs.State.{KernelState}
 use Rattle.jk_language.specs.declared.outcome.Refusal.{Refusal}
 use Rattle.jk_language.specs.declared.outcome.Refusal.TheVariants.{Compile}
-use Rattle.jk_core.specs.Steps.{broken, has_lines, written, failing, stopped, noted, with_waits, with_ran, begun, closed, flushed, gone_on, sliced, written_out, limit, Closes, GoesOn, GoesWithout, Moves, Starts, StartsFirst, Works}
+use Rattle.jk_core.specs.Steps.{broken, has_lines, written, failing, stopped, noted, with_waits, with_ran, begun, closed, flushed, gone_on, sliced, limit, Closes, GoesOn, GoesWithout, Moves, Starts, StartsFirst, Works}
 use Rattle.jk_language.specs.Spoken.{Spoken}
 
 module _ {T : Type 0} where

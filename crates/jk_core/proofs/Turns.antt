@@ -1,26 +1,24 @@
 -- A cell at work in a slice: its machine, its lines and its output.
-use Rattle.std.proofs.Common.{zero, suc, append_assoc, ◌≡◌, ◌≢◌, ℕ, ◌+◌, ◌-◌, ◌*◌, ◌<◌, ◌≤◌, Bool, true, false, cond, List, [], ◌∷◌, ◌++◌, length, drop, refl, sym, ◌∙◌, ap, subst, arith, Option, None, Some, inl, inr}
+use Rattle.std.proofs.Common.{zero, suc, append_assoc, ◌≡◌, ◌≢◌, ℕ, ◌+◌, ◌-◌, ◌*◌, ◌<◌, ◌≤◌, Bool, true, false, List, [], ◌∷◌, ◌++◌, length, drop, refl, sym, ◌∙◌, ap, subst, arith, None, inl, inr}
 use Rattle.std.specs.Prelude.{IsTrue, ◌&&◌, not, IsOk, OnOk, is_err}
 use Rattle.std.proofs.Common.{Result, Ok, Err}
-use Rattle.std.proofs.lemmas.List.{append-nil}
 use Rattle.jk_language.specs.Parts.{Line as Given, Meaning, IsLawful}
 use Rattle.jk_language.specs.MachineState.{MachineState, here}
-use Rattle.jk_language.specs.Runs.{HasTurned, IsGiven, OutcomeIs, line_given, output_taken, tells_end, tells_line, unshown}
+use Rattle.jk_language.specs.Runs.{HasTurned, IsGiven, OutcomeIs, line_given, unshown}
 use Rattle.jk_language.specs.Spoken.{Spoken, IsLanguage}
 use Rattle.jk_language.specs.declared.outcome.Outcome.{Outcome}
 use Rattle.jk_language.specs.declared.outcome.Outcome.TheVariants as outcome
 use Rattle.jk_language.specs.declared.outcome.Turned.{Turned}
 use Rattle.jk_language.specs.declared.outcome.Turned.TheVariants as turned
 use Rattle.jk_core.specs.declared.desk.Active.{Active}
-use Rattle.jk_core.specs.declared.desk.Wants.{Wants}
 use Rattle.jk_core.specs.declared.desk.Wants.TheVariants as wants
-use Rattle.jk_core.specs.declared.mark.Kind.TheVariants.{Flush, Line}
-use Rattle.jk_core.specs.Log.{Log, Running, running, session, count, meaning, shown_in, stood, left, lined}
+use Rattle.jk_core.specs.declared.mark.Kind.TheVariants.{Line}
+use Rattle.jk_core.specs.Log.{Log, Running, running, session, count, meaning, stood, left, lined}
 use Rattle.jk_core.specs.Legal.{IsLineless, Lacks, MayAsk}
 use Rattle.jk_core.specs.State.{KernelState}
 use Rattle.jk_core.specs.Steps.{flushed, has_lines, noted, written, written_out, GoesWithout}
 use Rattle.jk_core.specs.Kept.{IsOf}
-use Rattle.jk_core.specs.Slices.{HasAsked, HasCome, HasStuck, IsAtWork, IsInSlice, may_ask, weight}
+use Rattle.jk_core.specs.Slices.{HasCome, HasStuck, IsAtWork, IsInSlice, may_ask, weight}
 use Rattle.jk_core.proofs.Keeps.{lined_runs}
 
 pub has_more : (fresh : List Given) (line : Given) → true ≡ has_lines (fresh ++ line ∷ [])
@@ -80,9 +78,10 @@ not_err P (Err e) good h = cc
 module _ {S T : Type 0} (spoken : Spoken S T) where
   -- one time more there was no line
   without_more : (nones n : ℕ) (r : Running) (old : KernelState T) (now : Running) (k : KernelState T) → GoesWithout spoken nones n r old now k → Lacks spoken k.log now n → GoesWithout spoken (suc nones) n r old (lined None now) (noted now.at (Line None) k)
-  without_more zero n r old now k (e, f) lacks =
-      (subst (λ (j : KernelState T). Lacks spoken j.log r n) f (subst (λ (q : Running). Lacks spoken k.log q n) e lacks),
-      (ap (lined None) e, ap (λ (q : Running). noted q.at (Line None) k) e ∙ ap (noted r.at (Line None)) f))
+  without_more zero n r old now k (e, f) lacks = (
+    subst (λ (j : KernelState T). Lacks spoken j.log r n) f (subst (λ (q : Running). Lacks spoken k.log q n) e lacks),
+    (ap (lined None) e, ap (λ (q : Running). noted q.at (Line None) k) e ∙ ap (noted r.at (Line None)) f),
+  )
   without_more (suc more) n r old now k (first, rest) lacks = (first, without_more more n (lined None r) (noted r.at (Line None) old) now k rest lacks)
 
   pub ran_same : (nones n : ℕ) (r : Running) (old : KernelState T) (now : Running) (k : KernelState T) → GoesWithout spoken nones n r old now k → k.ran ≡ old.ran

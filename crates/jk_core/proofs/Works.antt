@@ -1,52 +1,30 @@
 -- What one slice comes to.
-use Rattle.std.proofs.Common.{◌⊎◌, ◌≡◌, ◌≢◌, ℕ, ◌+◌, ◌≤◌, Bool, true, false, List, [], ◌∷◌, ◌++◌, length, drop, refl, sym, ◌∙◌, ap, subst, arith, Option, None, Some, Result, Ok, Err, OnOk, IfErr, inl, inr}
-use Rattle.std.specs.Prelude.{IsTrue, is_some, ◌&&◌, ◌==◌, not}
+use Rattle.std.proofs.Common.{◌⊎◌, ◌≡◌, ℕ, ◌≤◌, Bool, true, false, List, [], ◌∷◌, ◌++◌, refl, sym, ◌∙◌, ap, subst, arith, Option, None, Some, inl, inr}
+use Rattle.std.specs.Prelude.{◌&&◌, not}
 use Rattle.std.proofs.lemmas.List.{append-nil}
-use Rattle.jk_language.specs.declared.outcome.Refusal.{Refusal}
 use Rattle.jk_language.specs.Parts.{Line as AsLine, Meaning}
 use Rattle.jk_language.specs.MachineState.{MachineState, here}
-use Rattle.jk_language.specs.Runs.{unshown, line_given, output_taken, HasTurned, IsGiven, OutcomeIs, tells_end, tells_line}
+use Rattle.jk_language.specs.Runs.{line_given}
 use Rattle.jk_language.specs.declared.outcome.Outcome.TheVariants as outcome
-use Rattle.jk_language.specs.declared.outcome.Turned.{Turned}
-use Rattle.jk_language.specs.declared.outcome.Turned.TheVariants as turned
 use Rattle.jk_language.specs.Spoken.{Spoken, IsLanguage}
-use Rattle.jk_language.specs.Beginning.{IsFresh}
-use Rattle.jp_msg.specs.declared.message.Execute.{Execute}
-use Rattle.jk_core.specs.declared.arrival.Arrival.{Arrival}
-use Rattle.jk_core.specs.declared.arrival.Sort.{Sort}
-use Rattle.jk_core.specs.declared.arrival.Sort.TheVariants as sort
-use Rattle.jk_core.specs.Asked.{input_in, sort_as}
 use Rattle.jk_core.specs.declared.desk.Active.{Active}
 use Rattle.jk_core.specs.declared.desk.Wants.{Wants}
 use Rattle.jk_core.specs.declared.desk.Wants.TheVariants as wants
-use Rattle.jk_core.specs.declared.desk.Place.{Place}
-use Rattle.jk_core.specs.declared.desk.Place.TheVariants.{Resting, Running as Runs}
-use Rattle.jk_core.specs.declared.desk.Desk.{Desk}
-use Rattle.jk_core.specs.declared.start.Opening.{Opening}
-use Rattle.jk_core.specs.declared.start.Opening.TheVariants as opening
 use Rattle.jk_core.specs.declared.job.Parsed.{Parsed}
 use Rattle.jk_core.specs.declared.job.Parsed.TheVariants as parsed
-use Rattle.jk_core.specs.Results.{IsResult}
-use Rattle.jk_core.specs.declared.mark.Item.{Item}
-use Rattle.jk_core.specs.declared.mark.Item.TheVariants.{Took, Marked}
-use Rattle.jk_core.specs.declared.mark.Kind.TheVariants.{Abort, Ask, Begin, End, Flush, Interrupt, Line, Refuse, Stop}
-use Rattle.jk_core.specs.declared.mark.Ending.TheVariants as ending
-use Rattle.jk_core.specs.declared.mark.Cause.{Cause}
-use Rattle.jk_core.specs.declared.mark.Cause.TheVariants as cause
+use Rattle.jk_core.specs.declared.mark.Kind.TheVariants.{Line}
 use Rattle.jk_core.specs.declared.kernel.Work.{Work}
 use Rattle.jk_core.specs.declared.kernel.Work.TheVariants as work
 use Rattle.jk_core.specs.declared.script.Waiting.{Waiting}
-use Rattle.jk_core.specs.Log.{Log, Running, running, running_with, session, count as count_of, meaning, meaning_in, shown_in, stood, stood_in, next_count, option_or, option_with, opened, flushed_at, asking, lined, unread, nones, left, asker, asked_of, execute_at, input_at, seat_at}
-use Rattle.jk_core.specs.Legal.{IsLineless, MayAsk}
-use Rattle.jk_core.specs.State.{KernelState, first_of}
-use Rattle.jk_core.specs.Steps.{allows_at, allowed, answered, begun, broken, closed, failing, flushed as flushed_to, given_to, gone_on, has_lines, limit, noted, sliced, took, written, written_out, stopped, stops_at, taken, with_waits, BeginsAt, Closes, GoesOn, GoesWithout, IsAsking, IsBrokenAt, Moves, Starts, StartsFirst, Works}
-use Rattle.jk_core.specs.Kept.{CanStop, HoldsAt, IsHeld, IsKept, IsLineFor, IsOf, IsResultOf, IsRunBy, IsWanting, Opens, RunsBy, Stands, StartsOr, WantsAt, AllWait, IsWaiting, has_asked, is_asking, line_to, lined_up}
-use Rattle.jk_core.specs.Slices.{HasAsked, HasCome, HasStuck, IsAtWork, IsInSlice, may_ask}
-use Rattle.jk_core.proofs.Keeps.{failing_moves, flushed_runs, asking_runs, lined_runs, no_lines, meaning_shown, runs_as, silent_slice, kept-taken, some_same, stops_same}
-use Rattle.jk_core.proofs.Logs.{input_grows, input_newest}
-use Rattle.jk_core.proofs.Turns.{count_same, here_is, lacks, law_of, lineless, may_by, not_lineless, not_stopped, ran_same, seat_left, stood_at}
+use Rattle.jk_core.specs.Log.{Log, Running, running, session, meaning, flushed_at, asking, lined, nones, left, input_at}
+use Rattle.jk_core.specs.Legal.{IsLineless}
+use Rattle.jk_core.specs.State.{KernelState}
+use Rattle.jk_core.specs.Steps.{begun, has_lines, limit, noted, with_waits, GoesOn, GoesWithout, IsAsking, Starts, StartsFirst, Works}
+use Rattle.jk_core.specs.Kept.{IsWanting, RunsBy, StartsOr, has_asked, is_asking}
+use Rattle.jk_core.specs.Slices.{HasAsked, IsAtWork}
+use Rattle.jk_core.proofs.Keeps.{flushed_runs, asking_runs, lined_runs, some_same}
+use Rattle.jk_core.proofs.Turns.{seat_left}
 use Rattle.std.proofs.Common.{zero, suc}
-use Rattle.jk_core.proofs.Desks.{no_given}
 
 -- the cell that runs after it went on without a line
 module _ {S T : Type 0} (spoken : Spoken S T) where

@@ -1,5 +1,5 @@
 -- What a kernel keeps true.
-use Rattle.std.specs.Prelude.{◌⊎◌, ◌≡◌, Bool, true, false, not, ◌&&◌, ℕ, ◌≤◌, IsTrue, is_some, List, [], ◌∷◌, ◌++◌, length, map, Option, None, Some}
+use Rattle.std.specs.Prelude.{◌⊎◌, ◌≡◌, Bool, true, false, not, ◌&&◌, ℕ, ◌≤◌, IsTrue, is_some, List, [], ◌∷◌, length, map, Option, None, Some}
 use Rattle.jk_language.specs.declared.outcome.Refusal.TheVariants.{Compile}
 use Rattle.jk_core.specs.declared.mark.Kind.TheVariants.{Line}
 use Rattle.jk_language.specs.Parts.{Line as AsLine}

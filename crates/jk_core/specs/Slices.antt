@@ -1,5 +1,5 @@
 -- A cell at work in a slice.
-use Rattle.std.specs.Prelude.{◌≡◌, true, false, Bool, not, ◌&&◌, ℕ, ◌+◌, ◌≤◌, List, ◌++◌, length, Option, Some}
+use Rattle.std.specs.Prelude.{◌≡◌, true, false, Bool, not, ◌&&◌, ℕ, ◌≤◌, List, ◌++◌, length, Some}
 use Rattle.jk_language.specs.declared.outcome.Turned.{Turned}
 use Rattle.jk_language.specs.declared.outcome.Turned.TheVariants as turned
 use Rattle.jk_language.specs.declared.outcome.Outcome.TheVariants as outcome

@@ -1,5 +1,5 @@
 -- What contracts see of a kernel.
-use Rattle.std.specs.Prelude.{ℕ, zero, suc, Bool, true, false, List, [], ◌∷◌, ◌++◌, length, reverse, nat_le, if◌then◌else◌, Option, None, Some}
+use Rattle.std.specs.Prelude.{◌<◌, ◌≤◌, ℕ, zero, suc, Bool, true, false, List, [], ◌∷◌, ◌++◌, length, reverse, nat_le, if◌then◌else◌, Option, None, Some}
 use Rattle.jk_core.specs.declared.entry.Entry.{Entry}
 use Rattle.jk_core.specs.declared.mark.Item.{Item}
 use Rattle.jk_core.specs.declared.mark.Item.TheVariants.{Took, Marked}
@@ -48,6 +48,11 @@ abbrev pub last_leave : ℕ → Log → ℕ
 last_leave seat [] = 0
 last_leave seat (Took a ∷ past) = if leaves seat a then length past else last_leave seat past
 last_leave seat (Marked m ∷ past) = last_leave seat past
+
+-- the numbers of what waits ascend, from above one up to another
+abbrev pub Ascends : {T : Type 0} → ℕ → ℕ → List (Waiting T) → Type 0
+Ascends low high [] = low ≤ high
+Ascends low high (w ∷ ws) = (low < w.number) × Ascends w.number high ws
 
 abbrev pub are_zeros : List ℕ → Bool
 are_zeros [] = true

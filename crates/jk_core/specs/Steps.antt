@@ -3,7 +3,7 @@ use Rattle.std.specs.Prelude.{zero, suc, true, not, is_some, ◌&&◌, ◌≤◌
 use Rattle.jk_language.specs.declared.outcome.Outcome.TheVariants as outcome
 use Rattle.jk_language.specs.declared.outcome.Refusal.{Refusal}
 use Rattle.jk_language.specs.declared.outcome.Refusal.TheVariants.{Compile}
-use Rattle.jk_language.specs.Parts.{Line as Given, Meaning}
+use Rattle.jk_language.specs.Parts.{Line as Given}
 use Rattle.jk_language.specs.Spoken.{Spoken}
 use Rattle.jk_language.specs.declared.outcome.Turned.{Turned}
 use Rattle.jk_language.specs.declared.outcome.Turned.TheVariants as turned
@@ -68,14 +68,6 @@ waits_with sort.Other at number = []
 -- the same kernel, where these wait
 abbrev pub with_waits : {T : Type 0} → List (Waiting T) → KernelState T → KernelState T
 with_waits ws k = record { log = k.log; pending = k.pending; waits = ws; given = k.given; ran = k.ran }
-
--- the same kernel, where the next arrival waits
-abbrev pub with_next : {T : Type 0} → KernelState T → KernelState T
-with_next k = with_waits (k.waits ++ waits_with sort.Execute (length k.log) (arrivals k.log + 1)) k
-
--- one more arrival
-abbrev pub arrived : {T : Type 0} → Arrival → KernelState T → KernelState T
-arrived a k = record { log = Took a ∷ k.log; pending = k.pending; waits = k.waits; given = k.given; ran = k.ran }
 
 -- one more arrival, which may wait
 abbrev pub took : {T : Type 0} → Arrival → KernelState T → KernelState T

@@ -6,9 +6,9 @@ ghost use Rattle.jk_core.specs.Steps.{taken, without, is_at_rest as rests, Works
 ghost use Rattle.jk_core.specs.State.{joined, fresh};
 
 use crate::arrival::Arrival;
+use crate::desk::{Desk, Place, new_desk};
 use crate::entry::Entry;
 use crate::job::{Job, ParsedCell};
-use crate::desk::{Desk, Place, new_desk};
 use crate::run::work_on;
 use crate::script::{Script, keep};
 use crate::taking::take_in;

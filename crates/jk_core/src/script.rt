@@ -2,9 +2,9 @@
 
 ghost use Rattle.std.specs.Prelude.{◌≡◌, ℕ, ◌+◌, ◌^◌, ◌<◌, ◌≤◌, [], ◌∷◌, ◌++◌, List, drop, take, length, reverse, is_some, slice_get, IsTrue, IfSome, IfNone, OnOk, OnErr, IfOk, IfErr, option_copied, None, Some};
 ghost use Rattle.std.specs.Vec.{vec_capacity, vec_len};
-ghost use Rattle.jk_core.specs.Steps.{arrived, noted, took, with_next, with_waits, with_ran, ran_after, without, GivesJob, Hands, CanKeep, first_after as first_after_of};
+ghost use Rattle.jk_core.specs.Steps.{noted, took, waits_with, with_waits, with_ran, ran_after, without, GivesJob, Hands, CanKeep, first_after as first_after_of};
 ghost use Rattle.jk_core.specs.Kept.{AllWait, IsKept};
-ghost use Rattle.jk_core.specs.State.{WaitingOf};
+ghost use Rattle.jk_core.specs.State.{Ascends, WaitingOf};
 ghost use Rattle.jk_core.specs.Log.{arrival_at, execute_at, input_at, seat_at, left, option_with};
 ghost use Rattle.jk_core.specs.State.{first_of, fresh, joined, pending_from};
 
@@ -48,7 +48,7 @@ impl<T> Model for Script<T> {
     ghost use Rattle.std.specs.Prelude.{◌≡◌, ◌-◌, ◌≤◌, ◌<◌, ℕ, Some, length, reverse, slice_get};
     ghost use Rattle.std.specs.Vec.{vec_capacity, vec_len};
     ghost use Rattle.jk_core.specs.Log.{arrivals};
-    ghost use Rattle.jk_core.specs.State.{last_leave};
+    ghost use Rattle.jk_core.specs.State.{Ascends, last_leave};
     ghost use Rattle.jk_core.specs.State.{ScriptState, state_of};
     ghost use Rattle.std.specs.Coded.{codes};
     ghost use Rattle.json_form.specs.contracts.kept.Json as json;
@@ -65,6 +65,7 @@ impl<T> Model for Script<T> {
     ghost invariant = { λ s. record {
       shown : s.shown ≤ length s.log.items;
       taken : s.taken ≡ arrivals (reverse s.log.items);
+      order : Ascends 0 s.taken s.waiting.items;
       left : (seat : ℕ) → seat < 256 → slice_get s.leaves seat ≡ Some (last_leave seat (reverse s.log.items));
     } };
 }
@@ -120,43 +121,20 @@ impl<T: Drop> Script<T> {
         ensures room { self.old.room ≤ self.new.room + 1 }
         ensures err { IfErr result (λ back. (back.value ≡ arrival) × (self.new.state ≡ self.old.state)) }
     {
-        if let Sort::Execute = sort_of(&arrival.what) {
-            match self.wait() {
-                Ok(()) => {}
-                Err(_) => return Err(AllocFailed { value: arrival }),
-            }
-        }
-        self.arrive(arrival);
-        Ok(())
-    }
-
-    /// The next arrival is to wait.
-    fn wait(&mut self) -> Result<(), AllocError>
-        ensures ok { OnOk result (self.new.state ≡ with_next self.old.state) }
-        ensures room { self.new.room ≡ self.old.room }
-        ensures err { OnErr result (self.new.state ≡ self.old.state) }
-    {
         let number = self.taken + 1;
-        let waiting = Waiting {
-            at: self.log.len(),
+        match wait(
+            &mut self.waiting,
+            sort_of(&arrival.what),
+            self.log.len(),
             number,
-            result: None,
-        };
-        match self.waiting.push_back(waiting) {
-            Ok(()) => Ok(()),
-            Err(_) => Err(AllocError),
+        ) {
+            Ok(()) => {}
+            Err(_) => return Err(AllocFailed { value: arrival }),
         }
-    }
-
-    /// Writes an arrival down.
-    fn arrive(&mut self, arrival: Arrival)
-        requires { 0 < self.old.room }
-        ensures state { self.new.state ≡ arrived arrival self.old.state }
-        ensures room { self.old.room ≤ self.new.room + 1 }
-    {
-        self.taken += 1;
+        self.taken = number;
         self.leaves.take(&arrival, self.log.len());
         push(&mut self.log, Item::Took(arrival));
+        Ok(())
     }
 
     /// How many requests wait.
@@ -350,11 +328,50 @@ fn execute_in(items: &[Item], at: usize) -> Option<&Execute>
     }
 }
 
+/// Adds a request that is to wait.
+fn wait<T: Drop>(
+    waiting: &mut VecDeque<Waiting<T>>,
+    sort: Sort,
+    at: usize,
+    number: u64,
+) -> Result<(), AllocError>
+    ensures ok { OnOk result (waiting.new.items ≡ waiting.old.items ++ waits_with sort at number) }
+    ensures err { OnErr result (waiting.new.items ≡ waiting.old.items) }
+{
+    match sort {
+        Sort::Execute => match waiting.push_back(Waiting {
+            at,
+            number,
+            result: None,
+        }) {
+            Ok(()) => Ok(()),
+            Err(_) => Err(AllocError),
+        },
+        Sort::Join | Sort::Leave | Sort::Input | Sort::Interrupt | Sort::Other => Ok(()),
+    }
+}
+
 /// The first request whose number is past those given.
 fn first_after<T>(waiting: &VecDeque<Waiting<T>>, given: u64) -> Option<&Waiting<T>>
+    requires { (high : ℕ) × Ascends 0 high waiting.now.items }
     ensures { option_copied result ≡ first_after_of given waiting.now.items }
 {
-    waiting.iter().find(|w| given < w.number)
+    let place = place_after(waiting, given);
+    if place < waiting.len() {
+        Some(&waiting[place])
+    } else {
+        None
+    }
+}
+
+/// The place behind the requests up to a number, found by halves.
+fn place_after<T>(waiting: &VecDeque<Waiting<T>>, number: u64) -> usize
+    requires { (high : ℕ) × Ascends 0 high waiting.now.items }
+    ensures before { (i : ℕ) (w : WaitingOf T) → slice_get waiting.now.items i ≡ Some w → i < result → w.number ≤ number }
+    ensures after { (i : ℕ) (w : WaitingOf T) → slice_get waiting.now.items i ≡ Some w → result ≤ i → number < w.number }
+    ensures within { result ≤ length waiting.now.items }
+{
+    waiting.partition_point(|w| w.number <= number)
 }
 
 /// How many marks stand from a place on.
@@ -395,15 +412,20 @@ fn place_for<T>(
     job: u64,
     text: &Text,
 ) -> Option<usize>
+    requires { (high : ℕ) × Ascends 0 high waiting.now.items }
     ensures found { IfSome result (λ i. (w : WaitingOf T) × (slice_get waiting.now.items i ≡ Some w) × CanKeep (reverse items.now) job text.now w) }
     ensures none { IfNone result ((i : ℕ) (w : WaitingOf T) → slice_get waiting.now.items i ≡ Some w → CanKeep (reverse items.now) job text.now w → ⊥) }
 {
-    for i in 0..waiting.len() {
-        if can_keep(items, &waiting[i], job, text) {
-            return Some(i);
-        }
+    let after = place_after(waiting, job);
+    if after == 0 {
+        return None;
     }
-    None
+    let place = after - 1;
+    if can_keep(items, &waiting[place], job, text) {
+        Some(place)
+    } else {
+        None
+    }
 }
 
 /// Keeps a result where a request can keep it.

@@ -163,7 +163,10 @@ fn end<L: Language>(
     ensures count { desk.new.count ≡ desk.old.count }
 {
     let Active {
-        at, stops, machine, ..
+        at,
+        stops,
+        machine,
+        ..
     } = active;
     script.note(at, kind);
     fail(script, failed && stops);

@@ -146,7 +146,10 @@ fn stop<L: Language>(
         Place::Resting(session) => desk.place = Place::Resting(session),
         Place::Running(active) => {
             let Active {
-                at, stops, machine, ..
+                at,
+                stops,
+                machine,
+                ..
             } = active;
             let text = Text::from_string(String::new(desk.alloc));
             let turns = L::used(&machine);

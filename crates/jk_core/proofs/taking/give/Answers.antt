@@ -1,4 +1,4 @@
-use Rattle.std.proofs.Common.{List, Option, sym, subst, ◌∙◌, ℕ}
+use Rattle.std.proofs.Common.{sym, subst, ◌∙◌}
 use Rattle.jk_core.specs.Log.{running, session}
 use Rattle.jk_core.specs.Kept.{HoldsAt, IsLineFor, WantsAt}
 use Rattle.jk_core.proofs.Arrivals.{give_stands}

@@ -1,5 +1,5 @@
-use Rattle.std.proofs.Common.{◌≡◌, ◌∙◌, ap, sym, subst}
-use Rattle.jk_core.specs.State.{KernelState, ScriptState}
+use Rattle.std.proofs.Common.{◌∙◌, ap}
+use Rattle.jk_core.specs.State.{ScriptState}
 use Rattle.jk_core.specs.declared.arrival.Sort.TheVariants as sort
 use Rattle.jk_core.proofs.Arrivals.{dropped_taken, input_runs, input_taken, interrupt_taken, join_taken, joined_stands, leave_taken, left_stands, moved, took_dropped, took_quiet}
 use Rattle.jk_core.proofs.taking.take_in.Goals as goal

@@ -1,7 +1,7 @@
-use Rattle.std.proofs.Common.{Some, ◌≡◌, subst, sym, ap, refl, arith}
+use Rattle.std.proofs.Common.{Some, ◌≡◌, subst, sym, ap, arith}
 use Rattle.std.specs.Prelude.{reverse, slice_get}
 use Rattle.jk_core.specs.Log.{Log, arrivals}
-use Rattle.jk_core.specs.State.{last_leave}
+use Rattle.jk_core.specs.State.{Ascends, last_leave}
 use Rattle.jk_core.proofs.Logs.{zeros_get}
 use Rattle.jk_core.proofs.script.Script.new.Goals as goal
 
@@ -11,6 +11,7 @@ invariant_of-result g c =
     record {
       shown = omega arith;
       taken = sym (ap arrivals empty);
+      order = subst (Ascends 0 0) (sym c.new-2.ensures.items) (omega arith);
       left = λ seat h. subst (λ (log : Log). slice_get c.none.result seat ≡ Some (last_leave seat log)) (sym empty)
           (zeros_get seat c.none.result (let seats = c.none.ensures.seats in omega (arith, h)) c.none.ensures.none);
     }
