@@ -11,7 +11,9 @@ use std::rt::Files;
 
 /// The files and folders that a device keeps, or those below one folder of the system, its root.
 ///
-/// Where the device tells what it holds, the shelf tells the same, and each call is that of the map.
+/// Where the device tells what it holds, the shelf tells the same, and each call is that of the map. A folder of the
+/// system tells nothing. A link below its root is not followed, and stands in the way: what is behind one is `Missing`,
+/// what would be put on one is `Exists`.
 #[derive(Drop)]
 pub struct FileShelf<D: Device + Drop> {
     alloc: Global,

@@ -14,7 +14,7 @@ pub use device::{Device, DeviceFault, Kind};
 pub use file::FileShelf;
 pub use item::{Bytes, Item, Name, Names, ShelfRefusal};
 pub use memory::MemoryShelf;
-pub use path::is_path;
+pub use path::{is_path, is_step};
 pub use place::Place;
 pub use shelf::Shelf;
 pub use system::SystemFolder;

@@ -74,8 +74,8 @@ pub fn is_path(path: &str) -> bool
     path.is_empty() || are_segments(path.as_bytes())
 }
 
-/// Whether the bytes are a step down: a segment, and without a slash.
-pub(crate) fn is_step(bytes: &[u8]) -> bool
+/// Whether the bytes are one segment of a path, so without a slash.
+pub fn is_step(bytes: &[u8]) -> bool
     ensures { result ≡ places.is_step bytes.now }
 {
     is_segment(bytes) && !has_slash(bytes)
