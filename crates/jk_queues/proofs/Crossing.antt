@@ -12,4 +12,3 @@ seat_send = search (arrival_send, queue.the_send, queue.the_sync, pass.the_send,
 
 pub taker_send : IsSend Taker.the_row
 taker_send = search (arrival_send, queue.the_send, queue.the_sync, pass.the_send, crosses, sendable) depth 60 fits 20000
-

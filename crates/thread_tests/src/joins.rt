@@ -18,11 +18,7 @@ fn fresh_kernel<L: Language>(alloc: Global) -> Result<Kernel<L>, AllocError>
 }
 
 /// Takes the join of a seat, which is shown by one entry.
-fn take_join<L: Language>(
-    kernel: &mut Kernel<L>,
-    seat: u8,
-    number: u64,
-) -> Result<(), AllocError>
+fn take_join<L: Language>(kernel: &mut Kernel<L>, seat: u8, number: u64) -> Result<(), AllocError>
     ensures { OnOk result ((shown : List Entry) → HasShown L.spoken shown kernel.old → HasShown L.spoken shown kernel.new) }
 {
     let what = What::Join;
