@@ -1,5 +1,5 @@
 -- Lines and slices done, one more at a time.
-use Rattle.std.proofs.Common.{false, inl, inr, ◌≡◌, ℕ, zero, suc, ◌+◌, ◌≤◌, List, [], ◌∷◌, ◌++◌, length, refl, sym, ap, ◌∙◌, subst, append_assoc, append-nil, length-append, arith, add-one, ◌≢◌, ◌<◌, Option, None, Some, Result, Ok, Err}
+use Rattle.std.proofs.Common.{false, inl, inr, ◌≡◌, ℕ, ◌+◌, ◌≤◌, List, [], ◌∷◌, ◌++◌, length, refl, sym, ap, ◌∙◌, subst, append_assoc, append-nil, length-append, arith, add-one, ◌≢◌, ◌<◌, Result, Ok, Err}
 use Rattle.std.specs.Prelude.{IsErrAnd, OnOk, is_err}
 use Rattle.std.proofs.lemmas.Bool.{true≢false}
 use Rattle.std.specs.Str.{IsUtf8}

@@ -1,5 +1,5 @@
 -- From what stands between two lines to what a replay comes to.
-use Rattle.std.proofs.Common.{zero-add, ◌≡◌, ◌≢◌, ℕ, zero, suc, ◌+◌, ◌≤◌, ◌<◌, List, [], ◌∷◌, ◌++◌, length, refl, sym, ap, ◌∙◌, subst, append_assoc, append-nil, length-append, arith, Option, Result, Ok, Err, inl, inr}
+use Rattle.std.proofs.Common.{zero-add, ◌≡◌, ◌≢◌, ℕ, ◌+◌, ◌≤◌, List, [], ◌∷◌, ◌++◌, length, refl, sym, ap, ◌∙◌, subst, append_assoc, append-nil, length-append, arith, Option, Result, Ok, Err, inl, inr}
 use Rattle.std.specs.Prelude.{IsErrAnd}
 use Rattle.std.specs.Io.KnownBytes.{Consumes, Appends, IsAtEnd}
 use Rattle.std.proofs.KnownBytes.{Appends-nil, Appends-trans, Consumes-nil}
@@ -18,7 +18,7 @@ use Rattle.jk_replay.specs.Held.{InputState, Comes, IsLeftOver, LeavesOver}
 use Rattle.jk_replay.specs.Lines.{IsOneLine, TakesLine}
 use Rattle.jk_replay.specs.Playing.{of_input, LinePlayed, SomeSlices, SlicesPlayed}
 use Rattle.jk_replay.specs.Replaying.{ReplayState}
-use Rattle.jk_replay.specs.Replays.{opening, with_ends, AsksFor, LineDone, LinesDone, SlicesDone, Reaches, Finishes, Shows, IsRefused, Replays, last_slices}
+use Rattle.jk_replay.specs.Replays.{opening, with_ends, AsksFor, LineDone, LinesDone, Reaches, Finishes, Shows, IsRefused, Replays}
 use Rattle.jk_replay.proofs.Done.{done_more, ends_more, few_lines}
 use Rattle.jk_replay.proofs.Going.{Going, opening_going, lines_going, slices_going, going_legal, going_rendered}
 use Rattle.jk_replay.proofs.InputLemmas.{both_come, opening as nothing_held}

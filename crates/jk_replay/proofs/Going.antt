@@ -1,6 +1,5 @@
 -- A replay goes on over a legal log, and what it has shown is the render of that log.
-use Rattle.std.proofs.Common.{◌≡◌, ℕ, zero, suc, ◌+◌, Bool, true, false, cond, List, [], ◌∷◌, ◌++◌, length, take, drop, refl, sym, ap, ◌∙◌, subst, append_assoc, append-nil, arith, Option, None, Some, inl, inr}
-use Rattle.std.specs.Prelude.{◌⊎◌}
+use Rattle.std.proofs.Common.{◌≡◌, ℕ, zero, suc, Bool, true, false, cond, List, [], ◌∷◌, ◌++◌, length, refl, sym, ap, ◌∙◌, subst, append_assoc, append-nil, arith, inl, inr}
 use Rattle.std.proofs.lemmas.List.{take_all, drop_all}
 use Rattle.jk_language.specs.Spoken.{Spoken, IsLanguage}
 use Rattle.jk_core.specs.declared.arrival.Arrival.{Arrival}
@@ -10,19 +9,18 @@ use Rattle.jk_core.specs.declared.entry.Entry.{Entry}
 use Rattle.jk_core.specs.declared.kernel.Used.{Used}
 use Rattle.jk_core.specs.declared.kernel.Used.TheVariants.{Kept, Stranger}
 use Rattle.jk_core.specs.declared.kernel.Work.{Work}
-use Rattle.jk_core.specs.declared.kernel.Work.TheVariants.{Ran}
 use Rattle.jk_core.specs.Kept.{IsKept}
 use Rattle.jk_core.specs.Legal.{IsLegal}
 use Rattle.jk_core.specs.Render.{render}
-use Rattle.jk_core.specs.Results.{Reading, IsResult}
+use Rattle.jk_core.specs.Results.{Reading}
 use Rattle.jk_core.specs.State.{KernelState, fresh, joined}
-use Rattle.jk_core.specs.Steps.{GivesJob, Hands, Works, with_given, without}
+use Rattle.jk_core.specs.Steps.{Hands, Works, with_given, without}
 use Rattle.jk_core.proofs.Handed.{kept-hands}
 use Rattle.jk_core.proofs.Keeps.{kept-taken, kept-works, kept_legal}
 use Rattle.jk_core.proofs.Shown.{IsShown, shown_taken, shown_works, shown_without}
 use Rattle.jk_replay.specs.declared.step.Step.{Step}
 use Rattle.jk_replay.specs.declared.step.Step.TheVariants as step
-use Rattle.jk_replay.specs.Replaying.{ReplayState, sends, joins, sent_on, next_number, with_seat, leaves, ParsesOne, shown, pending_lines, StepDone}
+use Rattle.jk_replay.specs.Replaying.{ReplayState, sends, joins, sent_on, next_number, with_seat, leaves, ParsesOne, pending_lines, StepDone}
 use Rattle.jk_replay.specs.Replays.{opening, LineDone, LinesDone, SlicesDone, last_turns}
 use Rattle.jk_replay.specs.Shown.{entry_line, entry_lines}
 

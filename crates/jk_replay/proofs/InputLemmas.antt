@@ -1,9 +1,9 @@
 -- What came of an input, a read at a time.
-use Rattle.std.proofs.Common.{◌≡◌, ◌<◌, ◌≤◌, ◌+◌, suc, ℕ, List, [], ◌++◌, length, Option, Err, refl, sym, ◌∙◌, ap, arith, append_assoc, append-nil, length-append, drop, ◌∷◌, ◌-◌, ◌*◌, subst}
+use Rattle.std.proofs.Common.{◌≡◌, ◌<◌, ◌≤◌, ◌+◌, suc, ℕ, List, [], ◌++◌, length, Option, Err, refl, sym, ◌∙◌, ap, arith, append_assoc, append-nil, length-append, drop, ◌∷◌, ◌-◌, subst}
 use Rattle.std.proofs.lemmas.List.{drop-append-le}
 use Rattle.std.proofs.KnownBytes.{Consumes-nil, Consumes-trans}
 use Rattle.std.specs.Io.KnownBytes.{Consumes}
-use Rattle.jk_replay.specs.Held.{InputState, Comes, Refills, LeavesOver, most_input}
+use Rattle.jk_replay.specs.Held.{InputState, Comes, Refills, LeavesOver}
 use Rattle.jk_replay.specs.Lines.{IsOneLine}
 use Rattle.jk_replay.specs.declared.input.InputFault.{InputFault}
 use Rattle.jk_replay.specs.declared.input.InputFault.TheVariants.{Device, Memory}

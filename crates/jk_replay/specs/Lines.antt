@@ -1,5 +1,5 @@
 -- Lines of input. A line ends with U+000A or with the input.
-use Rattle.std.specs.Prelude.{◌≡◌, ◌≢◌, ℕ, ◌+◌, ◌<◌, ◌≤◌, List, [], ◌∷◌, ◌++◌, length, Option, Result, Ok, Err}
+use Rattle.std.specs.Prelude.{◌≡◌, ◌≢◌, ℕ, ◌<◌, List, [], ◌∷◌, ◌++◌, length, Option}
 use Rattle.std.specs.Io.KnownBytes.{IsAtEnd}
 use Rattle.jk_replay.specs.declared.input.Line.{Line}
 use Rattle.jk_replay.specs.declared.input.Line.TheVariants.{Ended, Last, Long}

@@ -1,6 +1,5 @@
 -- What is written on the way, at each line and each slice.
-use Rattle.std.specs.Prelude.{◌≡◌, ◌≢◌, ℕ, ◌≤◌, List, [], ◌++◌, Option, None, Some, Result, Ok, Err, ◌⊎◌}
-use Rattle.json_form.specs.declared.fault.Fault.{Fault}
+use Rattle.std.specs.Prelude.{◌≡◌, ◌≢◌, ℕ, ◌≤◌, List, [], ◌++◌, Result, Ok, Err, ◌⊎◌}
 use Rattle.jk_language.specs.Spoken.{Spoken}
 use Rattle.jk_core.specs.declared.kernel.Work.{Work}
 use Rattle.jk_replay.specs.declared.input.InputFault.{InputFault}

@@ -1,5 +1,5 @@
 -- What a replay does, line by line.
-use Rattle.std.specs.Prelude.{◌≡◌, ◌≢◌, ℕ, ◌+◌, ◌-◌, ◌^◌, min, Bool, true, false, List, [], ◌∷◌, ◌++◌, length, Option, Some, None, Result, Ok, Err, ◌⊎◌, replicate, slice_index_or, slice_set, if◌then◌else◌}
+use Rattle.std.specs.Prelude.{◌≡◌, ◌≢◌, ℕ, ◌+◌, ◌-◌, ◌^◌, min, Bool, true, false, List, length, Some, None, Result, Ok, Err, ◌⊎◌, replicate, slice_index_or, slice_set, if◌then◌else◌}
 use Rattle.json_form.specs.declared.fault.Fault.{Fault}
 use Rattle.json_form.specs.declared.fault.Fault.TheVariants.{WrongKind}
 use Rattle.jp_msg.specs.declared.message.Message.{Message}

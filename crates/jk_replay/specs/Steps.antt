@@ -1,11 +1,10 @@
 -- What a line asks for.
-use Rattle.std.specs.Prelude.{◌≡◌, ℕ, ◌≤◌, ℤ, pos, negsuc, ◌+◌, List, [], ◌∷◌, Bool, true, false, Option, Some, None, Result, Ok, Err, codes, nat_le, if◌then◌else◌}
+use Rattle.std.specs.Prelude.{ℕ, ℤ, pos, negsuc, List, Option, Some, None, Result, Ok, Err, codes, nat_le, if◌then◌else◌}
 use Rattle.serde_json.specs.Data.{Data}
 use Rattle.serde_json.specs.Find.{get}
 use Rattle.json_form.specs.declared.fault.Fault.{Fault}
 use Rattle.json_form.specs.declared.fault.Fault.TheVariants.{WrongKind}
 use Rattle.json_form.specs.Forms.{◌>>=◌, whole_of, optional, needed}
-use Rattle.jp_msg.specs.declared.message.Message.{Message}
 use Rattle.jp_msg.specs.Reading.{value_at, message_of}
 use Rattle.jk_replay.specs.declared.step.Step.{Step}
 use Rattle.jk_replay.specs.declared.step.Step.TheVariants as step

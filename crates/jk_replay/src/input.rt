@@ -167,8 +167,8 @@ impl Input {
         ensures { (came : List ℕ)
             × Comes (R.remaining reader.old) (R.remaining reader.new) self.old self.new came
             × MatchResult result
-                (λ line. TakesLine (self.old.held ++ came) line self.new.held (R.remaining reader.new))
-                (λ fault. LeavesOver fault self.new.taken (self.old.held ++ came)) }
+            (λ line. TakesLine (self.old.held ++ came) line self.new.held (R.remaining reader.new))
+            (λ fault. LeavesOver fault self.new.taken (self.old.held ++ came)) }
     {
         'pieces: loop {
             if let Some(line) = self.held_line(alloc)? {

@@ -7,11 +7,7 @@ use std::test::Fail;
 use test_language::TestLanguage;
 
 /// A cell asks its seat, and reads the first line of that seat.
-fn asks<L: Language>(
-    rt: &impl Abort,
-    alloc: Global,
-    kernel: &mut Kernel<L>,
-) -> Result<(), Fail> {
+fn asks<L: Language>(rt: &impl Abort, alloc: Global, kernel: &mut Kernel<L>) -> Result<(), Fail> {
     take_cell(alloc, kernel, 2, "m1", "a?$", "")?;
     read_all(alloc, kernel)?;
     assert!(rt; works(kernel, 10, Work::NeedsLine));

@@ -38,11 +38,7 @@ fn is_stranger<L: Language>(
     Ok(matches!(used, Used::Stranger(_)))
 }
 
-fn slices<L: Language>(
-    rt: &impl Abort,
-    alloc: Global,
-    kernel: &mut Kernel<L>,
-) -> Result<(), Fail> {
+fn slices<L: Language>(rt: &impl Abort, alloc: Global, kernel: &mut Kernel<L>) -> Result<(), Fail> {
     assert!(rt; works(kernel, 10, Work::Rest));
     take_cell(alloc, kernel, 1, "m1", WRITES, "")?;
     assert!(rt; works(kernel, 10, Work::NeedsParse));

@@ -18,5 +18,6 @@ mod statuses;
 
 pub use devices::{Limited, Trickle, played};
 pub use lines::{
-    begun, cell_line, ended, failed, first_cell, input_line, input_request, joined, stream, whole_cell,
+    begun, cell_line, ended, failed, first_cell, input_line, input_request, joined, stream,
+    whole_cell,
 };

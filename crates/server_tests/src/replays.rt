@@ -66,7 +66,9 @@ fn a_line_that_is_asked_for(rt: HostRuntime) -> Result<(), Fail> {
     let asks = first_cell(rt.alloc(), "a?$", &["a"], request.as_str())?;
     assert_ends(&rt, line.as_str(), asks.as_str(), End::WorkLeft)?;
     let input = format!(in rt.alloc();
-        "{}{{\"run\":1000}}\n{}", line.as_str(), input_line(rt.alloc(), "xyz")?.as_str()
+        "{}{{\"run\":1000}}\n{}",
+        line.as_str(),
+        input_line(rt.alloc(), "xyz")?.as_str()
     )?;
     let wanted = format!(in rt.alloc();
         "{}{}{}",
@@ -172,11 +174,20 @@ fn seats_that_leave(rt: HostRuntime) -> Result<(), Fail> {
 #[test]
 fn long_lines(rt: HostRuntime) -> Result<(), Fail> {
     let mut line = Vec::from_elem(rt.alloc(), b' ', 1_048_576)?;
-    assert_eq!(rt; third_refused(rt.alloc(), line.as_slice())?, Some(Fault::NotJson));
+    assert_eq!(rt;
+        third_refused(rt.alloc(), line.as_slice())?,
+        Some(Fault::NotJson)
+    );
     line.push(b' ')?;
-    assert_eq!(rt; third_refused(rt.alloc(), line.as_slice())?, Some(Fault::TooLong));
+    assert_eq!(rt;
+        third_refused(rt.alloc(), line.as_slice())?,
+        Some(Fault::TooLong)
+    );
     line.push(b'\n')?;
-    assert_eq!(rt; third_refused(rt.alloc(), line.as_slice())?, Some(Fault::TooLong));
+    assert_eq!(rt;
+        third_refused(rt.alloc(), line.as_slice())?,
+        Some(Fault::TooLong)
+    );
     Ok(())
 }
 

@@ -21,7 +21,12 @@ fn ended(
     };
     let mut writer = Limited::new(alloc, write_fault);
     let mut errors = Limited::new(alloc, error_fault);
-    let status = replay_status::<TestLanguage, _, _, _>(alloc, &mut reader, &mut writer, &mut errors);
+    let status = replay_status::<TestLanguage, _, _, _>(
+        alloc,
+        &mut reader,
+        &mut writer,
+        &mut errors,
+    );
     (status, errors.written)
 }
 
@@ -41,7 +46,14 @@ fn rest(rt: HostRuntime) -> Result<(), Fail> {
 #[test]
 fn refused_lines(rt: HostRuntime) {
     assert!(rt; ends(&rt, b"{", 1, "line 1: bad 1\n"));
-    assert!(rt; ends(&rt, b"{\"run\":1}\n\n{\"leave\":0}\n{", 1, "line 3: bad 3\n"));
+    assert!(rt;
+        ends(
+            &rt,
+            b"{\"run\":1}\n\n{\"leave\":0}\n{",
+            1,
+            "line 3: bad 3\n"
+        )
+    );
     assert!(rt; ends(&rt, b"{\"content\":{}}\n", 1, "line 1: bad 2\n"));
     assert!(rt; ends(&rt, b"\n{\"run\":1.5}\n", 1, "line 2: bad 4\n"));
 }

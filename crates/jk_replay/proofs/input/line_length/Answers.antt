@@ -1,4 +1,4 @@
-use Rattle.std.proofs.Common.{rules, ◌≡◌, ◌≢◌, ◌+◌, ℕ, ap, get_or}
+use Rattle.std.proofs.Common.{rules, ◌≢◌, ◌+◌, ap, get_or}
 use Rattle.jk_replay.proofs.LineLemmas.{line_more}
 use Rattle.jk_replay.proofs.input.line_length.Goals as goal
 

@@ -1,4 +1,4 @@
-use Rattle.std.proofs.Common.{rules, ◌≡◌, ◌≢◌, ◌++◌, arith}
+use Rattle.std.proofs.Common.{rules, ◌≢◌, ◌++◌, arith}
 use Rattle.std.proofs.KnownBytes.{Appends-trans}
 use Rattle.jk_core.specs.declared.kernel.Work.TheVariants.{Ran}
 use Rattle.jk_replay.proofs.Done.{slices_more, slices_end, slices_fail}

@@ -1,4 +1,4 @@
-use Rattle.std.proofs.Common.{◌≡◌, ◌-◌, ◌≤◌, List, ℕ}
+use Rattle.std.proofs.Common.{◌-◌, ◌≤◌, List, ℕ}
 use Rattle.std.specs.Io.KnownBytes.{Appends}
 use Rattle.jk_replay.specs.Replays.{SlicesDone}
 use Rattle.jk_replay.proofs.replay.finish.Given as goal

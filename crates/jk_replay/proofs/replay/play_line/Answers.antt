@@ -1,4 +1,4 @@
-use Rattle.std.proofs.Common.{rules, ◌≡◌, ◌≢◌, [], sym, ◌∙◌}
+use Rattle.std.proofs.Common.{rules, ◌≢◌, [], sym, ◌∙◌}
 use Rattle.std.proofs.KnownBytes.{Appends-nil}
 use Rattle.jk_replay.proofs.Done.{some_done, whole_written, line_cut, line_refused, not_failed}
 use Rattle.jk_replay.proofs.replay.play_line.Goals as goal

@@ -1,4 +1,4 @@
-use Rattle.std.proofs.Common.{◌≡◌, ◌++◌, arith}
+use Rattle.std.proofs.Common.{arith}
 use Rattle.jk_replay.specs.declared.input.Line.TheVariants as taken
 use Rattle.jk_replay.proofs.InputLemmas.{less_left}
 use Rattle.jk_replay.proofs.Final.{first_as, known, number_fits, between_line, reading_fails, line_fails, fails_long, finishes_line}

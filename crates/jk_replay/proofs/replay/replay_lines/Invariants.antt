@@ -1,4 +1,4 @@
-use Rattle.std.proofs.Common.{◌≡◌, ◌-◌, ◌+◌, ◌++◌, List, ℕ, [], length}
+use Rattle.std.proofs.Common.{◌-◌, ◌+◌, length}
 use Rattle.jk_replay.proofs.Final.{Between}
 use Rattle.jk_replay.proofs.replay.replay_lines.Given as goal
 

@@ -1,4 +1,4 @@
-use Rattle.std.proofs.Common.{◌≡◌, ◌++◌, ◌∙◌, ap, sym}
+use Rattle.std.proofs.Common.{◌++◌, ◌∙◌, ap, sym}
 use Rattle.jk_replay.specs.Shown as spec
 use Rattle.jk_replay.proofs.EntryLines.{lines_more}
 use Rattle.jk_replay.proofs.show.show.Goals as goal

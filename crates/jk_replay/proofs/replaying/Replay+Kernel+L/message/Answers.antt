@@ -1,4 +1,4 @@
-use Rattle.std.proofs.Common.{◌≡◌, ◌∙◌, ap}
+use Rattle.std.proofs.Common.{◌∙◌, ap}
 use Rattle.jp_msg.specs.declared.message.Message.{Message}
 use Rattle.jk_replay.specs.Replaying.{sent_on}
 use Rattle.jk_replay.proofs.Replayed.{message_done}
