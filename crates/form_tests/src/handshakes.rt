@@ -28,8 +28,10 @@ fn answer_to<R: Abort>(rt: &R, alloc: Global, head: &str) -> Option<String> {
 #[test]
 fn requests_that_open_a_channel(rt: HostRuntime) -> Result<(), Fail> {
     let alloc = rt.alloc();
-    let asked = "GET /api HTTP/1.1\r\nUpgrade: websocket\r\nConnection: Upgrade\r\nSec-WebSocket-Version: 13\r\nSec-WebSocket-Key: dGhlIHNhbXBsZSBub25jZQ==\r\n\r\n";
-    let listed = "GET /api HTTP/1.1\r\nUpgrade: WebSocket\r\nConnection: keep-alive, Upgrade\r\nSec-WebSocket-Version: 13\r\nSec-WebSocket-Key: dGhlIHNhbXBsZSBub25jZQ==\r\n\r\n";
+    let asked =
+        "GET /api HTTP/1.1\r\nUpgrade: websocket\r\nConnection: Upgrade\r\nSec-WebSocket-Version: 13\r\nSec-WebSocket-Key: dGhlIHNhbXBsZSBub25jZQ==\r\n\r\n";
+    let listed =
+        "GET /api HTTP/1.1\r\nUpgrade: WebSocket\r\nConnection: keep-alive, Upgrade\r\nSec-WebSocket-Version: 13\r\nSec-WebSocket-Key: dGhlIHNhbXBsZSBub25jZQ==\r\n\r\n";
     for head in [asked, listed] {
         let Some(value) = answer_to(&rt, alloc, head) else {
             panic!(rt; "{head}");
