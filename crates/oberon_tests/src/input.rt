@@ -1,6 +1,8 @@
 use crate::replays::assert_ends;
 use jk_replay::End;
-use server_tests::{cell_line, ended, first_cell, input_line, input_request, joined, stream, whole_cell};
+use server_tests::{
+    cell_line, ended, first_cell, input_line, input_request, joined, stream, whole_cell,
+};
 use std::test::Fail;
 
 const SUMS: &str =

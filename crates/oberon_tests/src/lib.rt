@@ -4,4 +4,10 @@
 #[cfg(test)]
 mod input;
 #[cfg(test)]
+mod modules;
+#[cfg(test)]
+mod programs;
+#[cfg(test)]
 mod replays;
+#[cfg(test)]
+mod sessions;
