@@ -20,13 +20,13 @@ pub enum Begun<S, M> {
 /// A language whose cells run in turns.
 pub trait Language {
     /// What the cells of a kernel hand from each to the next.
-    type Session: Drop + Send;
+    type Session: Drop;
 
     /// A text that was read.
-    type Tree: Drop + Send;
+    type Tree: Drop;
 
     /// A cell that runs.
-    type Machine: Drop + Send;
+    type Machine: Drop;
 
     /// The meaning of texts.
     ghost spoken: { Spoken Self.Session Self.Tree };

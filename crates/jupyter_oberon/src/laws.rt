@@ -13,6 +13,7 @@ ghost use Rattle.jk_world.specs.Counts.{TellCounts};
 ghost use Rattle.jk_world.specs.Requests.{IsShownRight};
 ghost use Rattle.jk_world.specs.Parents.{ParentsFit};
 ghost use Rattle.ob_parse.specs.declared.tree.Cell.{Cell};
+ghost use Rattle.ob_session.specs.Session.{Session};
 ghost use Rattle.ob_cell.specs.Oberon.{spoken_oberon};
 
 use ob_language::Oberon;
@@ -49,7 +50,7 @@ pub fn order_law()
 
 /// The streams of a begun cell are the output of its meaning.
 pub fn streams_law()
-    ensures { (log : Log) (at begun : ℕ) → IsLegal spoken_oberon log
+    ensures { (log : Log) (at : ℕ) (begun : Session) → IsLegal spoken_oberon log
         → begun_in spoken_oberon at log ≡ Some begun → CellIsRight spoken_oberon log at begun }
 {
     jk_world::streams_law::<Oberon>()

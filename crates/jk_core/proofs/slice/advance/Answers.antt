@@ -23,12 +23,12 @@ pub give_line-requires : goal.give_line-requires
 give_line-requires g c = record { asked = c.loop-answer.invariant.came.asks ∙ ap tells_line c.in-NeedsLine.is }
 
 pub turn_to-answer-requires-in-NeedsLine-clause-on : goal.turn_to-answer-requires-in-NeedsLine-clause-on
-turn_to-answer-requires-in-NeedsLine-clause-on g c κs within =
+turn_to-answer-requires-in-NeedsLine-clause-on g c =
     let w = next_work g.L.Language.spoken g.met.L.Language.lawful g.L.Language.state c.args.script.now.state c.loop-answer.script.state c.reserve.new.self.state c.note.new.self.state c.args.limit c.loop-answer.active c.give_line.new.machine c.loop-answer.answer c.give_line.result c.in-NeedsLine.is c.loop-answer.invariant.came (sym c.may_ask.ensures ∙ c.if-may_ask.false) c.reserve.ensures.state c.note.ensures.state (c.give_line.ensures.none refl) c.give_line.ensures.ok in
     w.on
 
 pub turn_to-answer-requires-in-NeedsLine-clause-within : goal.turn_to-answer-requires-in-NeedsLine-clause-within
-turn_to-answer-requires-in-NeedsLine-clause-within g c κs within =
+turn_to-answer-requires-in-NeedsLine-clause-within g c =
     let w = next_work g.L.Language.spoken g.met.L.Language.lawful g.L.Language.state c.args.script.now.state c.loop-answer.script.state c.reserve.new.self.state c.note.new.self.state c.args.limit c.loop-answer.active c.give_line.new.machine c.loop-answer.answer c.give_line.result c.in-NeedsLine.is c.loop-answer.invariant.came (sym c.may_ask.ensures ∙ c.if-may_ask.false) c.reserve.ensures.state c.note.ensures.state (c.give_line.ensures.none refl) c.give_line.ensures.ok in
     w.stands.within
 

@@ -11,19 +11,19 @@ use Rattle.jk_core.proofs.Desks.{is_opened, is_broken, broken_back, is_fresh, sa
 use Rattle.jk_core.proofs.start.start.Goals as goal
 
 pub end_broken-requires-clause-session : goal.end_broken-requires-clause-session
-end_broken-requires-clause-session g c = λ _ _.
+end_broken-requires-clause-session g c =
     let o = is_opened g.L.Language.spoken g.met.L.Language.lawful g.L.Language.state c.args.script.now.state _ c.in-Some.first.now c.in-Some-result.outcome c.args.session (opening.Broken c.in-Broken.session c.in-Broken.refusal) c.requires.kept c.requires.session c.reserve.ensures.state c.in-Some.ensures c.in-Some-result.is
     (subst (λ (o : Opening _ _). (text : List ℕ) → IsResult g.L.Language.spoken text c.in-Some-result.outcome → Opens g.L.Language.spoken g.L.Language.state c.args.session text c.in-Some-result.outcome o) c.in-Broken.is c.in-Ok.ensures.opened) in
     broken_back g.L.Language.spoken g.met.L.Language.lawful g.L.Language.state c.args.script.now.state c.in-Some.first.now c.in-Some-result.outcome c.in-Broken.session c.in-Broken.refusal o ∙ ap (session g.L.Language.spoken) (same_log c.args.script.now.state _ _ c.reserve.ensures.state c.pop_waiting.ensures.rest)
 
 pub end_broken-requires-clause-breaks : goal.end_broken-requires-clause-breaks
-end_broken-requires-clause-breaks g c = λ _ _.
+end_broken-requires-clause-breaks g c =
     let o = is_opened g.L.Language.spoken g.met.L.Language.lawful g.L.Language.state c.args.script.now.state _ c.in-Some.first.now c.in-Some-result.outcome c.args.session (opening.Broken c.in-Broken.session c.in-Broken.refusal) c.requires.kept c.requires.session c.reserve.ensures.state c.in-Some.ensures c.in-Some-result.is
     (subst (λ (o : Opening _ _). (text : List ℕ) → IsResult g.L.Language.spoken text c.in-Some-result.outcome → Opens g.L.Language.spoken g.L.Language.state c.args.session text c.in-Some-result.outcome o) c.in-Broken.is c.in-Ok.ensures.opened) in
     subst (IsBrokenAt g.L.Language.spoken c.in-Some.first.now.at c.in-Broken.refusal) (same_log c.args.script.now.state _ _ c.reserve.ensures.state c.pop_waiting.ensures.rest) (is_broken g.L.Language.spoken g.met.L.Language.lawful g.L.Language.state c.args.script.now.state c.in-Some.first.now c.in-Some-result.outcome c.in-Broken.session c.in-Broken.refusal o)
 
 pub begin-requires-clause-begins : goal.begin-requires-clause-begins
-begin-requires-clause-begins g c = λ _ _.
+begin-requires-clause-begins g c =
     let o = is_opened g.L.Language.spoken g.met.L.Language.lawful g.L.Language.state c.args.script.now.state _ c.in-Some.first.now c.in-Some-result.outcome c.args.session (opening.Runs c.in-Runs.machine) c.requires.kept c.requires.session c.reserve.ensures.state c.in-Some.ensures c.in-Some-result.is
     (subst (λ (o : Opening _ _). (text : List ℕ) → IsResult g.L.Language.spoken text c.in-Some-result.outcome → Opens g.L.Language.spoken g.L.Language.state c.args.session text c.in-Some-result.outcome o) c.in-Runs.is c.in-Ok.ensures.opened) in
     subst (λ (log : Log). (e : Execute) × (execute_at c.in-Some.first.now.at log ≡ Some e) × IsFresh g.L.Language.spoken (session g.L.Language.spoken log) e.code (g.L.Language.state c.in-Runs.machine)) (same_log c.args.script.now.state _ _ c.reserve.ensures.state c.pop_waiting.ensures.rest) (is_fresh g.L.Language.spoken g.met.L.Language.lawful g.L.Language.state c.args.script.now.state c.in-Some.first.now c.in-Some-result.outcome c.in-Runs.machine o)

@@ -6,7 +6,7 @@ use Rattle.jk_core.proofs.taking.take_in.Goals as goal
 use Rattle.jk_core.proofs.taking.take_in.Goals.{in-Join+in-Some-1, in-Join+in-None-1, in-Leave+in-Some-1, in-Leave+in-None-1, in-Interrupt+in-Some-1, in-Interrupt+in-None-1, in-Input, in-Execute+in-Some-1, in-Execute+in-None-1}
 
 pub give-requires-clause-stands : goal.give-requires-clause-stands
-give-requires-clause-stands g c = λ _ _.
+give-requires-clause-stands g c =
     took_quiet g.L.Language.spoken g.met.L.Language.lawful g.L.Language.state sort.Input c.args.arrival c.args.script.now.state c.reserve.new.self.state c.take.new.self.state c.args.desk.now tt c.in-Input.ensures c.reserve.ensures.state c.in_ok-take.ensures.ok c.requires.stands
 
 pub returns-clause-ok : goal.returns-clause-ok
