@@ -1,0 +1,5 @@
+MODULE Mistake;
+  VAR x: INTEGER;
+BEGIN
+  x := TRUE
+END Mistake.
