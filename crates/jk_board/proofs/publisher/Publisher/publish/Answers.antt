@@ -5,8 +5,8 @@ use Rattle.jk_board.specs.Posted.{all_of, EndsWith}
 use Rattle.jk_board.proofs.Growing.{one_pending}
 use Rattle.jk_board.proofs.publisher.Publisher.publish.Goals as goal
 
-pub show_next-copies-requires-after_bounds : goal.show_next-copies-requires-after_bounds
-show_next-copies-requires-after_bounds g c = λ _ _.
+pub show_next-copies-requires : goal.show_next-copies-requires
+show_next-copies-requires g c =
     let more = c.args.entries.items in
     let next : Replace = record { posted = c.in-Ok.posted } in
     one_pending g.L.Language.spoken c.args.self.copies.desk.shown.value c.append.new.self.desk.shown.value next (drop c.args.self.copies.behind c.args.self.copies.log.items) (drop c.append.new.self.behind c.append.new.self.log.items) more
