@@ -1,5 +1,5 @@
 -- What stands beside the script after an arrival.
-use Rattle.std.proofs.Common.{cond, ◌⊎◌, ◌≡◌, ℕ, Bool, true, false, List, [], ◌∷◌, ◌++◌, length, refl, sym, ◌∙◌, ap, subst, Option, None, Some, inl, inr}
+use Rattle.std.proofs.Common.{cond, ◌≡◌, ℕ, ◌+◌, ◌≤◌, Bool, true, false, List, [], ◌∷◌, ◌++◌, length, refl, sym, ◌∙◌, ap, subst, Option, None, Some}
 use Rattle.std.specs.Prelude.{◌&&◌, ◌==◌, not}
 use Rattle.jk_language.specs.Parts.{Line as AsLine}
 use Rattle.jk_language.specs.MachineState.{MachineState}
@@ -15,16 +15,19 @@ use Rattle.jk_core.specs.declared.desk.Place.{Place}
 use Rattle.jk_core.specs.declared.desk.Place.TheVariants.{Resting, Running as Runs}
 use Rattle.jk_core.specs.declared.desk.Desk.{Desk}
 use Rattle.jk_core.specs.declared.mark.Item.TheVariants.{Took, Marked}
-use Rattle.jk_core.specs.declared.mark.Kind.TheVariants.{Interrupt, Join, Leave, Line}
+use Rattle.jk_core.specs.declared.mark.Kind.TheVariants.{Interrupt, Join, KernelInfo, Leave, Line, Restart}
+use Rattle.jp_msg.specs.declared.message.Completeness.{Completeness}
+use Rattle.jk_core.specs.declared.mark.Cause.{Cause}
 use Rattle.jk_core.specs.declared.mark.Cause.TheVariants as cause
-use Rattle.jk_core.specs.Log.{Log, Running, option_at, running, running_with, session, count as count_of, option_with, lined, unread, left, asker, asked_of, input_at}
-use Rattle.jk_core.specs.State.{KernelState, ScriptState}
-use Rattle.jk_core.specs.Steps.{answered, given_to, noted, took, stopped, taken}
-use Rattle.jk_core.specs.Kept.{CanStop, HoldsAt, IsHeld, IsKept, IsLineFor, IsWanting, RunsBy, Stands, WantsAt, line_to, lined_up}
-use Rattle.jk_core.proofs.Keeps.{lined_runs, runs_as, some_same}
+use Rattle.jk_core.specs.Log.{Log, Running, arrivals, option_at, running, running_with, session, count as count_of, option_with, lined, unread, left, asker, asked_of, input_at}
+use Rattle.jk_core.specs.State.{KernelState}
+use Rattle.jk_core.specs.Steps.{aborting, answered, given_to, noted, shut, stops_with, took, stopped, taken}
+use Rattle.jk_core.specs.Kept.{CanStop, HoldsAt, IsHeld, IsKept, IsLineBy, IsLineFor, IsRunBy, IsWanting, RunsBy, Stands, StandsFor, WantsAt, line_to, lined_up, marked_as}
+use Rattle.jk_core.proofs.Keeps.{idle_fails, lined_runs, runs_as, some_same}
 use Rattle.jk_core.proofs.Logs.{input_grows, input_newest}
 use Rattle.jk_core.proofs.Desks.{no_given, wants_grows}
 use Rattle.jk_core.proofs.Turns.{has_more}
+use Rattle.jk_core.proofs.Orders.{waits_few}
 
 -- the cell that asks a seat
 asking_cell : (seat at : ℕ) (log : Log) → asker seat log ≡ Some at → (r : Running) × (running log ≡ Some r) × (r.asked ≡ true) × (r.at ≡ at)
@@ -53,9 +56,9 @@ line_as (Some text) (Some at) seat place log next e same there =
     (cell.0, same ∙ cell.1, cell.2, there)
 
 module _ {S T M : Type 0} (spoken : Spoken S T) (laws : IsLanguage spoken) (state : M → MachineState S) where
-  -- an arrival that is no interrupt changes nothing beside the script
-  took_same : (a : Arrival) (k : KernelState T) (d : Desk S M) → running (took a k).log ≡ running k.log → Stands spoken state k d → Stands spoken state (took a k) d
-  took_same a k d same h = record {
+  -- an arrival that stops no cell changes nothing beside the script
+  took_same : (status : Option Completeness) (a : Arrival) (k : KernelState T) (d : Desk S M) → running (took status a k).log ≡ running k.log → Stands spoken state k d → Stands spoken state (took status a k) d
+  took_same status a k d same h = record {
     count = h.count;
     place = subst (λ (o : Option Running). HoldsAt spoken state (session spoken k.log) o k.ran d.place) (sym same) h.place;
     wants = subst (λ (o : Option Running). WantsAt state (Took a ∷ k.log) o d.place) (sym same) (wants_grows spoken laws state k.log (Took a) (running k.log) d.place h.wants);
@@ -78,14 +81,16 @@ module _ {S T M : Type 0} (spoken : Spoken S T) (laws : IsLanguage spoken) (stat
   unread_fresh None session ran goes q e = no_given None q _ refl e
   unread_fresh (Some r) session ran goes q e = subst (λ (q : Running). q.fresh ≡ []) (some_same (unread r) q e) (goes r refl).texts
 
-  pub can_stop : (a : Arrival) (at : ℕ) (k marked : KernelState T) (d : Desk S M) → sort_as a.what ≡ sort.Interrupt → IsKept spoken k → Stands spoken state k d → marked ≡ noted at Interrupt (took a k) → CanStop spoken state marked d
-  can_stop a at k marked d e kept h m =
-      let runs = runs_as spoken laws sort.Interrupt a k e in
-      subst (λ (k : KernelState T). CanStop spoken state k d) (sym m) (record {
-        count = h.count;
-        place = subst (λ (o : Option Running). HoldsAt spoken state (session spoken k.log) o k.ran d.place) (sym runs) (unread_holds (session spoken k.log) (running k.log) k.ran d.place h.place);
-        read = λ r f. unread_fresh (running k.log) (session spoken k.log) k.ran kept.goes r (sym runs ∙ f);
-      })
+  can_stop : (status : Option Completeness) (a : Arrival) (k : KernelState T) (d : Desk S M) → running (took status a k).log ≡ option_with unread (running k.log) → IsKept spoken k → Stands spoken state k d → CanStop spoken state (took status a k) d
+  can_stop status a k d runs kept h = record {
+    count = h.count;
+    place = subst (λ (o : Option Running). HoldsAt spoken state (session spoken k.log) o k.ran d.place) (sym runs) (unread_holds (session spoken k.log) (running k.log) k.ran d.place h.place);
+    read = λ r f. unread_fresh (running k.log) (session spoken k.log) k.ran kept.goes r (sym runs ∙ f);
+  }
+
+  -- the mark of an interrupt changes nothing of what can be stopped
+  pub stops_marked : (place : ℕ) (k new : KernelState T) (d : Desk S M) → new ≡ noted place Interrupt k → CanStop spoken state k d → CanStop spoken state new d
+  stops_marked place k new d e h = subst (λ (k : KernelState T). CanStop spoken state k d) (sym e) (record { count = h.count; place = h.place; read = h.read })
 
   asks_of : (w : Wants) (log : Log) (r : Running) (m : MachineState S) → IsWanting log w r m → r.asked ≡ true → (r.fresh ≡ []) × (m.asks ≡ true)
   asks_of wants.Nothing log r m h asked = false_true _ (sym h.0 ∙ asked)
@@ -122,36 +127,26 @@ module _ {S T M : Type 0} (spoken : Spoken S T) (laws : IsLanguage spoken) (stat
         wants = (lined (Some text) r, now, has_more r.fresh (Some text), (refl, want.1, text, input_grows k.log (Marked (record { at = a.at; kind = Line (Some text) })) place text there, fresh));
       })
 
-  -- what stands where an arrival was taken that is no interrupt
-  abbrev pub IsQuiet : Sort → Type 0
-  IsQuiet sort.Join = Unit {0}
-  IsQuiet sort.Leave = Unit {0}
-  IsQuiet sort.Execute = Unit {0}
-  IsQuiet sort.Input = Unit {0}
-  IsQuiet sort.Other = Unit {0}
-  IsQuiet sort.Interrupt = ⊥
+  took_quiet : (status : Option Completeness) (s : Sort) (a : Arrival) (k : KernelState T) (d : Desk S M) → s ≡ sort_as a.what → running_with s (running k.log) ≡ running k.log → Stands spoken state k d → Stands spoken state (took status a k) d
+  took_quiet status s a k d is same h = took_same status a k d (runs_as spoken laws status s a k (sym is) ∙ same) h
 
-  quiet_runs : (s : Sort) (o : Option Running) → IsQuiet s → running_with s o ≡ o
-  quiet_runs sort.Join o q = refl
-  quiet_runs sort.Leave o q = refl
-  quiet_runs sort.Execute o q = refl
-  quiet_runs sort.Input o q = refl
-  quiet_runs sort.Other o q = refl
-  quiet_runs sort.Interrupt o q = absurd q
+  -- what stands where an arrival was taken
+  stands_for : (status : Option Completeness) (s : Sort) (a : Arrival) (k : KernelState T) (d : Desk S M) → s ≡ sort_as a.what → IsKept spoken k → Stands spoken state k d → StandsFor spoken state s (took status a k) d
+  stands_for status sort.Join a k d is kept h = took_quiet status sort.Join a k d is refl h
+  stands_for status sort.Leave a k d is kept h = took_quiet status sort.Leave a k d is refl h
+  stands_for status sort.Execute a k d is kept h = took_quiet status sort.Execute a k d is refl h
+  stands_for status sort.Query a k d is kept h = took_quiet status sort.Query a k d is refl h
+  stands_for status sort.Input a k d is kept h = took_quiet status sort.Input a k d is refl h
+  stands_for status sort.KernelInfo a k d is kept h = took_quiet status sort.KernelInfo a k d is refl h
+  stands_for status sort.Other a k d is kept h = took_quiet status sort.Other a k d is refl h
+  stands_for status sort.Interrupt a k d is kept h = can_stop status a k d (runs_as spoken laws status sort.Interrupt a k (sym is)) kept h
+  stands_for status (sort.Shutdown restart) a k d is kept h = can_stop status a k d (runs_as spoken laws status (sort.Shutdown restart) a k (sym is)) kept h
 
-  pub took_quiet : (s : Sort) (a : Arrival) (old got new : KernelState T) (d : Desk S M) → IsQuiet s → s ≡ sort_as a.what → got ≡ old → new ≡ took a got → Stands spoken state old d → Stands spoken state new d
-  took_quiet s a old got new d q e g t h =
-      subst (λ (k : KernelState T). Stands spoken state k d) (sym (t ∙ ap (took a) g))
-      (took_same a old d (runs_as spoken laws s a old (sym e) ∙ quiet_runs s (running old.log) q) h)
+  pub took_stands : (status : Option Completeness) (s : Sort) (a : Arrival) (old got mid : KernelState T) (d : Desk S M) → s ≡ sort_as a.what → got ≡ old → mid ≡ took status a got → IsKept spoken old → Stands spoken state old d → StandsFor spoken state s mid d
+  took_stands status s a old got mid d is g t kept h =
+      subst (λ (k : KernelState T). StandsFor spoken state s k d) (sym (t ∙ ap (took status a) g)) (stands_for status s a old d is kept h)
 
-  pub took_dropped : (s : Sort) (a : Arrival) (old got new : KernelState T) (d : Desk S M) → (s ≡ sort.Execute) ⊎ (s ≡ sort.Other) → s ≡ sort_as a.what → got ≡ old → new ≡ took a got → Stands spoken state old d → Stands spoken state new d
-  took_dropped s a old got new d (inl e) is g t h = took_quiet sort.Execute a old got new d tt (sym e ∙ is) g t h
-  took_dropped s a old got new d (inr e) is g t h = took_quiet sort.Other a old got new d tt (sym e ∙ is) g t h
-
-  pub moved : (s s' : ScriptState T) (d d' : Desk S M) → s ≡ s' → d ≡ d' → Stands spoken state s'.state d' → Stands spoken state s.state d
-  moved s s' d d' e f h =
-      subst (λ (x : ScriptState T). Stands spoken state x.state d) (sym e) (subst (λ (x : Desk S M). Stands spoken state s'.state x) (sym f) h)
-
+  -- a mark for an arrival that stops no cell changes nothing beside the script
   pub joined_stands : (place : ℕ) (k new : KernelState T) (d : Desk S M) → new ≡ noted place Join k → Stands spoken state k d → Stands spoken state new d
   joined_stands place k new d e h = subst (λ (k : KernelState T). Stands spoken state k d) (sym e)
       (record { count = h.count; place = h.place; wants = wants_grows spoken laws state k.log (Marked (record { at = place; kind = Join })) (running k.log) d.place h.wants })
@@ -160,24 +155,35 @@ module _ {S T M : Type 0} (spoken : Spoken S T) (laws : IsLanguage spoken) (stat
   left_stands place k new d e h = subst (λ (k : KernelState T). Stands spoken state k d) (sym e)
       (record { count = h.count; place = h.place; wants = wants_grows spoken laws state k.log (Marked (record { at = place; kind = Leave })) (running k.log) d.place h.wants })
 
+  pub info_stands : (place : ℕ) (k new : KernelState T) (d : Desk S M) → new ≡ noted place KernelInfo k → Stands spoken state k d → Stands spoken state new d
+  info_stands place k new d e h = subst (λ (k : KernelState T). Stands spoken state k d) (sym e)
+      (record { count = h.count; place = h.place; wants = wants_grows spoken laws state k.log (Marked (record { at = place; kind = KernelInfo })) (running k.log) d.place h.wants })
+
+  -- whether the error of the cell that runs aborts what waits
+  pub stops_of : (session : S) (o : Option Running) (ran : ℕ) (a : Active M) → IsRunBy spoken state session o ran a → a.stops ≡ stops_with o
+  stops_of session o ran a h = h.of.stops ∙ ap stops_with (sym h.runs)
+
+  stopped_idle : (why : Cause) (o : Option Running) (k : KernelState T) → running k.log ≡ o → running (stopped why o k).log ≡ None
+  stopped_idle why None k e = e
+  stopped_idle why (Some r) k e = refl
+
+  -- after a shutdown
+  pub shut_stands : (old mid over new : KernelState T) (d : Desk S M) (place : ℕ) (restart : Bool) (s : S) → mid ≡ stopped cause.Restarted (running old.log) old → over ≡ aborting mid.waits mid → new ≡ noted place (Restart restart) over → s ≡ spoken.opening → Stands spoken state new (record d { count = 0; place = Resting s })
+  shut_stands old mid over new d place restart s m a e opens =
+      let idle : running mid.log ≡ None = ap (λ (k : KernelState T). running k.log) m ∙ stopped_idle cause.Restarted (running old.log) old refl in
+      let none : running over.log ≡ None = ap (λ (k : KernelState T). running k.log) a ∙ idle_fails true mid idle in
+      subst (λ (k : KernelState T). Stands spoken state k (record d { count = 0; place = Resting s })) (sym e) (record { count = refl; place = (none, opens); wants = tt })
+
 module _ {T : Type 0} where
-  -- an arrival is taken, by its sort
-  pub join_taken : (a : Arrival) (place : ℕ) (old got mid new : KernelState T) → got ≡ old → mid ≡ took a got → place ≡ length got.log → sort.Join ≡ sort_as a.what → new ≡ noted place Join mid → new ≡ taken a old
-  join_taken a place old got mid new g t at is e =
-      e ∙ ap (noted place Join) t ∙ ap (λ (p : ℕ). noted p Join (took a got)) at ∙ ap (λ (s : Sort). answered s a got.log (took a got)) is ∙ ap (taken a) g
+  -- an arrival adds at most one to what waits
+  pub took_few : (status : Option Completeness) (a : Arrival) (old got mid : KernelState T) → got ≡ old → mid ≡ took status a got → length mid.waits ≤ length old.waits + 1
+  took_few status a old got mid g t =
+      subst (λ (k : KernelState T). length k.waits ≤ length old.waits + 1) (sym (t ∙ ap (took status a) g)) (waits_few status (sort_as a.what) (length old.log) (arrivals old.log + 1) old.waits)
 
-  pub leave_taken : (a : Arrival) (place : ℕ) (old got mid new : KernelState T) → got ≡ old → mid ≡ took a got → place ≡ length got.log → sort.Leave ≡ sort_as a.what → new ≡ noted place Leave mid → new ≡ taken a old
-  leave_taken a place old got mid new g t at is e =
-      e ∙ ap (noted place Leave) t ∙ ap (λ (p : ℕ). noted p Leave (took a got)) at ∙ ap (λ (s : Sort). answered s a got.log (took a got)) is ∙ ap (taken a) g
-
-  pub interrupt_taken : (a : Arrival) (place : ℕ) (old got mid marked new : KernelState T) → got ≡ old → mid ≡ took a got → place ≡ length got.log → sort.Interrupt ≡ sort_as a.what → marked ≡ noted place Interrupt mid → new ≡ stopped cause.Interrupted (running marked.log) marked → new ≡ taken a old
-  interrupt_taken a place old got mid marked new g t at is m e =
-      let made : marked ≡ noted (length got.log) Interrupt (took a got) = m ∙ ap (noted place Interrupt) t ∙ ap (λ (p : ℕ). noted p Interrupt (took a got)) at in
-      e ∙ ap (λ (k : KernelState T). stopped cause.Interrupted (running k.log) k) made ∙ ap (λ (s : Sort). answered s a got.log (took a got)) is ∙ ap (taken a) g
-
-  pub dropped_taken : (s : Sort) (a : Arrival) (old got mid new : KernelState T) → (s ≡ sort.Execute) ⊎ (s ≡ sort.Other) → s ≡ sort_as a.what → got ≡ old → mid ≡ took a got → new ≡ mid → new ≡ taken a old
-  dropped_taken s a old got mid new (inl e) is g t f = f ∙ t ∙ ap (λ (s : Sort). answered s a got.log (took a got)) (sym e ∙ is) ∙ ap (taken a) g
-  dropped_taken s a old got mid new (inr e) is g t f = f ∙ t ∙ ap (λ (s : Sort). answered s a got.log (took a got)) (sym e ∙ is) ∙ ap (taken a) g
+  -- what a shutdown comes to
+  pub shut_as : (old mid over new : KernelState T) (place : ℕ) (restart : Bool) → mid ≡ stopped cause.Restarted (running old.log) old → mid.waits ≡ old.waits → over ≡ aborting mid.waits mid → new ≡ noted place (Restart restart) over → new ≡ shut place restart (running old.log) old
+  shut_as old mid over new place restart m w a e =
+      e ∙ ap (noted place (Restart restart)) (a ∙ ap (λ (ws : List _). aborting ws mid) w ∙ ap (aborting old.waits) m)
 
   lined_as : (line : Option (List ℕ)) (ask : Option ℕ) (seat : ℕ) (log : Log) (k : KernelState T) → asker seat log ≡ ask → running k.log ≡ running log → lined_up (line_to line ask) (running k.log) k ≡ given_to line ask k
   lined_as None ask seat log k e same = refl
@@ -186,19 +192,40 @@ module _ {T : Type 0} where
       let cell = asking_cell seat at log e in
       ap (λ (o : Option Running). lined_up (Some text) o k) (same ∙ cell.1) ∙ ap (λ (n : ℕ). noted n (Line (Some text)) k) cell.3
 
-  pub input_taken : (a : Arrival) (line : Option (List ℕ)) (old got mid new : KernelState T) → got ≡ old → mid ≡ took a got → running (took a got).log ≡ running got.log → line ≡ line_to (input_in a.what) (asker a.seat got.log) → sort.Input ≡ sort_as a.what → new ≡ lined_up line (running mid.log) mid → new ≡ taken a old
-  input_taken a line old got mid new g t same l is e =
-      e ∙ ap (λ (k : KernelState T). lined_up line (running k.log) k) t
-      ∙ ap (λ (line : Option (List ℕ)). lined_up line (running (took a got).log) (took a got)) l
-      ∙ lined_as (input_in a.what) (asker a.seat got.log) a.seat got.log (took a got) refl same
-      ∙ ap (λ (s : Sort). answered s a got.log (took a got)) is ∙ ap (taken a) g
-
-  pub line_for : (a : Arrival) (line : Option (List ℕ)) (place : ℕ) (got mid : KernelState T) → mid ≡ took a got → running (took a got).log ≡ running got.log → place ≡ length got.log → line ≡ line_to (input_in a.what) (asker a.seat got.log) → IsLineFor mid.log place line
-  line_for a line place got mid t same at l =
-      subst (λ (k : KernelState T). IsLineFor k.log place line) (sym t)
-      (subst (IsLineFor (Took a ∷ got.log) place) (sym l)
-      (line_as (input_in a.what) (asker a.seat got.log) a.seat place got.log (Took a ∷ got.log) refl same (ap (λ (p : ℕ). input_at p (Took a ∷ got.log)) at ∙ input_newest got.log a)))
-
 module _ {S T : Type 0} (spoken : Spoken S T) (laws : IsLanguage spoken) where
-  pub input_runs : (a : Arrival) (k : KernelState T) → sort.Input ≡ sort_as a.what → running (took a k).log ≡ running k.log
-  input_runs a k e = runs_as spoken laws sort.Input a k (sym e)
+  -- the marks of an arrival, by its sort
+  as_answered : (status : Option Completeness) (s : Sort) (a : Arrival) (k : KernelState T) → s ≡ sort_as a.what → marked_as s (length k.log) (line_to (input_in a.what) (asker a.seat k.log)) (took status a k) ≡ answered s a k.log (took status a k)
+  as_answered status sort.Join a k is = refl
+  as_answered status sort.Leave a k is = refl
+  as_answered status sort.Execute a k is = refl
+  as_answered status sort.Query a k is = refl
+  as_answered status sort.Interrupt a k is = refl
+  as_answered status sort.KernelInfo a k is = refl
+  as_answered status (sort.Shutdown restart) a k is = refl
+  as_answered status sort.Other a k is = refl
+  as_answered status sort.Input a k is =
+      lined_as (input_in a.what) (asker a.seat k.log) a.seat k.log (took status a k) refl (runs_as spoken laws status sort.Input a k (sym is))
+
+  pub marked_taken : (status : Option Completeness) (s : Sort) (a : Arrival) (place : ℕ) (line : Option (List ℕ)) (old got mid new : KernelState T) → s ≡ sort_as a.what → got ≡ old → mid ≡ took status a got → place ≡ length got.log → line ≡ line_to (input_in a.what) (asker a.seat got.log) → new ≡ marked_as s place line mid → new ≡ taken status a old
+  marked_taken status s a place line old got mid new is g t at l e =
+      e ∙ ap (marked_as s place line) t ∙ ap (λ (p : ℕ). marked_as s p line (took status a got)) at
+      ∙ ap (λ (line : Option (List ℕ)). marked_as s (length got.log) line (took status a got)) l
+      ∙ as_answered status s a got is ∙ ap (λ (s : Sort). answered s a got.log (took status a got)) is ∙ ap (taken status a) g
+
+  line_by : (status : Option Completeness) (s : Sort) (a : Arrival) (k : KernelState T) → s ≡ sort_as a.what → IsLineBy s (took status a k).log (length k.log) (line_to (input_in a.what) (asker a.seat k.log))
+  line_by status sort.Input a k is =
+      line_as (input_in a.what) (asker a.seat k.log) a.seat (length k.log) k.log (Took a ∷ k.log) refl (runs_as spoken laws status sort.Input a k (sym is)) (input_newest k.log a)
+  line_by status sort.Join a k is = tt
+  line_by status sort.Leave a k is = tt
+  line_by status sort.Execute a k is = tt
+  line_by status sort.Query a k is = tt
+  line_by status sort.Interrupt a k is = tt
+  line_by status sort.KernelInfo a k is = tt
+  line_by status (sort.Shutdown restart) a k is = tt
+  line_by status sort.Other a k is = tt
+
+  pub line_for : (status : Option Completeness) (s : Sort) (a : Arrival) (line : Option (List ℕ)) (place : ℕ) (got mid : KernelState T) → s ≡ sort_as a.what → mid ≡ took status a got → place ≡ length got.log → line ≡ line_to (input_in a.what) (asker a.seat got.log) → IsLineBy s mid.log place line
+  line_for status s a line place got mid is t at l =
+      subst (λ (k : KernelState T). IsLineBy s k.log place line) (sym t)
+      (subst (λ (p : ℕ). IsLineBy s (Took a ∷ got.log) p line) (sym at)
+      (subst (IsLineBy s (Took a ∷ got.log) (length got.log)) (sym l) (line_by status s a got is)))

@@ -1,6 +1,6 @@
 -- What stands beside the script is what the log answers.
-use Rattle.std.proofs.Common.{◌≡◌, ◌≢◌, ℕ, ◌≤◌, Bool, true, false, List, [], ◌∷◌, ◌++◌, length, drop, refl, sym, ◌∙◌, ap, subst, arith, Option, None, Some, Result, Ok, Err, OnOk, IfErr, inl, inr}
-use Rattle.std.specs.Prelude.{IsTrue}
+use Rattle.std.proofs.Common.{◌⊎◌, ◌≡◌, ◌≢◌, ℕ, ◌≤◌, Bool, true, false, List, [], ◌∷◌, ◌++◌, length, drop, refl, sym, ◌∙◌, ap, subst, arith, Option, None, Some, Result, Ok, Err, OnOk, IfErr, inl, inr}
+use Rattle.std.specs.Prelude.{IsTrue, find}
 use Rattle.std.proofs.lemmas.List.{append-nil}
 use Rattle.jk_language.specs.declared.outcome.Refusal.{Refusal}
 use Rattle.jk_language.specs.Parts.{Line as AsLine, Meaning}
@@ -26,20 +26,22 @@ use Rattle.jk_core.specs.declared.job.Parsed.TheVariants as parsed
 use Rattle.jk_core.specs.Results.{IsResult}
 use Rattle.jk_core.specs.declared.mark.Item.{Item}
 use Rattle.jk_core.specs.declared.mark.Item.TheVariants.{Marked}
-use Rattle.jk_core.specs.declared.mark.Kind.TheVariants.{Abort, Ask, Begin, End, Flush, Refuse, Stop}
+use Rattle.jk_core.specs.declared.mark.Kind.TheVariants.{Abort, Answer, Ask, Begin, End, Flush, Refuse, Stop}
 use Rattle.jk_core.specs.declared.mark.Ending.TheVariants as ending
 use Rattle.jk_core.specs.declared.mark.Cause.{Cause}
 use Rattle.jk_core.specs.declared.mark.Cause.TheVariants as cause
 use Rattle.jk_core.specs.declared.kernel.Work.{Work}
 use Rattle.jk_core.specs.declared.kernel.Work.TheVariants as work
 use Rattle.jk_core.specs.declared.script.Waiting.{Waiting}
+use Rattle.jk_core.specs.declared.script.Task.{Task}
+use Rattle.jk_core.specs.declared.script.Task.TheVariants.{Cell, Query}
 use Rattle.jk_core.specs.Log.{Log, Running, running, session, count as count_of, meaning, shown_in, stood_in, next_count, option_or, option_with, opened, flushed_at, asking, left, execute_at, seat_at}
 use Rattle.jk_core.specs.Legal.{IsLineless, MayAsk}
-use Rattle.jk_core.specs.State.{KernelState, first_of}
-use Rattle.jk_core.specs.Steps.{allows_at, begun, broken, closed, failing, flushed as flushed_to, gone_on, has_lines, limit, noted, sliced, written, written_out, stopped, stops_at, taken, with_waits, BeginsAt, Closes, GoesOn, GoesWithout, IsBrokenAt, Starts, StartsFirst}
-use Rattle.jk_core.specs.Kept.{HoldsAt, IsKept, IsOf, IsResultOf, IsRunBy, IsWanting, Opens, Stands, WantsAt, AllWait, IsWaiting}
+use Rattle.jk_core.specs.State.{KernelState, first_of, is_cell}
+use Rattle.jk_core.specs.Steps.{allows_at, answering, begun, closing, broken, closed, failing, flushed as flushed_to, gone_on, has_lines, limit, noted, sliced, written, written_out, stopped, stops_at, with_waits, BeginsAt, Closes, GoesOn, GoesWithout, IsBrokenAt, Starts, StartsAs, StartsFirst, Takes}
+use Rattle.jk_core.specs.Kept.{HoldsAt, IsKept, IsOf, IsRunBy, IsWanting, Opens, Stands, WantsAt, AllWait, IsCellAt, IsTaskAt}
 use Rattle.jk_core.specs.Slices.{HasAsked, HasCome, IsAtWork, may_ask}
-use Rattle.jk_core.proofs.Keeps.{failing_moves, flushed_runs, asking_runs, no_lines, meaning_shown, silent_slice, kept-taken, some_same, stops_same}
+use Rattle.jk_core.proofs.Keeps.{answering_going, answering_idle, answering_moves, answering_waits, failing_moves, first_found, flushed_runs, asking_runs, no_lines, meaning_shown, silent_slice, kept-takes, some_same, stops_same}
 use Rattle.jk_core.proofs.Logs.{input_grows}
 use Rattle.jk_core.proofs.Turns.{count_same, lacks, law_of, may_by, not_lineless, not_stopped, ran_same, seat_left, stood_at}
 
@@ -71,13 +73,12 @@ module _ {T : Type 0} where
       ap (λ (x : ℕ). closed answer x b t n k) e ∙ ap (λ (x : Bool). closed answer at' x t n k) f ∙ ap (λ (x : ℕ). closed answer at' b' x n k) g
       ∙ ap (λ (x : ℕ). closed answer at' b' t' x k) h ∙ ap (closed answer at' b' t' n') i
 
-  stop_same : (at at' turns turns' : ℕ) (why : Cause) (n n' : ℕ) (b b' : Bool) (text : List ℕ) (k : KernelState T) → at ≡ at' → turns ≡ turns' → n ≡ n' → b ≡ b' → text ≡ [] → failing b (noted at (Stop turns why n) (noted at (Flush turns text) k)) ≡ failing b' (noted at' (Stop turns' why n') (noted at' (Flush turns' []) k))
-  stop_same at at' turns turns' why n n' b b' text k e f g h i =
-      ap (λ (x : ℕ). failing b (noted x (Stop turns why n) (noted x (Flush turns text) k))) e
-      ∙ ap (λ (x : ℕ). failing b (noted at' (Stop x why n) (noted at' (Flush x text) k))) f
-      ∙ ap (λ (x : ℕ). failing b (noted at' (Stop turns' why x) (noted at' (Flush turns' text) k))) g
-      ∙ ap (λ (x : Bool). failing x (noted at' (Stop turns' why n') (noted at' (Flush turns' text) k))) h
-      ∙ ap (λ (x : List ℕ). failing b' (noted at' (Stop turns' why n') (noted at' (Flush turns' x) k))) i
+  stop_same : (at at' turns turns' : ℕ) (why : Cause) (n n' : ℕ) (text : List ℕ) (k : KernelState T) → at ≡ at' → turns ≡ turns' → n ≡ n' → text ≡ [] → noted at (Stop turns why n) (noted at (Flush turns text) k) ≡ noted at' (Stop turns' why n') (noted at' (Flush turns' []) k)
+  stop_same at at' turns turns' why n n' text k e f g i =
+      ap (λ (x : ℕ). noted x (Stop turns why n) (noted x (Flush turns text) k)) e
+      ∙ ap (λ (x : ℕ). noted at' (Stop x why n) (noted at' (Flush x text) k)) f
+      ∙ ap (λ (x : ℕ). noted at' (Stop turns' why x) (noted at' (Flush turns' text) k)) g
+      ∙ ap (λ (x : List ℕ). noted at' (Stop turns' why n') (noted at' (Flush turns' x) k)) i
 
   pub none_stops : (k : KernelState T) (why : Cause) → running k.log ≡ None → k ≡ stopped why (running k.log) k
   none_stops k why e = rw e refl
@@ -111,19 +112,27 @@ module _ {S T M : Type 0} (spoken : Spoken S T) (laws : IsLanguage spoken) (stat
   wants_grows log e o (Resting s) h = tt
   wants_grows log e o (Runs a) (r, runs, read, w) = (r, runs, read, wanting_grows a.wants log e r (state a.machine) w)
 
-  -- aborting changes nothing beside the script
-  abort_stands : (at : ℕ) (k : KernelState T) (d : Desk S M) → Stands spoken state k d → Stands spoken state (noted at Abort k) d
-  abort_stands at k d h = record { count = h.count; place = h.place; wants = wants_grows k.log (Marked (record { at = at; kind = Abort })) (running k.log) d.place h.wants }
+  -- aborting and answering change nothing beside the script
+  abort_stands : (at : ℕ) (t : Task T) (k : KernelState T) (d : Desk S M) → Stands spoken state k d → Stands spoken state (noted at (closing t) k) d
+  abort_stands at (Cell result) k d h = record { count = h.count; place = h.place; wants = wants_grows k.log (Marked (record { at = at; kind = Abort })) (running k.log) d.place h.wants }
+  abort_stands at (Query status) k d h = record { count = h.count; place = h.place; wants = wants_grows k.log (Marked (record { at = at; kind = Answer status })) (running k.log) d.place h.wants }
 
   stands_failing : (b : Bool) (k : KernelState T) (d : Desk S M) → Stands spoken state k d → Stands spoken state (failing b k) d
-  stands_failing b k d h = failing_moves (λ k. Stands spoken state k d) (λ at k h. abort_stands at k d h) (λ ws k h. record { count = h.count; place = h.place; wants = h.wants }) b k h
+  stands_failing b k d h = failing_moves (λ k. Stands spoken state k d) (λ at t k h. abort_stands at t k d h) (λ ws k h. record { count = h.count; place = h.place; wants = h.wants }) b k h
+
+  stands_answers : (ws : List (Waiting T)) (k : KernelState T) (d : Desk S M) → Stands spoken state k d → Stands spoken state (answering ws k) d
+  stands_answers ws k d h = answering_moves (λ k. Stands spoken state k d) (λ at status k h. abort_stands at (Query status) k d h) (λ ws k h. record { count = h.count; place = h.place; wants = h.wants }) ws k h
+
+  pub stands_answered : (old new : KernelState T) (d : Desk S M) → (new ≡ old) ⊎ (new ≡ answering old.waits old) → Stands spoken state old d → Stands spoken state new d
+  stands_answered old new d (inl e) h = subst (λ (k : KernelState T). Stands spoken state k d) (sym e) h
+  stands_answered old new d (inr e) h = subst (λ (k : KernelState T). Stands spoken state k d) (sym e) (stands_answers old.waits old d h)
 
   pub stands_fails : (b : Bool) (k fin : KernelState T) (d : Desk S M) → fin ≡ failing b k → Stands spoken state k d → Stands spoken state fin d
   stands_fails b k fin d e h = subst (λ (k : KernelState T). Stands spoken state k d) (sym e) (stands_failing b k d h)
 
   -- an arrival that was handed back has changed nothing
-  pub kept_by : {B : Type 0} (P : B → Type 0) (a : Arrival) (old new : KernelState T) (r : Result (Unit {0}) B) → IsKept spoken old → OnOk r (new ≡ taken a old) → IfErr r (λ back. P back × (new ≡ old)) → IsKept spoken new
-  kept_by P a old new (Ok u) kept e f = rw e (kept-taken spoken laws a old kept)
+  pub kept_by : {B : Type 0} (P : B → Type 0) (a : Arrival) (old new : KernelState T) (r : Result (Unit {0}) B) → IsKept spoken old → OnOk r (Takes spoken a old new) → IfErr r (λ back. P back × (new ≡ old)) → IsKept spoken new
+  kept_by P a old new (Ok u) kept e f = kept-takes spoken laws a old new kept e
   kept_by P a old new (Err back) kept e f = rw f.1 kept
 
   -- the end of a slice, as the log tells it
@@ -360,10 +369,10 @@ module _ {S T M : Type 0} (spoken : Spoken S T) (laws : IsLanguage spoken) (stat
       (ec ∙ dc ∙ sym (count_same spoken s.nones n s.first old s.cell k s.without), place, ended_session k.log s.cell t _ s.runs left))
 
   -- what stopping comes to
-  pub stop_moves : (k one two new : KernelState T) (d : Desk S M) (a : Active M) (turns n : ℕ) (text : List ℕ) (why : Cause) → d.count ≡ count_of k.log → IsRunBy spoken state (session spoken k.log) (running k.log) k.ran a → turns ≡ (state a.machine).turns → text ≡ [] → n ≡ d.count → one ≡ noted a.at (Flush turns text) k → two ≡ noted a.at (Stop turns why n) one → new ≡ failing a.stops two → new ≡ stopped why (running k.log) k
-  stop_moves k one two new d a turns n text why counted h u t c b1 b2 b3 =
-      b3 ∙ ap (failing a.stops) (b2 ∙ ap (λ (k : KernelState T). noted a.at (Stop turns why n) k) b1)
-      ∙ stop_same a.at h.cell.at turns k.ran why n _ a.stops h.cell.request.stop_on_error text k h.of.at (u ∙ h.turns) (c ∙ counted) h.of.stops t
+  pub stop_moves : (k one two : KernelState T) (d : Desk S M) (a : Active M) (turns n : ℕ) (text : List ℕ) (why : Cause) → d.count ≡ count_of k.log → IsRunBy spoken state (session spoken k.log) (running k.log) k.ran a → turns ≡ (state a.machine).turns → text ≡ [] → n ≡ d.count → one ≡ noted a.at (Flush turns text) k → two ≡ noted a.at (Stop turns why n) one → two ≡ stopped why (running k.log) k
+  stop_moves k one two d a turns n text why counted h u t c b1 b2 =
+      b2 ∙ ap (λ (k : KernelState T). noted a.at (Stop turns why n) k) b1
+      ∙ stop_same a.at h.cell.at turns k.ran why n _ text k h.of.at (u ∙ h.turns) (c ∙ counted) t
       ∙ ap (λ (o : Option Running). stopped why o k) (sym h.runs)
 
   pub stop_stands : (k new : KernelState T) (d : Desk S M) (a : Active M) (s : S) (why : Cause) → d.count ≡ count_of k.log → IsRunBy spoken state (session spoken k.log) (running k.log) k.ran a → ((r : Running) → running k.log ≡ Some r → r.fresh ≡ []) → new ≡ stopped why (running k.log) k → s ≡ (here (state a.machine)).session → Stands spoken state new (record d { place = Resting s })
@@ -373,16 +382,8 @@ module _ {S T M : Type 0} (spoken : Spoken S T) (laws : IsLanguage spoken) (stat
       let told : s ≡ (meaning spoken k.log r k.ran).session = f ∙ ap (λ (p : Meaning S). p.session) (h.machine.goes (state a.machine).lines (state a.machine).turns
       ∙ ap (λ (ls : List AsLine). spoken.cell (session spoken k.log) r.request.code ls (state a.machine).turns) (h.lines ∙ sym (ap (λ (fresh : List AsLine). r.lines ++ fresh) fresh ∙ append-nil r.lines))
       ∙ ap (meaning spoken k.log r) h.turns) in
-      stands_fails r.request.stop_on_error (noted r.at (Stop k.ran why (count_of k.log)) (noted r.at (Flush k.ran []) k)) new (record d { place = Resting s })
-      (e ∙ ap (λ (o : Option Running). stopped why o k) h.runs)
+      subst (λ (k : KernelState T). Stands spoken state k (record d { place = Resting s })) (sym (e ∙ ap (λ (o : Option Running). stopped why o k) h.runs))
       (record { count = counted; place = (refl, ended_session k.log r k.ran s h.runs told); wants = tt })
-
-  pub first_wait : (log : Log) (ws : List (Waiting T)) (w : Waiting T) → AllWait spoken log ws → Some w ≡ first_of ws → IsWaiting spoken log w
-  first_wait log [] w all e = none_first w _ e
-    where
-      none_first : (w : Waiting T) (P : Type 0) → Some w ≡ None → P
-      none_first w P e = cc
-  first_wait log (v ∷ ws) w all e = subst (IsWaiting spoken log) (sym (some_same w v e)) all.0
 
   -- the machine of a cell that was begun
   pub begin_runs : (turns : ℕ) (k mid : KernelState T) (at n : ℕ) (a : Active M) (b : (e : Execute) × (execute_at at k.log ≡ Some e) × IsFresh spoken (session spoken k.log) e.code (state a.machine)) → a.at ≡ at → a.seat ≡ seat_at at k.log → a.stops ≡ stops_at at k.log → a.allows ≡ allows_at at k.log → a.wants ≡ wants.Nothing → a.read ≡ false → mid ≡ noted at (Begin n) k → IsAtWork spoken state mid mid (limit turns mid) a
@@ -429,16 +430,57 @@ module _ {S T M : Type 0} (spoken : Spoken S T) (laws : IsLanguage spoken) (stat
       stands_fails (stops_at at k.log) (noted at (End (ending.Refused refusal) (next_count at k.log)) (noted at (Flush 0 []) (begun at k))) new (record d { count = n; place = Resting s }) b
       (record { count = c; place = (refl, e ∙ refused_session (session spoken k.log) at (seat_at at k.log) (execute_at at k.log) refusal wrong.request wrong.there wrong.breaks); wants = tt })
 
-  -- the first that waits, what came of reading it, and what comes of that
+  -- the first cell that waits, what came of reading it, and what comes of that
   pub record IsOpened (k : KernelState T) (w : Waiting T) (outcome : Parsed T) (o : Opening S M) : Type 0 where
-    pub wait : IsWaiting spoken k.log w
+    pub wait : IsCellAt spoken k.log w.at (Some outcome)
     pub opens : Opens spoken state (session spoken k.log) wait.request.code outcome o
 
-  pub is_opened : (old got : KernelState T) (w : Waiting T) (outcome : Parsed T) (s : S) (o : Opening S M) → IsKept spoken old → s ≡ session spoken old.log → got ≡ old → Some w ≡ first_of got.waits → w.result ≡ Some outcome → ((text : List ℕ) → IsResult spoken text outcome → Opens spoken state s text outcome o) → IsOpened old w outcome o
-  is_opened old got w outcome s o kept e g f r opens =
-      let wait = first_wait old.log old.waits w kept.going.wait (subst (λ (k : KernelState T). Some w ≡ first_of k.waits) g f) in
-      let right : IsResult spoken wait.request.code outcome = subst (IsResultOf spoken wait.request.code) r wait.result in
-      record { wait = wait; opens = subst (λ (s : S). Opens spoken state s wait.request.code outcome o) e (opens wait.request.code right) }
+  first_task : (log : Log) (ws : List (Waiting T)) (w : Waiting T) → AllWait spoken log ws → Some w ≡ first_of ws → IsTaskAt spoken log w.at w.task
+  first_task log [] w all e = none_first w _ e
+    where
+      none_first : (w : Waiting T) (P : Type 0) → Some w ≡ None → P
+      none_first w P e = cc
+  first_task log (v ∷ ws) w all e = subst (λ (w : Waiting T). IsTaskAt spoken log w.at w.task) (sym (some_same w v e)) all.0
+
+  -- the first cell is first once the queries before it are answered
+  pub found_now : (old : KernelState T) (w : Waiting T) → Some w ≡ find (λ (w : Waiting T). is_cell w.task) old.waits → Some w ≡ first_of (answering old.waits old).waits
+  found_now old w e = e ∙ sym (first_found old.waits) ∙ ap first_of (sym (answering_waits old.waits old refl))
+
+  pub same_session : (old : KernelState T) → session spoken (answering old.waits old).log ≡ session spoken old.log
+  same_session old = answering_moves (λ k. session spoken k.log ≡ session spoken old.log) (λ at status k h. h) (λ ws k h. h) old.waits old refl
+
+  pub same_count : (old : KernelState T) → count_of (answering old.waits old).log ≡ count_of old.log
+  same_count old = answering_moves (λ k. count_of k.log ≡ count_of old.log) (λ at status k h. h) (λ ws k h. h) old.waits old refl
+
+  -- the state from which the first cell starts: the queries before it are answered, and it waits no more
+  pub record IsPopped (old popped : KernelState T) : Type 0 where
+    pub same : popped ≡ with_waits (drop 1 (answering old.waits old).waits) (answering old.waits old)
+    pub counted : count_of popped.log ≡ count_of old.log
+    pub few : count_of popped.log ≤ length popped.log
+    pub session : session spoken popped.log ≡ session spoken old.log
+    pub idle : running (answering old.waits old).log ≡ None
+
+  pub is_popped : (old got mid popped : KernelState T) → IsKept spoken old → running old.log ≡ None → got ≡ old → mid ≡ answering got.waits got → popped ≡ with_waits (drop 1 mid.waits) mid → IsPopped old popped
+  is_popped old got mid popped kept idle g m p =
+      let k = answering old.waits old in
+      let same : mid ≡ k = m ∙ ap (λ (k : KernelState T). answering k.waits k) g in
+      let out : popped ≡ with_waits (drop 1 k.waits) k = p ∙ ap (λ (k : KernelState T). with_waits (drop 1 k.waits) k) same in
+      let log : popped.log ≡ k.log = ap (λ (k : KernelState T). k.log) out in
+      record {
+        same = out;
+        counted = ap count_of log ∙ same_count old;
+        few = subst (λ (log : Log). count_of log ≤ length log) (sym log) (answering_going spoken laws old.waits old refl idle kept.going).few;
+        session = ap (session spoken) log ∙ same_session old;
+        idle = answering_idle old.waits old idle;
+      }
+
+  pub is_opened : (old got : KernelState T) (w : Waiting T) (outcome : Parsed T) (s : S) (o : Opening S M) → IsKept spoken old → running old.log ≡ None → s ≡ session spoken old.log → got ≡ old → Some w ≡ find (λ (w : Waiting T). is_cell w.task) got.waits → w.task ≡ Cell (Some outcome) → ((text : List ℕ) → IsResult spoken text outcome → Opens spoken state s text outcome o) → IsOpened (answering old.waits old) w outcome o
+  is_opened old got w outcome s o kept idle e g f r opens =
+      let k = answering old.waits old in
+      let going = answering_going spoken laws old.waits old refl idle kept.going in
+      let found = found_now old w (subst (λ (k : KernelState T). Some w ≡ find (λ (w : Waiting T). is_cell w.task) k.waits) g f) in
+      let cell : IsCellAt spoken k.log w.at (Some outcome) = subst (IsTaskAt spoken k.log w.at) r (first_task k.log k.waits w going.wait found) in
+      record { wait = cell; opens = subst (λ (s : S). Opens spoken state s cell.request.code outcome o) (e ∙ sym (same_session old)) (opens cell.request.code cell.right) }
 
   breaks_for : (s : S) (text : List ℕ) (outcome : Parsed T) (back : S) (refusal : Refusal) → Opens spoken state s text outcome (opening.Broken back refusal) → (back ≡ s) × spoken.IsRefusedFor s text refusal
   breaks_for s text parsed.Memory back refusal h = absurd h
@@ -468,18 +510,18 @@ module _ {S T M : Type 0} (spoken : Spoken S T) (laws : IsLanguage spoken) (stat
   refused_for s text (parsed.Fault found) back h = absurd h
   refused_for s text (parsed.Tree tree) back h = absurd h
 
-  first_from : (turns : ℕ) (all : List (Waiting T)) (w : Waiting T) (o : Option (Parsed T)) (k : KernelState T) (does : Work) (new : KernelState T) → Some w ≡ first_of all → w.result ≡ o → Starts spoken turns w.at o (with_waits (drop 1 all) k) does new → StartsFirst spoken turns all k does new
+  first_from : (turns : ℕ) (all : List (Waiting T)) (w : Waiting T) (o : Option (Parsed T)) (k : KernelState T) (does : Work) (new : KernelState T) → Some w ≡ first_of all → w.task ≡ Cell o → Starts spoken turns w.at o (with_waits (drop 1 all) k) does new → StartsFirst spoken turns all k does new
   first_from turns [] w o k does new e r s = none_first w _ e
     where
       none_first : (w : Waiting T) (P : Type 0) → Some w ≡ None → P
       none_first w P e = cc
   first_from turns (v ∷ ws) w o k does new e r s =
-      subst (λ (v : Waiting T). Starts spoken turns v.at v.result (with_waits ws k) does new) (some_same w v e)
-      (subst (λ (o : Option (Parsed T)). Starts spoken turns w.at o (with_waits ws k) does new) (sym r) s)
+      subst (λ (v : Waiting T). StartsAs spoken turns v.at v.task (with_waits ws k) does new) (some_same w v e)
+      (subst (λ (t : Task T). StartsAs spoken turns w.at t (with_waits ws k) does new) (sym r) s)
 
-  starts_popped : (turns : ℕ) (old got popped : KernelState T) (does : Work) (new : KernelState T) (w : Waiting T) (outcome : Parsed T) → got ≡ old → Some w ≡ first_of got.waits → popped ≡ with_waits (drop 1 got.waits) got → w.result ≡ Some outcome → Starts spoken turns w.at (Some outcome) popped does new → StartsFirst spoken turns old.waits old does new
+  starts_popped : (turns : ℕ) (old got popped : KernelState T) (does : Work) (new : KernelState T) (w : Waiting T) (outcome : Parsed T) → got ≡ old → Some w ≡ first_of old.waits → popped ≡ with_waits (drop 1 got.waits) got → w.task ≡ Cell (Some outcome) → Starts spoken turns w.at (Some outcome) popped does new → StartsFirst spoken turns old.waits old does new
   starts_popped turns old got popped does new w outcome g f p r s =
-      first_from turns old.waits w (Some outcome) old does new (subst (λ (k : KernelState T). Some w ≡ first_of k.waits) g f) r
+      first_from turns old.waits w (Some outcome) old does new f r
       (subst (λ (k : KernelState T). Starts spoken turns w.at (Some outcome) k does new) (popped_as old got popped g p) s)
 
   broken_starts : (turns at : ℕ) (s : S) (text : List ℕ) (outcome : Parsed T) (back : S) (refusal : Refusal) (k new : KernelState T) → Opens spoken state s text outcome (opening.Broken back refusal) → IsBrokenAt spoken at refusal k.log → new ≡ broken at refusal k → Starts spoken turns at (Some outcome) k work.Ran new
@@ -487,7 +529,7 @@ module _ {S T M : Type 0} (spoken : Spoken S T) (laws : IsLanguage spoken) (stat
   broken_starts turns at s text (parsed.Fault found) back refusal k new h wrong e = (refl, e ∙ ap (λ (f : Refusal). broken at f k) h.1)
   broken_starts turns at s text (parsed.Tree tree) back refusal k new h wrong e = inr (refusal, wrong, refl, e)
 
-  pub first_broken : (turns : ℕ) (old got popped new : KernelState T) (w : Waiting T) (outcome : Parsed T) (back : S) (refusal : Refusal) → got ≡ old → Some w ≡ first_of got.waits → popped ≡ with_waits (drop 1 got.waits) got → w.result ≡ Some outcome → IsOpened old w outcome (opening.Broken back refusal) → new ≡ broken w.at refusal popped → StartsFirst spoken turns old.waits old work.Ran new
+  pub first_broken : (turns : ℕ) (old got popped new : KernelState T) (w : Waiting T) (outcome : Parsed T) (back : S) (refusal : Refusal) → got ≡ old → Some w ≡ first_of old.waits → popped ≡ with_waits (drop 1 got.waits) got → w.task ≡ Cell (Some outcome) → IsOpened old w outcome (opening.Broken back refusal) → new ≡ broken w.at refusal popped → StartsFirst spoken turns old.waits old work.Ran new
   first_broken turns old got popped new w outcome back refusal g f p r h e =
       starts_popped turns old got popped work.Ran new w outcome g f p r
       (broken_starts turns w.at (session spoken old.log) h.wait.request.code outcome back refusal popped new h.opens
@@ -498,7 +540,7 @@ module _ {S T M : Type 0} (spoken : Spoken S T) (laws : IsLanguage spoken) (stat
   begins_starts turns at s text (parsed.Fault found) m k does new h e = absurd h
   begins_starts turns at s text (parsed.Tree tree) m k does new h e = inl e
 
-  pub first_begins : (turns : ℕ) (old got popped : KernelState T) (does : Work) (new : KernelState T) (w : Waiting T) (outcome : Parsed T) (m : M) → got ≡ old → Some w ≡ first_of got.waits → popped ≡ with_waits (drop 1 got.waits) got → w.result ≡ Some outcome → IsOpened old w outcome (opening.Runs m) → BeginsAt spoken turns w.at popped does new → StartsFirst spoken turns old.waits old does new
+  pub first_begins : (turns : ℕ) (old got popped : KernelState T) (does : Work) (new : KernelState T) (w : Waiting T) (outcome : Parsed T) (m : M) → got ≡ old → Some w ≡ first_of old.waits → popped ≡ with_waits (drop 1 got.waits) got → w.task ≡ Cell (Some outcome) → IsOpened old w outcome (opening.Runs m) → BeginsAt spoken turns w.at popped does new → StartsFirst spoken turns old.waits old does new
   first_begins turns old got popped does new w outcome m g f p r h e =
       starts_popped turns old got popped does new w outcome g f p r (begins_starts turns w.at (session spoken old.log) h.wait.request.code outcome m popped does new h.opens e)
 
@@ -506,7 +548,7 @@ module _ {S T M : Type 0} (spoken : Spoken S T) (laws : IsLanguage spoken) (stat
   refused_starts turns at n outcome k new o c e =
       subst (λ (p : Parsed T). Starts spoken turns at (Some p) k work.Ran new) (sym o) (refl, e ∙ ap (λ (x : ℕ). noted at (Refuse x) k) c)
 
-  pub first_refused : (turns : ℕ) (old got popped new : KernelState T) (w : Waiting T) (outcome : Parsed T) (back : S) (n : ℕ) → got ≡ old → Some w ≡ first_of got.waits → popped ≡ with_waits (drop 1 got.waits) got → w.result ≡ Some outcome → IsOpened old w outcome (opening.Refused back) → n ≡ count_of old.log → new ≡ noted w.at (Refuse n) popped → StartsFirst spoken turns old.waits old work.Ran new
+  pub first_refused : (turns : ℕ) (old got popped new : KernelState T) (w : Waiting T) (outcome : Parsed T) (back : S) (n : ℕ) → got ≡ old → Some w ≡ first_of old.waits → popped ≡ with_waits (drop 1 got.waits) got → w.task ≡ Cell (Some outcome) → IsOpened old w outcome (opening.Refused back) → n ≡ count_of old.log → new ≡ noted w.at (Refuse n) popped → StartsFirst spoken turns old.waits old work.Ran new
   first_refused turns old got popped new w outcome back n g f p r h c e =
       starts_popped turns old got popped work.Ran new w outcome g f p r
       (refused_starts turns w.at n outcome popped new (refused_for (session spoken old.log) h.wait.request.code outcome back h.opens).1 (c ∙ ap count_of (same_log old got popped g p)) e)

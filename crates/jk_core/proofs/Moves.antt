@@ -5,18 +5,20 @@ use Rattle.jk_language.specs.declared.outcome.Turned.TheVariants as turned
 use Rattle.jk_core.specs.declared.job.Parsed.{Parsed}
 use Rattle.jk_core.specs.declared.job.Parsed.TheVariants as parsed
 use Rattle.jk_core.specs.declared.mark.Kind.{Kind}
-use Rattle.jk_core.specs.declared.mark.Kind.TheVariants.{Begin, Abort, Line}
+use Rattle.jk_core.specs.declared.mark.Kind.TheVariants.{Begin, Answer, Line, Restart}
 use Rattle.jk_core.specs.declared.kernel.Work.{Work}
 use Rattle.jk_core.specs.declared.kernel.Work.TheVariants.{Rest, NeedsParse, Ran, NeedsLine, NoMemory}
 use Rattle.jk_core.specs.declared.script.Waiting.{Waiting}
 use Rattle.jk_core.specs.Log.{Running, meaning, next_count, lined}
 use Rattle.jk_core.specs.declared.mark.Cause.{Cause}
 use Rattle.std.proofs.Common.{Bool}
-use Rattle.jk_core.proofs.Keeps.{failing_moves}
+use Rattle.jk_core.proofs.Keeps.{answering_moves, failing_moves}
+use Rattle.jk_core.specs.declared.script.Task.{Task}
+use Rattle.jk_core.specs.declared.script.Task.TheVariants.{Cell, Query}
 use Rattle.jk_core.specs.State.{KernelState}
 use Rattle.jk_language.specs.declared.outcome.Refusal.{Refusal}
 use Rattle.jk_language.specs.declared.outcome.Refusal.TheVariants.{Compile}
-use Rattle.jk_core.specs.Steps.{broken, has_lines, written, failing, stopped, noted, with_waits, with_ran, begun, closed, flushed, gone_on, sliced, limit, Closes, GoesOn, GoesWithout, Moves, Starts, StartsFirst, Works}
+use Rattle.jk_core.specs.Steps.{aborting, answering, broken, closing, interrupted, shut, stops_with, has_lines, written, failing, stopped, noted, with_waits, with_ran, begun, closed, flushed, gone_on, sliced, limit, Closes, GoesOn, GoesWithout, AnswersFirst, Moves, Starts, StartsAs, StartsFirst, Works}
 use Rattle.jk_language.specs.Spoken.{Spoken}
 
 module _ {T : Type 0} where
@@ -27,11 +29,24 @@ module _ {T : Type 0} where
     pub go : (turns : ℕ) (k : KernelState T) → P k → P (with_ran turns k)
 
   pub fails_moves : (P : KernelState T → Type 0) → IsMoved P → (b : Bool) (k : KernelState T) → P k → P (failing b k)
-  fails_moves P m b k h = failing_moves P (λ at k h. m.note at Abort k h) m.wait b k h
+  fails_moves P m b k h = failing_moves P (λ at t k h. m.note at (closing t) k h) m.wait b k h
 
   pub stopped_moves : (P : KernelState T → Type 0) → IsMoved P → (why : Cause) (o : Option Running) (k : KernelState T) → P k → P (stopped why o k)
   stopped_moves P m why None k h = h
-  stopped_moves P m why (Some r) k h = fails_moves P m _ _ (m.note _ _ _ (m.note _ _ _ h))
+  stopped_moves P m why (Some r) k h = m.note _ _ _ (m.note _ _ _ h)
+
+  pub interrupted_moves : (P : KernelState T → Type 0) → IsMoved P → (o : Option Running) (k : KernelState T) → P k → P (interrupted o k)
+  interrupted_moves P m o k h = fails_moves P m (stops_with o) _ (stopped_moves P m _ o k h)
+
+  aborting_moves : (P : KernelState T → Type 0) → IsMoved P → (ws : List (Waiting T)) (k : KernelState T) → P k → P (aborting ws k)
+  aborting_moves P m [] k h = h
+  aborting_moves P m (w ∷ ws) k h = aborting_moves P m ws (noted w.at (closing w.task) (with_waits ws k)) (m.note _ _ _ (m.wait _ _ h))
+
+  pub shut_moves : (P : KernelState T → Type 0) → IsMoved P → (at : ℕ) (restart : Bool) (o : Option Running) (k : KernelState T) → P k → P (shut at restart o k)
+  shut_moves P m at restart o k h = m.note at (Restart restart) _ (aborting_moves P m k.waits _ (stopped_moves P m _ o k h))
+
+  pub answers_moves : (P : KernelState T → Type 0) → IsMoved P → (ws : List (Waiting T)) (k : KernelState T) → P k → P (answering ws k)
+  answers_moves P m ws k h = answering_moves P (λ at status k h. m.note at (Answer status) k h) m.wait ws k h
 
   closed_moves : (P : KernelState T → Type 0) → IsMoved P → (answer : Turned) (at : ℕ) (stops : Bool) (turns n : ℕ) (k : KernelState T) → P k → P (closed answer at stops turns n k)
   closed_moves P m turned.Stopped at stops turns n k h = h
@@ -82,13 +97,22 @@ module _ {S T : Type 0} (spoken : Spoken S T) where
       goes_moves P m turns r (begun at old) work new goes (m.note at (Begin (next_count at old.log)) old h)
   starts_moves P m turns at (Some (parsed.Tree cell)) old work new (inr (refusal, wrong, ran, e)) h = subst P (sym e) (broken_moves P m at refusal old h)
 
+  starts_as_moves : (P : KernelState T → Type 0) → IsMoved P → (turns at : ℕ) (t : Task T) (old : KernelState T) (work : Work) (new : KernelState T) → StartsAs spoken turns at t old work new → P old → P new
+  starts_as_moves P m turns at (Cell result) old work new s h = starts_moves P m turns at result old work new s h
+  starts_as_moves P m turns at (Query status) old work new s h = absurd s
+
   first_moves : (P : KernelState T → Type 0) → IsMoved P → (turns : ℕ) (all : List (Waiting T)) (old : KernelState T) (work : Work) (new : KernelState T) → StartsFirst spoken turns all old work new → P old → P new
   first_moves P m turns [] old work new s h = absurd s
-  first_moves P m turns (w ∷ ws) old work new s h = starts_moves P m turns w.at w.result _ work new s (m.wait _ _ h)
+  first_moves P m turns (w ∷ ws) old work new s h = starts_as_moves P m turns w.at w.task _ work new s (m.wait _ _ h)
+
+  answers_first_moves : (P : KernelState T → Type 0) → IsMoved P → (turns : ℕ) (old : KernelState T) (work : Work) (new : KernelState T) → AnswersFirst spoken turns old work new → P old → P new
+  answers_first_moves P m turns old work new (inl s) h =
+      first_moves P m turns (answering old.waits old).waits (answering old.waits old) work new s (answers_moves P m old.waits old h)
+  answers_first_moves P m turns old work new (inr (asks, none, ran, e)) h = subst P (sym e) (answers_moves P m old.waits old h)
 
   pub moves_moves : (P : KernelState T → Type 0) → IsMoved P → (turns : ℕ) (old : KernelState T) (work : Work) (new : KernelState T) → Moves spoken turns old work new → P old → P new
   moves_moves P m turns old work new (inl (r, runs, goes)) h = goes_moves P m turns r old work new goes h
-  moves_moves P m turns old work new (inr (idle, s)) h = first_moves P m turns old.waits old work new s h
+  moves_moves P m turns old work new (inr (idle, s)) h = answers_first_moves P m turns old work new s h
 
   pub works_moves : (P : KernelState T → Type 0) → IsMoved P → (turns : ℕ) (old : KernelState T) (answer : Work) (new : KernelState T) → Works spoken turns old answer new → P old → P new
   works_moves P m turns old Rest new s h = subst P (sym s.0) h

@@ -5,16 +5,16 @@ use Rattle.jk_core.specs.declared.arrival.Arrival.{Arrival}
 use Rattle.jk_core.specs.declared.arrival.Sort.{Sort}
 use Rattle.jk_core.specs.declared.arrival.Sort.TheVariants as sort
 use Rattle.jk_core.specs.Asked.{input_in, sort_as}
-use Rattle.std.proofs.Common.{Option, None, Some}
+use Rattle.std.proofs.Common.{Option, None, Some, inl, inr, subst}
 use Rattle.jk_core.specs.declared.entry.Entry.{Entry}
 use Rattle.jk_core.specs.declared.kernel.Work.{Work}
 use Rattle.jk_core.specs.Log.{running, takes, asker}
-use Rattle.jk_core.specs.declared.mark.Cause.TheVariants as cause
 use Rattle.jk_core.specs.declared.mark.Kind.TheVariants.{Interrupt}
+use Rattle.jp_msg.specs.declared.message.Completeness.{Completeness}
 use Rattle.jk_core.specs.Render.{render}
 use Rattle.jk_core.specs.State.{KernelState, joined}
-use Rattle.jk_core.specs.Steps.{answered, noted, given_to, took, taken, without, Works}
-use Rattle.jk_core.proofs.Moves.{IsMoved, works_moves, stopped_moves}
+use Rattle.jk_core.specs.Steps.{answered, noted, given_to, took, taken, without, Takes, Works}
+use Rattle.jk_core.proofs.Moves.{IsMoved, interrupted_moves, shut_moves, works_moves}
 use Rattle.jk_language.specs.Spoken.{Spoken}
 
 pub joined-append : (xs ys : List (List Entry)) → joined (xs ++ ys) ≡ joined xs ++ joined ys
@@ -43,17 +43,21 @@ module _ {T : Type 0} where
   given_moves P m (Some text) None k h = h
   given_moves P m (Some text) (Some at) k h = m.note _ _ _ h
 
-  shown_as : (board : List Entry) (s : Sort) (a : Arrival) (k : KernelState T) → IsShown board k → IsShown board (answered s a k.log (took a k))
-  shown_as board sort.Execute a k h = h
-  shown_as board sort.Other a k h = h
-  shown_as board sort.Join a k h = shown_more board _ (render k.log) k.pending h
-  shown_as board sort.Leave a k h = shown_more board _ (render k.log) k.pending h
-  shown_as board sort.Input a k h = given_moves (IsShown board) (shown_moved board) (input_in a.what) (asker a.seat k.log) (took a k) h
-  shown_as board sort.Interrupt a k h =
-      stopped_moves (IsShown board) (shown_moved board) cause.Interrupted (running (took a k).log) (noted (length k.log) Interrupt (took a k)) (shown_more board _ (render k.log) k.pending h)
+  shown_as : (board : List Entry) (status : Option Completeness) (s : Sort) (a : Arrival) (k : KernelState T) → IsShown board k → IsShown board (answered s a k.log (took status a k))
+  shown_as board status sort.Execute a k h = h
+  shown_as board status sort.Query a k h = h
+  shown_as board status sort.Other a k h = h
+  shown_as board status sort.Join a k h = shown_more board _ (render k.log) k.pending h
+  shown_as board status sort.Leave a k h = shown_more board _ (render k.log) k.pending h
+  shown_as board status sort.KernelInfo a k h = shown_more board _ (render k.log) k.pending h
+  shown_as board status sort.Input a k h = given_moves (IsShown board) (shown_moved board) (input_in a.what) (asker a.seat k.log) (took status a k) h
+  shown_as board status sort.Interrupt a k h =
+      interrupted_moves (IsShown board) (shown_moved board) (running (took status a k).log) (noted (length k.log) Interrupt (took status a k)) (shown_more board _ (render k.log) k.pending h)
+  shown_as board status (sort.Shutdown restart) a k h =
+      shut_moves (IsShown board) (shown_moved board) (length k.log) restart (running (took status a k).log) (took status a k) h
 
-  pub shown_taken : (board : List Entry) (a : Arrival) (k : KernelState T) → IsShown board k → IsShown board (taken a k)
-  shown_taken board a k h = shown_as board (sort_as a.what) a k h
+  pub shown_taken : (board : List Entry) (status : Option Completeness) (a : Arrival) (k : KernelState T) → IsShown board k → IsShown board (taken status a k)
+  shown_taken board status a k h = shown_as board status (sort_as a.what) a k h
 
   -- handing on moves entries from what is pending
   pub shown_without : (board : List Entry) (marks : ℕ) (k : KernelState T) → IsShown board k → IsShown (board ++ joined (take marks k.pending)) (without marks k)
@@ -66,18 +70,22 @@ module _ {T : Type 0} where
   pub takes_moved : (all : List Arrival) → IsMoved (λ (k : KernelState T). takes k.log ≡ all)
   takes_moved all = record { note = λ at kind k h. h; wait = λ ws k h. h; go = λ turns k h. h }
 
-  takes_as : (s : Sort) (a : Arrival) (k : KernelState T) → takes (answered s a k.log (took a k)).log ≡ takes k.log ++ a ∷ []
-  takes_as sort.Execute a k = refl
-  takes_as sort.Other a k = refl
-  takes_as sort.Join a k = refl
-  takes_as sort.Leave a k = refl
-  takes_as sort.Input a k =
-      given_moves (λ j. takes j.log ≡ takes k.log ++ a ∷ []) (takes_moved _) (input_in a.what) (asker a.seat k.log) (took a k) refl
-  takes_as sort.Interrupt a k =
-      stopped_moves (λ j. takes j.log ≡ takes k.log ++ a ∷ []) (takes_moved _) cause.Interrupted (running (took a k).log) (noted (length k.log) Interrupt (took a k)) refl
+  takes_as : (status : Option Completeness) (s : Sort) (a : Arrival) (k : KernelState T) → takes (answered s a k.log (took status a k)).log ≡ takes k.log ++ a ∷ []
+  takes_as status sort.Execute a k = refl
+  takes_as status sort.Query a k = refl
+  takes_as status sort.Other a k = refl
+  takes_as status sort.Join a k = refl
+  takes_as status sort.Leave a k = refl
+  takes_as status sort.KernelInfo a k = refl
+  takes_as status sort.Input a k =
+      given_moves (λ j. takes j.log ≡ takes k.log ++ a ∷ []) (takes_moved _) (input_in a.what) (asker a.seat k.log) (took status a k) refl
+  takes_as status sort.Interrupt a k =
+      interrupted_moves (λ j. takes j.log ≡ takes k.log ++ a ∷ []) (takes_moved _) (running (took status a k).log) (noted (length k.log) Interrupt (took status a k)) refl
+  takes_as status (sort.Shutdown restart) a k =
+      shut_moves (λ j. takes j.log ≡ takes k.log ++ a ∷ []) (takes_moved _) (length k.log) restart (running (took status a k).log) (took status a k) refl
 
-  pub takes_taken : (a : Arrival) (k : KernelState T) → takes (taken a k).log ≡ takes k.log ++ a ∷ []
-  takes_taken a k = takes_as (sort_as a.what) a k
+  pub takes_taken : (status : Option Completeness) (a : Arrival) (k : KernelState T) → takes (taken status a k).log ≡ takes k.log ++ a ∷ []
+  takes_taken status a k = takes_as status (sort_as a.what) a k
 
 module _ {S T : Type 0} (spoken : Spoken S T) where
   pub shown_works : (board : List Entry) (turns : ℕ) (old : KernelState T) (answer : Work) (new : KernelState T) → Works spoken turns old answer new → IsShown board old → IsShown board new
@@ -85,3 +93,8 @@ module _ {S T : Type 0} (spoken : Spoken S T) where
 
   pub takes_works : (turns : ℕ) (old : KernelState T) (answer : Work) (new : KernelState T) → Works spoken turns old answer new → takes new.log ≡ takes old.log
   takes_works turns old answer new s = works_moves spoken (λ k. takes k.log ≡ takes old.log) (takes_moved (takes old.log)) turns old answer new s refl
+
+  -- what was shown goes on, whether the arrival was taken or dropped
+  pub shown_takes : (board : List Entry) (a : Arrival) (old new : KernelState T) → Takes spoken a old new → IsShown board old → IsShown board new
+  shown_takes board a old new (inl (over, e)) h = subst (IsShown board) (sym e) h
+  shown_takes board a old new (inr (on, status, right, e)) h = subst (IsShown board) (sym e) (shown_taken board status a old h)

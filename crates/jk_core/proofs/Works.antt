@@ -1,6 +1,8 @@
 -- What one slice comes to.
 use Rattle.std.proofs.Common.{◌⊎◌, ◌≡◌, ℕ, ◌≤◌, Bool, true, false, List, [], ◌∷◌, ◌++◌, refl, sym, ◌∙◌, ap, subst, arith, Option, None, Some, inl, inr}
-use Rattle.std.specs.Prelude.{◌&&◌, not}
+use Rattle.std.specs.Prelude.{◌&&◌, find, not}
+use Rattle.std.proofs.Common.{cond}
+use Rattle.jk_core.specs.Log.{option_or}
 use Rattle.std.proofs.lemmas.List.{append-nil}
 use Rattle.jk_language.specs.Parts.{Line as AsLine, Meaning}
 use Rattle.jk_language.specs.MachineState.{MachineState, here}
@@ -16,13 +18,16 @@ use Rattle.jk_core.specs.declared.mark.Kind.TheVariants.{Line}
 use Rattle.jk_core.specs.declared.kernel.Work.{Work}
 use Rattle.jk_core.specs.declared.kernel.Work.TheVariants as work
 use Rattle.jk_core.specs.declared.script.Waiting.{Waiting}
+use Rattle.jp_msg.specs.declared.message.Completeness.{Completeness}
+use Rattle.jk_core.specs.declared.script.Task.{Task}
+use Rattle.jk_core.specs.declared.script.Task.TheVariants.{Cell, Query}
 use Rattle.jk_core.specs.Log.{Log, Running, running, session, meaning, flushed_at, asking, lined, nones, left, input_at}
 use Rattle.jk_core.specs.Legal.{IsLineless}
-use Rattle.jk_core.specs.State.{KernelState}
-use Rattle.jk_core.specs.Steps.{begun, has_lines, limit, noted, with_waits, GoesOn, GoesWithout, IsAsking, Starts, StartsFirst, Works}
-use Rattle.jk_core.specs.Kept.{IsWanting, RunsBy, StartsOr, has_asked, is_asking}
+use Rattle.jk_core.specs.State.{KernelState, first_of, is_cell}
+use Rattle.jk_core.specs.Steps.{answering, begun, by_task, has_lines, limit, noted, with_waits, AnswersFirst, FirstAsks, GoesOn, GoesWithout, IsAsking, NoneStarts, Starts, StartsAs, StartsFirst, Works}
+use Rattle.jk_core.specs.Kept.{IsWanting, RunsBy, StartsOr, first_is_read, from_cell, has_asked, is_asking, is_read}
 use Rattle.jk_core.specs.Slices.{HasAsked, IsAtWork}
-use Rattle.jk_core.proofs.Keeps.{flushed_runs, asking_runs, lined_runs, some_same}
+use Rattle.jk_core.proofs.Keeps.{answering_waits, flushed_runs, asking_runs, lined_runs, some_same}
 use Rattle.jk_core.proofs.Turns.{seat_left}
 use Rattle.std.proofs.Common.{zero, suc}
 
@@ -68,9 +73,20 @@ module _ {S T : Type 0} (spoken : Spoken S T) where
       never_ran : (P : Type 0) → work.NeedsLine ≡ work.Ran → P
       never_ran P e = cc
 
+  task_asking : (turns at : ℕ) (t : Task T) (old new : KernelState T) → StartsAs spoken turns at t old work.NeedsLine new → IsAsking new.log
+  task_asking turns at (Cell result) old new s = starts_asking turns at result old new s
+  task_asking turns at (Query status) old new s = absurd s
+
   first_asking : (turns : ℕ) (all : List (Waiting T)) (old new : KernelState T) → StartsFirst spoken turns all old work.NeedsLine new → IsAsking new.log
   first_asking turns [] old new s = absurd s
-  first_asking turns (w ∷ ws) old new s = starts_asking turns w.at w.result (with_waits ws old) new s
+  first_asking turns (w ∷ ws) old new s = task_asking turns w.at w.task (with_waits ws old) new s
+
+  answers_asking : (turns : ℕ) (old new : KernelState T) → AnswersFirst spoken turns old work.NeedsLine new → IsAsking new.log
+  answers_asking turns old new (inl s) = first_asking turns (answering old.waits old).waits (answering old.waits old) new s
+  answers_asking turns old new (inr (asks, none, e, f)) = never_ran _ e
+    where
+      never_ran : (P : Type 0) → work.NeedsLine ≡ work.Ran → P
+      never_ran P e = cc
 
   -- what starts does not rest
   starts_on : (turns at : ℕ) (o : Option (Parsed T)) (old : KernelState T) (does : Work) (new : KernelState T) → ((P : Type 0) → does ≡ work.Ran → P) → ((r : Running) (k : KernelState T) → GoesOn spoken turns r k does new → ⊥) → Starts spoken turns at o old does new → ⊥
@@ -80,9 +96,17 @@ module _ {S T : Type 0} (spoken : Spoken S T) where
   starts_on turns at (Some (parsed.Tree tree)) old does new ran goes (inl (r, runs, on)) = goes r (begun at old) on
   starts_on turns at (Some (parsed.Tree tree)) old does new ran goes (inr (refusal, wrong, e, f)) = ran ⊥ e
 
+  task_on : (turns at : ℕ) (t : Task T) (old : KernelState T) (does : Work) (new : KernelState T) → ((P : Type 0) → does ≡ work.Ran → P) → ((r : Running) (k : KernelState T) → GoesOn spoken turns r k does new → ⊥) → StartsAs spoken turns at t old does new → ⊥
+  task_on turns at (Cell result) old does new ran goes s = starts_on turns at result old does new ran goes s
+  task_on turns at (Query status) old does new ran goes s = absurd s
+
   first_on : (turns : ℕ) (all : List (Waiting T)) (old : KernelState T) (does : Work) (new : KernelState T) → ((P : Type 0) → does ≡ work.Ran → P) → ((r : Running) (k : KernelState T) → GoesOn spoken turns r k does new → ⊥) → StartsFirst spoken turns all old does new → ⊥
   first_on turns [] old does new ran goes s = absurd s
-  first_on turns (w ∷ ws) old does new ran goes s = starts_on turns w.at w.result (with_waits ws old) does new ran goes s
+  first_on turns (w ∷ ws) old does new ran goes s = task_on turns w.at w.task (with_waits ws old) does new ran goes s
+
+  answers_on : (turns : ℕ) (old : KernelState T) (does : Work) (new : KernelState T) → ((P : Type 0) → does ≡ work.Ran → P) → ((r : Running) (k : KernelState T) → GoesOn spoken turns r k does new → ⊥) → AnswersFirst spoken turns old does new → ⊥
+  answers_on turns old does new ran goes (inl s) = first_on turns (answering old.waits old).waits (answering old.waits old) does new ran goes s
+  answers_on turns old does new ran goes (inr (asks, none, e, f)) = ran ⊥ e
 
   never_rests : (turns : ℕ) (new : KernelState T) (r : Running) (k : KernelState T) → GoesOn spoken turns r k work.Rest new → ⊥
   never_rests turns new r k (nones, now, j, without, closes) = absurd closes
@@ -98,11 +122,44 @@ module _ {S T : Type 0} (spoken : Spoken S T) where
 
   pub started : (turns : ℕ) (old : KernelState T) (does : Work) (new : KernelState T) → running old.log ≡ None → StartsOr spoken turns old does new → Works spoken turns old does new
   started turns old does new idle (inl (e, same)) = subst (λ (w : Work). Works spoken turns old w new) (sym e) (inl same)
-  started turns old work.Rest new idle (inr s) = absurd (first_on turns old.waits old work.Rest new rest_ran (never_rests turns new) s)
-  started turns old work.NeedsParse new idle (inr s) = absurd (first_on turns old.waits old work.NeedsParse new parse_ran (never_parses turns new) s)
+  started turns old work.Rest new idle (inr s) = absurd (answers_on turns old work.Rest new rest_ran (never_rests turns new) s)
+  started turns old work.NeedsParse new idle (inr s) = absurd (answers_on turns old work.NeedsParse new parse_ran (never_parses turns new) s)
   started turns old work.Ran new idle (inr s) = inr (idle, s)
-  started turns old work.NeedsLine new idle (inr s) = (first_asking turns old.waits old new s, inr (inr (idle, s)))
+  started turns old work.NeedsLine new idle (inr s) = (answers_asking turns old new s, inr (inr (idle, s)))
   started turns old work.NoMemory new idle (inr s) = inr (inr (idle, s))
+
+  -- nothing starts where the first cell has no result
+  abbrev IsUnread : List (Waiting T) → Type 0
+  IsUnread ws = first_is_read ws ≡ false
+
+  cell_unread : (t : Task T) → is_cell t ≡ true → is_read t ≡ false → t ≡ Cell None
+  cell_unread (Cell None) c e = refl
+  cell_unread (Cell (Some outcome)) c e = cc
+  cell_unread (Query status) c e = cc
+
+  pub first_unread : (ws : List (Waiting T)) → IsUnread ws → NoneStarts (from_cell ws)
+  first_unread [] e = tt
+  first_unread (w ∷ ws) e = by w.task refl (first_unread ws) e
+    where
+      by : (t : Task T) → w.task ≡ t → (IsUnread ws → NoneStarts (from_cell ws)) → option_or (λ (w : Waiting T). is_read w.task) false (cond (is_cell t) (Some w) (find (λ (w : Waiting T). is_cell w.task) ws)) ≡ false → NoneStarts (by_task t (λ result. w ∷ ws) (λ status. from_cell ws))
+      by (Cell result) is rec e = cell_unread w.task (ap is_cell is) e
+      by (Query status) is rec e = rec e
+
+  -- the queries that wait were answered, and nothing starts
+  pub answered_only : (turns : ℕ) (old new : KernelState T) → running old.log ≡ None → FirstAsks old.waits → first_is_read old.waits ≡ false → new ≡ answering old.waits old → Works spoken turns old work.Ran new
+  answered_only turns old new idle asks unread e =
+      inr (idle, inr (asks, subst NoneStarts (sym (answering_waits old.waits old refl)) (first_unread old.waits unread), refl, e))
+
+  -- the first that waits
+  first_asks : (t : Task T) (status : Option Completeness) → t ≡ Query status → is_cell t ≡ false
+  first_asks t status e = ap is_cell e
+
+  pub asks_first : (ws : List (Waiting T)) (w : Waiting T) (status : Option Completeness) → Some w ≡ first_of ws → w.task ≡ Query status → FirstAsks ws
+  asks_first [] w status e q = none_first w _ e
+    where
+      none_first : (w : Waiting T) (P : Type 0) → Some w ≡ None → P
+      none_first w P e = cc
+  asks_first (v ∷ ws) w status e q = ap is_cell (ap (λ (w : Waiting T). w.task) (sym (some_same w v e)) ∙ q)
 
 module _ {S T M : Type 0} (spoken : Spoken S T) (laws : IsLanguage spoken) (state : M → MachineState S) where
   -- a cell that was given all its lines can go on

@@ -9,7 +9,7 @@ use Rattle.jk_language.specs.declared.outcome.Refusal.TheVariants.{Compile, Link
 use Rattle.jk_language.specs.declared.outcome.Trap.{Trap}
 use Rattle.jp_msg.specs.declared.message.Failure.{Failure}
 use Rattle.jk_core.specs.declared.mark.Cause.{Cause}
-use Rattle.jk_core.specs.declared.mark.Cause.TheVariants.{Memory, Interrupted}
+use Rattle.jk_core.specs.declared.mark.Cause.TheVariants.{Memory, Interrupted, Restarted}
 
 -- a refusal by compiling: its number, line and column
 unfoldable pub compile_failure : Fault → Failure
@@ -43,3 +43,4 @@ trap_failure trap = record {
 unfoldable pub cause_failure : Cause → Failure
 cause_failure Memory = record { ename = codes "Memory"; evalue = [] }
 cause_failure Interrupted = record { ename = codes "Interrupted"; evalue = [] }
+cause_failure Restarted = record { ename = codes "Restarted"; evalue = [] }

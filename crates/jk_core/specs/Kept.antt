@@ -1,7 +1,9 @@
 -- What a kernel keeps true.
-use Rattle.std.specs.Prelude.{◌⊎◌, ◌≡◌, Bool, true, false, not, ◌&&◌, ℕ, ◌≤◌, IsTrue, is_some, List, [], ◌∷◌, length, map, Option, None, Some}
+use Rattle.std.specs.Prelude.{◌⊎◌, ◌≡◌, Bool, true, false, not, ◌&&◌, ℕ, ◌≤◌, is_some, find, List, [], ◌∷◌, length, map, Option, None, Some}
 use Rattle.jk_language.specs.declared.outcome.Refusal.TheVariants.{Compile}
-use Rattle.jk_core.specs.declared.mark.Kind.TheVariants.{Line}
+use Rattle.jk_core.specs.declared.arrival.Sort.{Sort}
+use Rattle.jk_core.specs.declared.arrival.Sort.TheVariants as sort
+use Rattle.jk_core.specs.declared.mark.Kind.TheVariants.{Interrupt, Join, KernelInfo, Leave, Line}
 use Rattle.jk_language.specs.Parts.{Line as AsLine}
 use Rattle.jk_language.specs.Spoken.{Spoken}
 use Rattle.jk_language.specs.MachineState.{MachineState, here}
@@ -10,6 +12,8 @@ use Rattle.jp_msg.specs.declared.message.Execute.{Execute}
 use Rattle.jk_core.specs.declared.job.Parsed.{Parsed}
 use Rattle.jk_core.specs.declared.job.Parsed.TheVariants as parsed
 use Rattle.jk_core.specs.declared.script.Waiting.{Waiting}
+use Rattle.jk_core.specs.declared.script.Task.{Task}
+use Rattle.jk_core.specs.declared.script.Task.TheVariants.{Cell, Query}
 use Rattle.jk_core.specs.declared.desk.Active.{Active}
 use Rattle.jk_core.specs.declared.desk.Wants.{Wants}
 use Rattle.jk_core.specs.declared.desk.Wants.TheVariants.{Nothing, Asked, Given}
@@ -20,10 +24,10 @@ use Rattle.jk_core.specs.declared.desk.Desk.{Desk}
 use Rattle.jk_core.specs.declared.start.Opening.{Opening}
 use Rattle.jk_core.specs.declared.start.Opening.TheVariants as opening
 use Rattle.jk_core.specs.Results.{IsResult}
-use Rattle.jk_core.specs.Log.{Log, Running, running, waiting, session, shown_in, stood_in, nones, left, count, execute_at, input_at}
-use Rattle.jk_core.specs.Legal.{EachFollows, Due, owed, StopsFor}
-use Rattle.jk_core.specs.State.{KernelState}
-use Rattle.jk_core.specs.Steps.{has_lines, noted, StartsFirst}
+use Rattle.jk_core.specs.Log.{Log, option_or, Running, running, waiting, session, shown_in, stood_in, nones, left, count, execute_at, input_at}
+use Rattle.jk_core.specs.Legal.{Answers, EachFollows, Due, owed, StopsFor}
+use Rattle.jk_core.specs.State.{KernelState, is_cell}
+use Rattle.jk_core.specs.Steps.{by_task, has_lines, interrupted, noted, shut, AnswersFirst}
 use Rattle.jk_core.specs.declared.kernel.Work.{Work}
 use Rattle.jk_core.specs.declared.kernel.Work.TheVariants.{NoMemory}
 use Rattle.jk_language.specs.declared.outcome.Outcome.TheVariants as outcome
@@ -33,10 +37,18 @@ IsResultOf spoken text None = Unit {0}
 IsResultOf spoken text (Some outcome) = IsResult spoken text outcome
 
 -- the place has an execute request, and the result is one of its code
-pub record IsWaiting {S T : Type 0} (spoken : Spoken S T) (log : Log) (w : Waiting T) : Type 0 where
+pub record IsCellAt {S T : Type 0} (spoken : Spoken S T) (log : Log) (at : ℕ) (result : Option (Parsed T)) : Type 0 where
   pub request : Execute
-  pub there : execute_at w.at log ≡ Some request
-  pub result : IsResultOf spoken request.code w.result
+  pub there : execute_at at log ≡ Some request
+  pub right : IsResultOf spoken request.code result
+
+-- what waits is a cell, or a query with the status that it will be answered
+abbrev pub IsTaskAt : {S T : Type 0} → Spoken S T → Log → ℕ → Task T → Type 0
+IsTaskAt spoken log at (Cell result) = IsCellAt spoken log at result
+IsTaskAt spoken log at (Query status) = Answers spoken log at status
+
+abbrev pub IsWaiting : {S T : Type 0} → Spoken S T → Log → Waiting T → Type 0
+IsWaiting spoken log w = IsTaskAt spoken log w.at w.task
 
 abbrev pub AllWait : {S T : Type 0} → Spoken S T → Log → List (Waiting T) → Type 0
 AllWait spoken log [] = Unit {0}
@@ -144,6 +156,42 @@ lined_up None o k = k
 lined_up (Some text) None k = k
 lined_up (Some text) (Some r) k = noted r.at (Line (Some text)) k
 
+-- the marks of an arrival at this place, which gives the cell that runs this line
+abbrev pub marked_as : {T : Type 0} → Sort → ℕ → Option (List ℕ) → KernelState T → KernelState T
+marked_as sort.Join place line k = noted place Join k
+marked_as sort.Leave place line k = noted place Leave k
+marked_as sort.KernelInfo place line k = noted place KernelInfo k
+marked_as sort.Interrupt place line k = interrupted (running k.log) (noted place Interrupt k)
+marked_as (sort.Shutdown restart) place line k = shut place restart (running k.log) k
+marked_as sort.Input place line k = lined_up line (running k.log) k
+marked_as sort.Execute place line k = k
+marked_as sort.Query place line k = k
+marked_as sort.Other place line k = k
+
+-- what an interrupt or a shutdown finds can be stopped
+abbrev pub StandsFor : {S T M : Type 0} → Spoken S T → (M → MachineState S) → Sort → KernelState T → Desk S M → Type 0
+StandsFor spoken state sort.Interrupt k desk = CanStop spoken state k desk
+StandsFor spoken state (sort.Shutdown restart) k desk = CanStop spoken state k desk
+StandsFor spoken state sort.Join k desk = Stands spoken state k desk
+StandsFor spoken state sort.Leave k desk = Stands spoken state k desk
+StandsFor spoken state sort.Execute k desk = Stands spoken state k desk
+StandsFor spoken state sort.Query k desk = Stands spoken state k desk
+StandsFor spoken state sort.Input k desk = Stands spoken state k desk
+StandsFor spoken state sort.KernelInfo k desk = Stands spoken state k desk
+StandsFor spoken state sort.Other k desk = Stands spoken state k desk
+
+-- an input reply has a line only for the cell that asks
+abbrev pub IsLineBy : Sort → Log → ℕ → Option (List ℕ) → Type 0
+IsLineBy sort.Input log place line = IsLineFor log place line
+IsLineBy sort.Join log place line = Unit {0}
+IsLineBy sort.Leave log place line = Unit {0}
+IsLineBy sort.Execute log place line = Unit {0}
+IsLineBy sort.Query log place line = Unit {0}
+IsLineBy sort.Interrupt log place line = Unit {0}
+IsLineBy sort.KernelInfo log place line = Unit {0}
+IsLineBy (sort.Shutdown restart) log place line = Unit {0}
+IsLineBy sort.Other log place line = Unit {0}
+
 abbrev pub has_asked : Wants → Bool
 has_asked Nothing = false
 has_asked Asked = true
@@ -153,14 +201,22 @@ has_asked (Given place) = false
 abbrev pub is_asking : {M : Type 0} → Active M → Log → Bool
 is_asking active log = has_asked active.wants && not (left active.seat active.at log)
 
--- the first that waits starts, or nothing changes for want of memory
+-- what waits is answered and the first cell starts, or nothing changes for want of memory
 abbrev pub StartsOr : {S T : Type 0} → Spoken S T → ℕ → KernelState T → Work → KernelState T → Type 0
-StartsOr spoken turns old work new = ((work ≡ NoMemory) × (new ≡ old)) ⊎ StartsFirst spoken turns old.waits old work new
+StartsOr spoken turns old work new = ((work ≡ NoMemory) × (new ≡ old)) ⊎ AnswersFirst spoken turns old work new
 
--- the first that waits has its result
-abbrev pub FirstRead : {T : Type 0} → List (Waiting T) → Type 0
-FirstRead [] = ⊥
-FirstRead (w ∷ ws) = IsTrue (is_some w.result)
+-- what waits from the first cell on
+abbrev pub from_cell : {T : Type 0} → List (Waiting T) → List (Waiting T)
+from_cell [] = []
+from_cell (w ∷ ws) = by_task w.task (λ result. w ∷ ws) (λ status. from_cell ws)
+
+abbrev pub is_read : {T : Type 0} → Task T → Bool
+is_read (Cell result) = is_some result
+is_read (Query status) = false
+
+-- whether the first cell that waits has its result
+abbrev pub first_is_read : {T : Type 0} → List (Waiting T) → Bool
+first_is_read ws = option_or (λ w. is_read w.task) false (find (λ w. is_cell w.task) ws)
 
 -- what comes of a request for this text, by its result
 abbrev pub Opens : {S T M : Type 0} → Spoken S T → (M → MachineState S) → S → List ℕ → Parsed T → Opening S M → Type 0

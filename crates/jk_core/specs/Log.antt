@@ -8,11 +8,12 @@ use Rattle.jk_core.specs.declared.arrival.What.TheVariants as what
 use Rattle.jp_msg.specs.declared.message.Execute.{Execute}
 use Rattle.jk_core.specs.declared.arrival.Sort.{Sort}
 use Rattle.jk_core.specs.declared.arrival.Sort.TheVariants as sort
-use Rattle.jk_core.specs.Asked.{execute_in, input_in, sort_as}
+use Rattle.jp_msg.specs.declared.message.Request.{Request}
+use Rattle.jk_core.specs.Asked.{execute_in, query_in, input_in, sort_as}
 use Rattle.jk_core.specs.declared.mark.Item.{Item}
 use Rattle.jk_core.specs.declared.mark.Item.TheVariants.{Took, Marked}
 use Rattle.jk_core.specs.declared.mark.Kind.{Kind}
-use Rattle.jk_core.specs.declared.mark.Kind.TheVariants.{Join, Leave, Begin, Flush, Ask, Line, End, Stop, Refuse, Abort, Interrupt}
+use Rattle.jk_core.specs.declared.mark.Kind.TheVariants.{Join, Leave, Begin, Flush, Ask, Line, End, Stop, Refuse, Abort, Answer, Interrupt, KernelInfo, Restart}
 
 -- A log, newest first: the tail is the part before its head. A request is named by its place, counted from the oldest.
 abbrev pub Log : Type 0
@@ -40,6 +41,10 @@ arrival_at at (e ∷ past) = if length past == at then arrival_in e else arrival
 abbrev pub execute_at : ℕ → Log → Option Execute
 execute_at at log = option_at (λ a. execute_in a.what) (arrival_at at log)
 
+-- the request at a place of the log that waits on the shell channel and is no cell
+abbrev pub query_at : ℕ → Log → Option Request
+query_at at log = option_at (λ a. query_in a.what) (arrival_at at log)
+
 -- the line that was sent at a place of the log
 abbrev pub input_at : ℕ → Log → Option (List ℕ)
 input_at at log = option_at (λ a. input_in a.what) (arrival_at at log)
@@ -57,17 +62,23 @@ arrivals (Marked m ∷ past) = arrivals past
 -- the places of the shell requests that are taken and not yet marked, oldest first
 abbrev pub waits_as : Sort → ℕ → List ℕ
 waits_as sort.Execute at = at ∷ []
+waits_as sort.Query at = at ∷ []
 waits_as sort.Join at = []
 waits_as sort.Leave at = []
 waits_as sort.Input at = []
 waits_as sort.Interrupt at = []
+waits_as sort.KernelInfo at = []
+waits_as (sort.Shutdown restart) at = []
 waits_as sort.Other at = []
 
 abbrev pub waiting_after : Kind → List ℕ → List ℕ
 waiting_after (Begin count) places = drop 1 places
 waiting_after (Refuse count) places = drop 1 places
 waiting_after Abort places = drop 1 places
+waiting_after (Answer status) places = drop 1 places
 waiting_after Interrupt places = places
+waiting_after KernelInfo places = places
+waiting_after (Restart restart) places = places
 waiting_after Join places = places
 waiting_after Leave places = places
 waiting_after Ask places = places
@@ -131,14 +142,20 @@ running_after at Join seat request before = before
 running_after at Leave seat request before = before
 running_after at (Refuse count) seat request before = before
 running_after at Abort seat request before = before
+running_after at (Answer status) seat request before = before
 running_after at Interrupt seat request before = before
+running_after at KernelInfo seat request before = before
+running_after at (Restart restart) seat request before = before
 
--- a text that an interrupt finds unread is never read
+-- a text that an interrupt or a shutdown finds unread is never read
 abbrev pub running_with : Sort → Option Running → Option Running
 running_with sort.Interrupt before = option_with unread before
+running_with (sort.Shutdown restart) before = option_with unread before
 running_with sort.Join before = before
 running_with sort.Leave before = before
 running_with sort.Execute before = before
+running_with sort.Query before = before
+running_with sort.KernelInfo before = before
 running_with sort.Input before = before
 running_with sort.Other before = before
 
@@ -159,7 +176,7 @@ shown_in spoken session r n = spoken.cell session r.request.code r.lines n
 abbrev pub stood_in : {S T : Type 0} → Spoken S T → S → Running → Meaning S
 stood_in spoken session r = shown_in spoken session r r.turns
 
--- the session: what the last cell left where it stood at its End or Stop
+-- the session: what the last cell left where it stood at its End or Stop; after a shutdown it is the opening one
 abbrev pub session_after : {S T : Type 0} → Spoken S T → Kind → Option Running → S → S
 session_after spoken (End ending count) r session = option_or (λ r. (stood_in spoken session r).session) session r
 session_after spoken (Stop turns cause count) r session = option_or (λ r. (stood_in spoken session r).session) session r
@@ -171,7 +188,10 @@ session_after spoken Ask r session = session
 session_after spoken (Line text) r session = session
 session_after spoken (Refuse count) r session = session
 session_after spoken Abort r session = session
+session_after spoken (Answer status) r session = session
 session_after spoken Interrupt r session = session
+session_after spoken KernelInfo r session = session
+session_after spoken (Restart restart) r session = spoken.opening
 
 abbrev pub session : {S T : Type 0} → Spoken S T → Log → S
 session spoken [] = spoken.opening
@@ -207,7 +227,7 @@ asked_of seat log r = if r.asked && r.seat == seat && not (left r.seat r.at log)
 abbrev pub asker : ℕ → Log → Option ℕ
 asker seat log = option_at (asked_of seat log) (running log)
 
--- the count that the last begun cell has
+-- the count that the last begun cell has; it starts anew after a shutdown
 abbrev pub count_after : Kind → ℕ → ℕ
 count_after (Begin count) before = count
 count_after Join before = before
@@ -219,7 +239,10 @@ count_after (End ending count) before = before
 count_after (Stop turns cause count) before = before
 count_after (Refuse count) before = before
 count_after Abort before = before
+count_after (Answer status) before = before
 count_after Interrupt before = before
+count_after KernelInfo before = before
+count_after (Restart restart) before = 0
 
 abbrev pub count : Log → ℕ
 count [] = 0
@@ -239,3 +262,25 @@ abbrev pub takes : Log → List Arrival
 takes [] = []
 takes (Took a ∷ past) = takes past ++ a ∷ []
 takes (Marked m ∷ past) = takes past
+
+abbrev pub ends : Kind → Bool
+ends (Restart restart) = not restart
+ends Join = false
+ends Leave = false
+ends (Begin count) = false
+ends (Flush turns text) = false
+ends Ask = false
+ends (Line text) = false
+ends (End ending count) = false
+ends (Stop turns cause count) = false
+ends (Refuse count) = false
+ends Abort = false
+ends (Answer status) = false
+ends Interrupt = false
+ends KernelInfo = false
+
+-- whether the kernel was shut down, and not to start again
+abbrev pub ended : Log → Bool
+ended [] = false
+ended (Took a ∷ past) = ended past
+ended (Marked m ∷ past) = ends m.kind || ended past

@@ -1,9 +1,11 @@
 -- What contracts see of a kernel.
-use Rattle.std.specs.Prelude.{◌<◌, ◌≤◌, ℕ, zero, suc, Bool, true, false, List, [], ◌∷◌, ◌++◌, length, reverse, nat_le, if◌then◌else◌, Option, None, Some}
+use Rattle.std.specs.Prelude.{◌≡◌, nat_lt, slice_get, ◌&&◌, ◌<◌, ◌≤◌, ℕ, zero, suc, Bool, true, false, List, [], ◌∷◌, ◌++◌, length, reverse, nat_le, if◌then◌else◌, Option, None, Some}
 use Rattle.jk_core.specs.declared.entry.Entry.{Entry}
 use Rattle.jk_core.specs.declared.mark.Item.{Item}
 use Rattle.jk_core.specs.declared.mark.Item.TheVariants.{Took, Marked}
 use Rattle.jk_core.specs.declared.script.Waiting.{Waiting}
+use Rattle.jk_core.specs.declared.script.Task.{Task}
+use Rattle.jk_core.specs.declared.script.Task.TheVariants.{Cell, Query}
 use Rattle.jk_core.specs.Log.{Log, leaves}
 use Rattle.jk_core.specs.Render.{entries_at}
 
@@ -49,10 +51,20 @@ last_leave seat [] = 0
 last_leave seat (Took a ∷ past) = if leaves seat a then length past else last_leave seat past
 last_leave seat (Marked m ∷ past) = last_leave seat past
 
+-- whether what waits is a cell
+abbrev pub is_cell : {T : Type 0} → Task T → Bool
+is_cell (Cell result) = true
+is_cell (Query status) = false
+
 -- the numbers of what waits ascend, from above one up to another
 abbrev pub Ascends : {T : Type 0} → ℕ → ℕ → List (Waiting T) → Type 0
 Ascends low high [] = low ≤ high
 Ascends low high (w ∷ ws) = (low < w.number) × Ascends w.number high ws
+
+-- none of the first requests that wait, so many, is a cell that is still to be given
+pub record PassedBy {T : Type 0} (given passed : ℕ) (ws : List (Waiting T)) : Type 0 where
+  pub within : passed ≤ length ws
+  pub none : (i : ℕ) (w : Waiting T) → slice_get ws i ≡ Some w → i < passed → is_cell w.task && nat_lt given w.number ≡ false
 
 abbrev pub are_zeros : List ℕ → Bool
 are_zeros [] = true

@@ -12,7 +12,9 @@ use Rattle.jp_msg.specs.declared.message.Execute.{Execute}
 use Rattle.jk_core.specs.declared.arrival.Arrival.{Arrival}
 use Rattle.jk_core.specs.declared.arrival.Sort.{Sort}
 use Rattle.jk_core.specs.declared.arrival.Sort.TheVariants as sort
-use Rattle.jk_core.specs.Asked.{input_in, sort_as}
+use Rattle.jp_msg.specs.declared.message.Completeness.{Completeness}
+use Rattle.jk_core.specs.Asked.{query_in, input_in, sort_as}
+use Rattle.jk_core.specs.Queries.{IsStatusOf}
 use Rattle.jk_core.specs.declared.job.Job.{Job}
 use Rattle.jk_core.specs.Results.{Reading}
 use Rattle.jk_core.specs.declared.kernel.Used.{Used}
@@ -21,17 +23,19 @@ use Rattle.jk_core.specs.declared.job.Parsed.{Parsed}
 use Rattle.jk_core.specs.declared.job.Parsed.TheVariants as parsed
 use Rattle.jk_core.specs.declared.mark.Item.TheVariants.{Took, Marked}
 use Rattle.jk_core.specs.declared.mark.Kind.{Kind}
-use Rattle.jk_core.specs.declared.mark.Kind.TheVariants.{Join, Leave, Begin, Flush, Ask, Line, End, Stop, Refuse, Abort, Interrupt}
+use Rattle.jk_core.specs.declared.mark.Kind.TheVariants.{Join, Leave, Begin, Flush, Ask, Line, End, Stop, Refuse, Abort, Answer, Interrupt, KernelInfo, Restart}
 use Rattle.jk_core.specs.declared.mark.Ending.TheVariants as ending
 use Rattle.jk_core.specs.declared.mark.Cause.{Cause}
 use Rattle.jk_core.specs.declared.mark.Cause.TheVariants as cause
 use Rattle.jk_core.specs.declared.kernel.Work.{Work}
 use Rattle.jk_core.specs.declared.kernel.Work.TheVariants.{Rest, NeedsParse, Ran, NeedsLine, NoMemory}
 use Rattle.jk_core.specs.declared.script.Waiting.{Waiting}
-use Rattle.jk_core.specs.Log.{Log, Running, running, session, meaning, stood, lined, left, asker, count, next_count, arrivals, execute_at, option_with, option_or}
+use Rattle.jk_core.specs.declared.script.Task.{Task}
+use Rattle.jk_core.specs.declared.script.Task.TheVariants.{Cell, Query}
+use Rattle.jk_core.specs.Log.{Log, Running, running, session, meaning, stood, lined, left, asker, count, next_count, arrivals, ended, execute_at, option_with, option_or}
 use Rattle.jk_core.specs.Legal.{MayAsk, Lacks}
 use Rattle.jk_core.specs.Render.{entries_at}
-use Rattle.jk_core.specs.State.{KernelState}
+use Rattle.jk_core.specs.State.{KernelState, is_cell}
 
 -- the turns of the cell that runs, after a mark
 abbrev pub ran_after : Kind → ℕ → ℕ
@@ -45,7 +49,10 @@ ran_after (End ending count) ran = ran
 ran_after (Stop turns cause count) ran = ran
 ran_after (Refuse count) ran = ran
 ran_after Abort ran = ran
+ran_after (Answer status) ran = ran
 ran_after Interrupt ran = ran
+ran_after KernelInfo ran = ran
+ran_after (Restart restart) ran = ran
 
 -- one more mark, whose entries are now pending
 abbrev pub noted : {T : Type 0} → ℕ → Kind → KernelState T → KernelState T
@@ -57,32 +64,41 @@ noted at kind k = record {
   ran = ran_after kind k.ran;
 }
 
-abbrev pub waits_with : {T : Type 0} → Sort → ℕ → ℕ → List (Waiting T)
-waits_with sort.Execute at number = record { at = at; number = number; result = None } ∷ []
-waits_with sort.Join at number = []
-waits_with sort.Leave at number = []
-waits_with sort.Input at number = []
-waits_with sort.Interrupt at number = []
-waits_with sort.Other at number = []
+-- what an arrival adds to what waits; a query waits with the status that it will be answered
+abbrev pub waits_with : {T : Type 0} → Option Completeness → Sort → ℕ → ℕ → List (Waiting T)
+waits_with status sort.Execute at number = record { at = at; number = number; task = Cell None } ∷ []
+waits_with status sort.Query at number = record { at = at; number = number; task = Query status } ∷ []
+waits_with status sort.Join at number = []
+waits_with status sort.Leave at number = []
+waits_with status sort.Input at number = []
+waits_with status sort.Interrupt at number = []
+waits_with status sort.KernelInfo at number = []
+waits_with status (sort.Shutdown restart) at number = []
+waits_with status sort.Other at number = []
 
 -- the same kernel, where these wait
 abbrev pub with_waits : {T : Type 0} → List (Waiting T) → KernelState T → KernelState T
 with_waits ws k = record { log = k.log; pending = k.pending; waits = ws; given = k.given; ran = k.ran }
 
 -- one more arrival, which may wait
-abbrev pub took : {T : Type 0} → Arrival → KernelState T → KernelState T
-took a k = record {
+abbrev pub took : {T : Type 0} → Option Completeness → Arrival → KernelState T → KernelState T
+took status a k = record {
   log = Took a ∷ k.log;
   pending = k.pending;
-  waits = k.waits ++ waits_with (sort_as a.what) (length k.log) (arrivals k.log + 1);
+  waits = k.waits ++ waits_with status (sort_as a.what) (length k.log) (arrivals k.log + 1);
   given = k.given;
   ran = k.ran;
 }
 
--- each of these, which wait, is aborted
+-- the mark of a request that waits and is not begun any more: a cell is aborted, a query is answered
+abbrev pub closing : {T : Type 0} → Task T → Kind
+closing (Cell result) = Abort
+closing (Query status) = Answer status
+
+-- each of these, which wait, is aborted or answered
 abbrev pub aborting : {T : Type 0} → List (Waiting T) → KernelState T → KernelState T
 aborting [] k = k
-aborting (w ∷ ws) k = aborting ws (noted w.at Abort (with_waits ws k))
+aborting (w ∷ ws) k = aborting ws (noted w.at (closing w.task) (with_waits ws k))
 
 -- what follows an error of a cell
 abbrev pub failing : {T : Type 0} → Bool → KernelState T → KernelState T
@@ -91,8 +107,19 @@ failing stops k = if stops then aborting k.waits k else k
 -- the cell that runs is stopped where it stands
 abbrev pub stopped : {T : Type 0} → Cause → Option Running → KernelState T → KernelState T
 stopped cause None k = k
-stopped cause (Some r) k =
-    failing r.request.stop_on_error (noted r.at (Stop k.ran cause (count k.log)) (noted r.at (Flush k.ran []) k))
+stopped cause (Some r) k = noted r.at (Stop k.ran cause (count k.log)) (noted r.at (Flush k.ran []) k)
+
+abbrev pub stops_with : Option Running → Bool
+stops_with None = false
+stops_with (Some r) = r.request.stop_on_error
+
+-- an interrupt stops the cell that runs, which is an error
+abbrev pub interrupted : {T : Type 0} → Option Running → KernelState T → KernelState T
+interrupted o k = failing (stops_with o) (stopped cause.Interrupted o k)
+
+-- A shutdown stops the cell that runs, and aborts or answers all that waits; then the kernel starts anew, or has ended.
+abbrev pub shut : {T : Type 0} → ℕ → Bool → Option Running → KernelState T → KernelState T
+shut at restart o k = noted at (Restart restart) (aborting k.waits (stopped cause.Restarted o k))
 
 -- the line for the cell that asks
 abbrev pub given_to : {T : Type 0} → Option (List ℕ) → Option ℕ → KernelState T → KernelState T
@@ -104,14 +131,23 @@ given_to (Some text) (Some at) k = noted at (Line (Some text)) k
 abbrev pub answered : {T : Type 0} → Sort → Arrival → Log → KernelState T → KernelState T
 answered sort.Join a past k = noted (length past) Join k
 answered sort.Leave a past k = noted (length past) Leave k
-answered sort.Interrupt a past k = stopped cause.Interrupted (running k.log) (noted (length past) Interrupt k)
+answered sort.Interrupt a past k = interrupted (running k.log) (noted (length past) Interrupt k)
+answered sort.KernelInfo a past k = noted (length past) KernelInfo k
+answered (sort.Shutdown restart) a past k = shut (length past) restart (running k.log) k
 answered sort.Input a past k = given_to (input_in a.what) (asker a.seat past) k
 answered sort.Execute a past k = k
+answered sort.Query a past k = k
 answered sort.Other a past k = k
 
--- an arrival is taken, with the marks that stand directly after it
-abbrev pub taken : {T : Type 0} → Arrival → KernelState T → KernelState T
-taken a k = answered (sort_as a.what) a k.log (took a k)
+-- an arrival is taken, with the marks that stand directly after it; the status is that of a query, if it is one
+abbrev pub taken : {T : Type 0} → Option Completeness → Arrival → KernelState T → KernelState T
+taken status a k = answered (sort_as a.what) a k.log (took status a k)
+
+-- What taking an arrival does. Once the kernel was shut down, and not to start again, the arrival is dropped.
+abbrev pub Takes : {S T : Type 0} → Spoken S T → Arrival → KernelState T → KernelState T → Type 0
+Takes spoken a old new =
+    ((ended old.log ≡ true) × (new ≡ old))
+    ⊎ ((ended old.log ≡ false) × (status : Option Completeness) × IsStatusOf spoken (query_in a.what) status × (new ≡ taken status a old))
 
 abbrev pub begun : {T : Type 0} → ℕ → KernelState T → KernelState T
 begun at k = noted at (Begin (next_count at k.log)) k
@@ -225,24 +261,53 @@ Starts spoken turns at (Some (parsed.Tree cell)) old work new =
     BeginsAt spoken turns at old work new
     ⊎ ((refusal : Refusal) × IsBrokenAt spoken at refusal old.log × (work ≡ Ran) × (new ≡ broken at refusal old))
 
+abbrev pub StartsAs : {S T : Type 0} → Spoken S T → ℕ → ℕ → Task T → KernelState T → Work → KernelState T → Type 0
+StartsAs spoken turns at (Cell result) old work new = Starts spoken turns at result old work new
+StartsAs spoken turns at (Query status) old work new = ⊥
+
 abbrev pub StartsFirst : {S T : Type 0} → Spoken S T → ℕ → List (Waiting T) → KernelState T → Work → KernelState T → Type 0
 StartsFirst spoken turns [] old work new = ⊥
-StartsFirst spoken turns (w ∷ ws) old work new = Starts spoken turns w.at w.result (with_waits ws old) work new
+StartsFirst spoken turns (w ∷ ws) old work new = StartsAs spoken turns w.at w.task (with_waits ws old) work new
 
--- the first that waits has no result
+-- the first that waits is a cell that has no result
 abbrev pub FirstUnread : {T : Type 0} → List (Waiting T) → Type 0
 FirstUnread [] = ⊥
-FirstUnread (w ∷ ws) = w.result ≡ None
+FirstUnread (w ∷ ws) = w.task ≡ Cell None
+
+-- the first that waits is a query
+abbrev pub FirstAsks : {T : Type 0} → List (Waiting T) → Type 0
+FirstAsks [] = ⊥
+FirstAsks (w ∷ ws) = is_cell w.task ≡ false
+
+abbrev pub by_task : {A T : Type 0} → Task T → (Option (Parsed T) → A) → (Option Completeness → A) → A
+by_task (Cell result) cell query = cell result
+by_task (Query status) cell query = query status
+
+-- the queries that wait before the first cell are answered
+abbrev pub answering : {T : Type 0} → List (Waiting T) → KernelState T → KernelState T
+answering [] k = k
+answering (w ∷ ws) k = by_task w.task (λ result. k) (λ status. answering ws (noted w.at (Answer status) (with_waits ws k)))
 
 -- a cell asked, has no line yet, and its seat is here
 abbrev pub IsAsking : Log → Type 0
 IsAsking log = (r : Running) × (running log ≡ Some r) × (r.asked ≡ true) × (left r.seat r.at log ≡ false)
 
--- the cell that runs goes on, or the first that waits starts
+-- nothing waits, or the first that waits is a cell without a result
+abbrev pub NoneStarts : {T : Type 0} → List (Waiting T) → Type 0
+NoneStarts [] = Unit {0}
+NoneStarts (w ∷ ws) = w.task ≡ Cell None
+
+-- The queries before the first cell are answered, if there are any, and that cell starts where it has its result.
+abbrev pub AnswersFirst : {S T : Type 0} → Spoken S T → ℕ → KernelState T → Work → KernelState T → Type 0
+AnswersFirst spoken turns old work new =
+    StartsFirst spoken turns (answering old.waits old).waits (answering old.waits old) work new
+    ⊎ (FirstAsks old.waits × NoneStarts (answering old.waits old).waits × (work ≡ Ran) × (new ≡ answering old.waits old))
+
+-- the cell that runs goes on, or what waits is answered and the first cell starts
 abbrev pub Moves : {S T : Type 0} → Spoken S T → ℕ → KernelState T → Work → KernelState T → Type 0
 Moves spoken turns old work new =
     ((r : Running) × (running old.log ≡ Some r) × GoesOn spoken turns r old work new)
-    ⊎ ((running old.log ≡ None) × StartsFirst spoken turns old.waits old work new)
+    ⊎ ((running old.log ≡ None) × AnswersFirst spoken turns old work new)
 
 -- What one call of work does, by its answer. Where memory is wanting nothing has changed, but for a cell that went on to
 -- where it lacks a line.
@@ -264,28 +329,28 @@ is_at_rest k = not (is_some (running k.log)) && none_waits k.waits
 abbrev pub code_at : ℕ → Log → Option (List ℕ)
 code_at at log = option_with (λ (e : Execute). e.code) (execute_at at log)
 
--- the first request whose number is past those of the jobs given
+-- the first cell whose number is past those of the jobs given
 abbrev pub first_after : {T : Type 0} → ℕ → List (Waiting T) → Option (Waiting T)
-first_after given ws = find (λ w. nat_lt given w.number) ws
+first_after given ws = find (λ w. is_cell w.task && nat_lt given w.number) ws
 
 abbrev pub with_given : {T : Type 0} → ℕ → KernelState T → KernelState T
 with_given given k = record { log = k.log; pending = k.pending; waits = k.waits; given = given; ran = k.ran }
 
--- each request that waits is given once, in their order
+-- each cell that waits is given once, in their order
 abbrev pub GivesJob : {T : Type 0} → KernelState T → Option Job → KernelState T → Type 0
 GivesJob old None new = (first_after old.given old.waits ≡ None) × (new ≡ old)
 GivesJob {T = T} old (Some job) new =
     (w : Waiting T) × (first_after old.given old.waits ≡ Some w)
     × (job.number ≡ w.number) × (code_at w.at old.log ≡ Some job.text) × (new ≡ with_given w.number old)
 
--- the request has that number, exactly that text and no result yet
+-- the cell that waits has that number, exactly that text and no result yet
 pub record CanKeep {T : Type 0} (log : Log) (job : ℕ) (read : List ℕ) (w : Waiting T) : Type 0 where
   pub number : w.number ≡ job
   pub text : code_at w.at log ≡ Some read
-  pub unread : w.result ≡ None
+  pub unread : w.task ≡ Cell None
 
 abbrev pub with_result : {T : Type 0} → Parsed T → Waiting T → Waiting T
-with_result outcome w = record { at = w.at; number = w.number; result = Some outcome }
+with_result outcome w = record { at = w.at; number = w.number; task = Cell (Some outcome) }
 
 -- a result is kept exactly where a request can keep it
 abbrev pub Hands : {T : Type 0} → Reading T → KernelState T → Used (Reading T) → KernelState T → Type 0

@@ -93,6 +93,7 @@ pub(crate) fn of_cause(alloc: Global, cause: Cause) -> Result<Failure, AllocErro
     match cause {
         Cause::Memory => Failure::new(alloc, "Memory", ""),
         Cause::Interrupted => Failure::new(alloc, "Interrupted", ""),
+        Cause::Restarted => Failure::new(alloc, "Restarted", ""),
     }
 }
 

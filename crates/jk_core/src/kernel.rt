@@ -2,7 +2,8 @@
 
 ghost use Rattle.std.specs.Prelude.{◌≡◌, [], length, take, OnOk, OnErr, IfOk, IfErr, Ok};
 ghost use Rattle.jk_core.specs.Legal.{IsLegal};
-ghost use Rattle.jk_core.specs.Steps.{taken, without, is_at_rest as rests, Works, GivesJob, Hands};
+ghost use Rattle.jk_core.specs.Steps.{Takes, without, is_at_rest as rests, Works, GivesJob, Hands};
+ghost use Rattle.jk_core.specs.Log.{ended as ended_of};
 ghost use Rattle.jk_core.specs.State.{joined, fresh};
 
 use crate::arrival::Arrival;
@@ -21,9 +22,9 @@ use std::marker::Model;
 pub enum Work {
     /// No cell runs, and nothing waits.
     Rest,
-    /// No cell runs, and the first request that waits has no result.
+    /// No cell runs, and the first request that waits is a cell without a result.
     NeedsParse,
-    /// A cell went on by all the turns given, or ended, or a request was marked.
+    /// A cell went on by all the turns given, or ended, or a request that waited was marked.
     Ran,
     /// The cell that runs asked its seat for a line, and has none yet. A call while it asks changes nothing.
     NeedsLine,
@@ -76,17 +77,22 @@ impl<L: Language> Kernel<L> {
         })
     }
 
-    /// Takes an arrival, and marks it where it is answered at once. Where memory is refused, the arrival is handed
-    /// back and nothing has changed.
+    /// Takes an arrival, and marks it where it is answered at once. After a shutdown without restart the arrival is
+    /// dropped, and nothing changes.
+    ///
+    /// # Errors
+    ///
+    /// Out of memory: the arrival is handed back, and nothing has changed.
     pub fn take(&mut self, arrival: Arrival) -> Result<(), AllocFailed<Arrival>>
-        ensures ok { OnOk result (self.new ≡ taken arrival self.old) }
+        ensures ok { OnOk result (Takes L.spoken arrival self.old self.new) }
         ensures err { IfErr result (λ back. (back.value ≡ arrival) × (self.new ≡ self.old)) }
         ensures legal { IsLegal L.spoken self.new.log }
     {
         take_in::<L>(&mut self.script, &mut self.desk, arrival)
     }
 
-    /// Goes on by at most so many turns with the cell that runs, or begins what waits first.
+    /// Goes on by at most so many turns with the cell that runs. Where none runs, answers the requests that wait before
+    /// the first execute request, and begins that one.
     pub fn work(&mut self, turns: u64) -> Work
         ensures works { Works L.spoken turns self.old result self.new }
         ensures legal { IsLegal L.spoken self.new.log }
@@ -94,7 +100,7 @@ impl<L: Language> Kernel<L> {
         work_on::<L>(&mut self.script, &mut self.desk, turns)
     }
 
-    /// The text of the next request that waits and was not given. Each is given once, in the order taken.
+    /// The text of the next execute request that waits and was not given. Each is given once, in the order taken.
     pub fn next_job(&mut self) -> Result<Option<Job>, AllocError>
         ensures ok { IfOk result (λ job. GivesJob self.old job self.new) }
         ensures err { OnErr result (self.new ≡ self.old) }
@@ -117,6 +123,13 @@ impl<L: Language> Kernel<L> {
             Place::Resting(_) => self.script.first().is_none(),
             Place::Running(_) => false,
         }
+    }
+
+    /// Whether the kernel was shut down, and not to start again.
+    pub fn ended(&self) -> bool
+        ensures { result ≡ ended_of self.now.log }
+    {
+        self.script.ended()
     }
 
     /// The log is legal.

@@ -2,6 +2,7 @@
 
 use crate::arrival::Arrival;
 use jk_language::{Refusal, Trap};
+use jp_msg::Completeness;
 use json_form::Text;
 
 /// Why a cell was stopped.
@@ -9,6 +10,8 @@ use json_form::Text;
 pub enum Cause {
     Memory,
     Interrupted,
+    /// The kernel is shut down, or starts again.
+    Restarted,
 }
 
 /// How a cell ended.
@@ -52,7 +55,17 @@ pub enum Kind {
         count: u64,
     },
     Abort,
+    /// A request that waits and is no cell is answered; `is_complete` with a status.
+    Answer {
+        status: Option<Completeness>,
+    },
     Interrupt,
+    /// A `kernel_info` request on the control channel is answered.
+    KernelInfo,
+    /// The kernel starts again, or has ended.
+    Restart {
+        restart: bool,
+    },
 }
 
 /// A mark of the script, for the request at a place of the log.

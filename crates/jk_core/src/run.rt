@@ -1,16 +1,16 @@
 //! One slice: the cell that runs goes on, or what waits first begins.
 
 ghost use Rattle.std.specs.Prelude.{◌≡◌, ℕ, ◌≤◌, false, length, Some, None, ◌⊎◌, OnOk, OnErr};
-ghost use Rattle.jk_core.specs.Log.{count as count_of};
-ghost use Rattle.jk_core.specs.Steps.{Works};
-ghost use Rattle.jk_core.specs.Kept.{IsKept, RunsBy, Stands, is_asking};
+ghost use Rattle.jk_core.specs.Log.{count as count_of, running};
+ghost use Rattle.jk_core.specs.Steps.{Works, answering};
+ghost use Rattle.jk_core.specs.Kept.{IsKept, RunsBy, Stands, first_is_read as first_is_read_of, is_asking, is_read as is_read_of};
 ghost use Rattle.jk_core.specs.Slices.{IsAtWork};
 
 use crate::desk::{Active, Desk, Place, Wants, take_place};
 use crate::kernel::Work;
-use crate::script::Script;
+use crate::script::{Script, Task};
 use crate::slice::go_on;
-use crate::start::start;
+use crate::start::{answer_queries, start};
 use jk_language::Language;
 use std::alloc::AllocError;
 
@@ -27,18 +27,56 @@ pub(crate) fn work_on<L: Language>(
 {
     match take_place::<L>(desk) {
         Place::Running(active) => resume::<L>(script, desk, active, turns),
-        Place::Resting(session) => match script.first_is_read() {
-            None => {
-                desk.place = Place::Resting(session);
-                Work::Rest
+        Place::Resting(session) => {
+            if first_is_read(script) {
+                return start::<L>(script, desk, session, turns);
             }
-            Some(false) => {
-                desk.place = Place::Resting(session);
-                Work::NeedsParse
-            }
-            Some(true) => start::<L>(script, desk, session, turns),
-        },
+            desk.place = Place::Resting(session);
+            answer::<L>(script, turns)
+        }
     }
+}
+
+/// Whether the first cell that waits has its result.
+fn first_is_read<T: Drop>(script: &Script<T>) -> bool
+    ensures { result ≡ first_is_read_of script.now.state.waits }
+{
+    match script.first_cell() {
+        Some(first) => is_read(&first.task),
+        None => false,
+    }
+}
+
+/// Whether what waits is a cell that has its result.
+fn is_read<T>(task: &Task<T>) -> bool
+    ensures { result ≡ is_read_of task.now }
+{
+    match task {
+        Task::Cell(result) => result.is_some(),
+        Task::Query(_) => false,
+    }
+}
+
+/// Answers the queries that wait before the first cell, which has no result.
+fn answer<L: Language>(script: &mut Script<L::Tree>, turns: u64) -> Work
+    requires idle { running script.old.state.log ≡ None }
+    requires unread { first_is_read_of script.old.state.waits ≡ false }
+    ensures works { Works L.spoken turns script.old.state result script.new.state }
+    ensures quiet { (script.new.state ≡ script.old.state) ⊎ (script.new.state ≡ answering script.old.state.waits script.old.state) }
+{
+    let _ = turns;
+    let Some(first) = script.first() else {
+        return Work::Rest;
+    };
+    if let Task::Cell(_) = &first.task {
+        return Work::NeedsParse;
+    }
+    let more = script.waiting_len();
+    if script.reserve(more).is_err() {
+        return Work::NoMemory;
+    }
+    answer_queries(script);
+    Work::Ran
 }
 
 /// Goes on with the cell that runs, unless it waits for the line that it asked for.

@@ -1,11 +1,11 @@
 //! What was taken and marked, and what waits.
 
-ghost use Rattle.std.specs.Prelude.{◌≡◌, ℕ, ◌+◌, ◌^◌, ◌<◌, ◌≤◌, [], ◌∷◌, ◌++◌, List, drop, take, length, reverse, is_some, slice_get, IsTrue, IfSome, IfNone, OnOk, OnErr, IfOk, IfErr, option_copied, None, Some};
+ghost use Rattle.std.specs.Prelude.{◌≡◌, ◌&&◌, ◌||◌, nat_lt, ℕ, ◌+◌, ◌^◌, ◌<◌, ◌≤◌, [], ◌∷◌, ◌++◌, List, drop, find, take, length, reverse, slice_get, IsTrue, IfSome, IfNone, OnOk, OnErr, IfOk, IfErr, option_copied, None, Some};
 ghost use Rattle.std.specs.Vec.{vec_capacity, vec_len};
-ghost use Rattle.jk_core.specs.Steps.{noted, took, waits_with, with_waits, with_ran, ran_after, without, GivesJob, Hands, CanKeep, first_after as first_after_of};
+ghost use Rattle.jk_core.specs.Steps.{closing, noted, took, waits_with, with_waits, with_ran, ran_after, without, GivesJob, Hands, CanKeep, first_after as first_after_of};
 ghost use Rattle.jk_core.specs.Kept.{AllWait, IsKept};
-ghost use Rattle.jk_core.specs.State.{Ascends, WaitingOf};
-ghost use Rattle.jk_core.specs.Log.{arrival_at, execute_at, input_at, seat_at, left, option_with};
+ghost use Rattle.jk_core.specs.State.{Ascends, PassedBy, WaitingOf, is_cell as is_cell_of};
+ghost use Rattle.jk_core.specs.Log.{arrival_at, ended as ended_of, ends as ends_of, execute_at, input_at, seat_at, left, option_with};
 ghost use Rattle.jk_core.specs.State.{first_of, fresh, joined, pending_from};
 
 use crate::arrival::{Arrival, Sort, execute_sent, input_sent, sort_of};
@@ -16,18 +16,27 @@ use crate::leaves::Leaves;
 use crate::mark::{Item, Kind, Mark};
 use crate::show::next_entries;
 use jk_language::Language;
-use jp_msg::Execute;
+use jp_msg::{Completeness, Execute};
 use json_form::Text;
 use std::alloc::{AllocError, AllocFailed, Global};
 use std::collections::VecDeque;
 use std::marker::Model;
+
+/// What is to be done for a request that waits.
+#[derive(Drop)]
+pub(crate) enum Task<T> {
+    /// Its cell is begun, once its text was read.
+    Cell(Option<Parsed<T>>),
+    /// It is answered; `is_complete` with a status.
+    Query(Option<Completeness>),
+}
 
 /// A shell request that is taken and not yet marked.
 #[derive(Drop)]
 pub(crate) struct Waiting<T> {
     pub at: usize,
     pub number: u64,
-    pub result: Option<Parsed<T>>,
+    pub task: Task<T>,
 }
 
 /// What was taken and marked, and what waits.
@@ -38,7 +47,11 @@ pub(crate) struct Script<T> {
     shown: usize,
     waiting: VecDeque<Waiting<T>>,
     given: u64,
+    /// How many of the requests that wait `next_job` has passed.
+    passed: usize,
     taken: u64,
+    /// Whether the kernel was shut down, and not to start again.
+    ended: bool,
     /// The turns of the cell that runs.
     ran: u64,
     leaves: Leaves,
@@ -47,8 +60,8 @@ pub(crate) struct Script<T> {
 impl<T> Model for Script<T> {
     ghost use Rattle.std.specs.Prelude.{◌≡◌, ◌-◌, ◌≤◌, ◌<◌, ℕ, Some, length, reverse, slice_get};
     ghost use Rattle.std.specs.Vec.{vec_capacity, vec_len};
-    ghost use Rattle.jk_core.specs.Log.{arrivals};
-    ghost use Rattle.jk_core.specs.State.{Ascends, last_leave};
+    ghost use Rattle.jk_core.specs.Log.{arrivals, ended as ended_of};
+    ghost use Rattle.jk_core.specs.State.{Ascends, PassedBy, last_leave};
     ghost use Rattle.jk_core.specs.State.{ScriptState, state_of};
     ghost use Rattle.std.specs.Coded.{codes};
     ghost use Rattle.json_form.specs.contracts.kept.Json as json;
@@ -66,6 +79,8 @@ impl<T> Model for Script<T> {
       shown : s.shown ≤ length s.log.items;
       taken : s.taken ≡ arrivals (reverse s.log.items);
       order : Ascends 0 s.taken s.waiting.items;
+      passed : PassedBy s.given s.passed s.waiting.items;
+      ended : s.ended ≡ ended_of (reverse s.log.items);
       left : (seat : ℕ) → seat < 256 → slice_get s.leaves seat ≡ Some (last_leave seat (reverse s.log.items));
     } };
 }
@@ -79,7 +94,9 @@ impl<T: Drop> Script<T> {
             shown: 0,
             waiting: VecDeque::new(alloc),
             given: 0,
+            passed: 0,
             taken: 0,
+            ended: false,
             ran: 0,
             leaves: Leaves::none(),
         }
@@ -100,10 +117,9 @@ impl<T: Drop> Script<T> {
         ensures state { self.new.state ≡ noted at kind self.old.state }
         ensures room { self.old.room ≤ self.new.room + 1 }
     {
-        let room = self.log.len() < self.log.capacity();
-        prove!(room);
         self.ran = ran_by(&kind, self.ran);
-        let _ = self.log.push(Item::Marked(Mark { at, kind }));
+        self.ended = ended_by(&kind, self.ended);
+        push(&mut self.log, Item::Marked(Mark { at, kind }));
     }
 
     /// The cell that runs has gone on to so many turns.
@@ -114,16 +130,21 @@ impl<T: Drop> Script<T> {
         self.ran = turns;
     }
 
-    /// Takes an arrival, for which there is room.
-    pub fn take(&mut self, arrival: Arrival) -> Result<(), AllocFailed<Arrival>>
+    /// Takes an arrival, for which there is room. The status is that of a query, if it is one.
+    pub fn take(
+        &mut self,
+        arrival: Arrival,
+        status: Option<Completeness>,
+    ) -> Result<(), AllocFailed<Arrival>>
         requires { 0 < self.old.room }
-        ensures ok { OnOk result (self.new.state ≡ took arrival self.old.state) }
+        ensures ok { OnOk result (self.new.state ≡ took status arrival self.old.state) }
         ensures room { self.old.room ≤ self.new.room + 1 }
         ensures err { IfErr result (λ back. (back.value ≡ arrival) × (self.new.state ≡ self.old.state)) }
     {
         let number = self.taken + 1;
         match wait(
             &mut self.waiting,
+            status,
             sort_of(&arrival.what),
             self.log.len(),
             number,
@@ -153,14 +174,11 @@ impl<T: Drop> Script<T> {
         self.log.len()
     }
 
-    /// Whether the first request that waits has its result, if one waits.
-    pub fn first_is_read(&self) -> Option<bool>
-        ensures { result ≡ option_with (λ w. is_some w.result) (first_of self.now.state.waits) }
+    /// Whether the kernel was shut down, and not to start again.
+    pub fn ended(&self) -> bool
+        ensures { result ≡ ended_of self.now.state.log }
     {
-        match self.first() {
-            Some(waiting) => Some(waiting.result.is_some()),
-            None => None,
-        }
+        self.ended
     }
 
     /// The first request that waits.
@@ -170,12 +188,20 @@ impl<T: Drop> Script<T> {
         self.waiting.front()
     }
 
+    /// The first cell that waits.
+    pub fn first_cell(&self) -> Option<&Waiting<T>>
+        ensures { option_copied result ≡ find (λ w. is_cell_of w.task) self.now.state.waits }
+    {
+        self.waiting.iter().find(|w| is_cell(&w.task))
+    }
+
     /// Takes the first request that waits off the others.
     pub fn pop_waiting(&mut self) -> Option<Waiting<T>>
         ensures first { result ≡ first_of self.old.state.waits }
         ensures rest { self.new.state ≡ with_waits (drop 1 self.old.state.waits) self.old.state }
         ensures room { self.new.room ≡ self.old.room }
     {
+        self.passed = self.passed.saturating_sub(1);
         match self.waiting.pop_front() {
             Some(waiting) => Some(waiting),
             None => None,
@@ -235,25 +261,25 @@ impl<T: Drop> Script<T> {
         count_marks(self.log.as_slice(), self.shown)
     }
 
-    /// The job of the next request that waits and was not given.
+    /// The job of the next cell that waits and was not given.
     pub fn next_job<L: Language<Tree = T>>(&mut self) -> Result<Option<Job>, AllocError>
         requires { AllWait L.spoken self.old.state.log self.old.state.waits }
         ensures ok { IfOk result (λ job. GivesJob self.old.state job self.new.state) }
         ensures err { OnErr result (self.new.state ≡ self.old.state) }
     {
-        let given = self.given;
-        match first_after(&self.waiting, given) {
-            None => Ok(None),
-            Some(waiting) => {
-                let number = waiting.number;
-                match execute_in(self.log.as_slice(), waiting.at) {
-                    None => unreachable!(),
-                    Some(execute) => {
-                        let text = execute.code.copy()?;
-                        self.given = number;
-                        Ok(Some(Job { number, text }))
-                    }
-                }
+        let place = next_cell(&self.waiting, self.given, self.passed);
+        self.passed = place;
+        if place == self.waiting.len() {
+            return Ok(None);
+        }
+        let waiting = &self.waiting[place];
+        let number = waiting.number;
+        match execute_in(self.log.as_slice(), waiting.at) {
+            None => unreachable!(),
+            Some(execute) => {
+                let text = execute.code.copy()?;
+                self.given = number;
+                Ok(Some(Job { number, text }))
             }
         }
     }
@@ -267,7 +293,7 @@ impl<T: Drop> Script<T> {
             None => Used::Stranger(cell),
             Some(place) => {
                 let (_, _, outcome) = cell.into_parts();
-                self.waiting[place].result = Some(outcome);
+                self.waiting[place].task = Task::Cell(Some(outcome));
                 Used::Kept
             }
         }
@@ -301,7 +327,32 @@ fn ran_by(kind: &Kind, ran: u64) -> u64
         | Kind::Stop { .. }
         | Kind::Refuse { .. }
         | Kind::Abort
-        | Kind::Interrupt => ran,
+        | Kind::Answer { .. }
+        | Kind::Interrupt
+        | Kind::KernelInfo
+        | Kind::Restart { .. } => ran,
+    }
+}
+
+/// Whether the kernel has ended after a mark: it was shut down, and not to start again.
+fn ended_by(kind: &Kind, ended: bool) -> bool
+    ensures { result ≡ (ends_of kind.now || ended) }
+{
+    match kind {
+        Kind::Restart { restart } => !*restart || ended,
+        Kind::Join
+        | Kind::Leave
+        | Kind::Begin { .. }
+        | Kind::Flush { .. }
+        | Kind::Ask
+        | Kind::Line { .. }
+        | Kind::End { .. }
+        | Kind::Stop { .. }
+        | Kind::Refuse { .. }
+        | Kind::Abort
+        | Kind::Answer { .. }
+        | Kind::Interrupt
+        | Kind::KernelInfo => ended,
     }
 }
 
@@ -328,40 +379,76 @@ fn execute_in(items: &[Item], at: usize) -> Option<&Execute>
     }
 }
 
-/// Adds a request that is to wait.
+/// Adds a request that is to wait. The status is that of a query.
 fn wait<T: Drop>(
     waiting: &mut VecDeque<Waiting<T>>,
+    status: Option<Completeness>,
     sort: Sort,
     at: usize,
     number: u64,
 ) -> Result<(), AllocError>
-    ensures ok { OnOk result (waiting.new.items ≡ waiting.old.items ++ waits_with sort at number) }
+    ensures ok { OnOk result (waiting.new.items ≡ waiting.old.items ++ waits_with status sort at number) }
     ensures err { OnErr result (waiting.new.items ≡ waiting.old.items) }
 {
-    match sort {
-        Sort::Execute => match waiting.push_back(Waiting {
-            at,
-            number,
-            result: None,
-        }) {
-            Ok(()) => Ok(()),
-            Err(_) => Err(AllocError),
-        },
-        Sort::Join | Sort::Leave | Sort::Input | Sort::Interrupt | Sort::Other => Ok(()),
+    let task = match sort {
+        Sort::Execute => Task::Cell(None),
+        Sort::Query => Task::Query(status),
+        Sort::Join
+        | Sort::Leave
+        | Sort::Input
+        | Sort::Interrupt
+        | Sort::KernelInfo
+        | Sort::Shutdown { .. }
+        | Sort::Other => return Ok(()),
+    };
+    match waiting.push_back(Waiting { at, number, task }) {
+        Ok(()) => Ok(()),
+        Err(_) => Err(AllocError),
     }
 }
 
-/// The first request whose number is past those given.
-fn first_after<T>(waiting: &VecDeque<Waiting<T>>, given: u64) -> Option<&Waiting<T>>
-    requires { (high : ℕ) × Ascends 0 high waiting.now.items }
-    ensures { option_copied result ≡ first_after_of given waiting.now.items }
+/// Whether what waits is a cell.
+fn is_cell<T>(task: &Task<T>) -> bool
+    ensures { result ≡ is_cell_of task.now }
 {
-    let place = place_after(waiting, given);
-    if place < waiting.len() {
-        Some(&waiting[place])
-    } else {
-        None
+    match task {
+        Task::Cell(_) => true,
+        Task::Query(_) => false,
     }
+}
+
+/// The mark of a request that waits and is not begun any more: a cell is aborted, a query is answered.
+pub(crate) fn closing_kind<T>(task: &Task<T>) -> Kind
+    ensures { result ≡ closing task.now }
+{
+    match task {
+        Task::Cell(_) => Kind::Abort,
+        Task::Query(status) => Kind::Answer { status: *status },
+    }
+}
+
+/// The place of the first cell whose number is past those given, or how many requests wait. All before `from` are
+/// known to be none.
+fn next_cell<T>(waiting: &VecDeque<Waiting<T>>, given: u64, from: usize) -> usize
+    requires { PassedBy given from waiting.now.items }
+    ensures passed { PassedBy given result waiting.now.items }
+    ensures found { slice_get waiting.now.items result ≡ first_after_of given waiting.now.items }
+{
+    let mut place = from;
+    while place < waiting.len() {
+        if is_due(&waiting[place], given) {
+            return place;
+        }
+        place += 1;
+    }
+    place
+}
+
+/// Whether what waits is a cell that is still to be given.
+fn is_due<T>(waiting: &Waiting<T>, given: u64) -> bool
+    ensures { result ≡ (is_cell_of waiting.now.task && nat_lt given waiting.now.number) }
+{
+    is_cell(&waiting.task) && given < waiting.number
 }
 
 /// The place behind the requests up to a number, found by halves.
@@ -396,7 +483,7 @@ fn can_keep<T>(items: &[Item], waiting: &Waiting<T>, job: u64, text: &Text) -> b
     ensures yes { IsTrue result → CanKeep (reverse items.now) job text.now waiting.now }
     ensures no { CanKeep (reverse items.now) job text.now waiting.now → IsTrue result }
 {
-    if waiting.number != job || waiting.result.is_some() {
+    if waiting.number != job || !matches!(&waiting.task, Task::Cell(None)) {
         return false;
     }
     match execute_in(items, waiting.at) {

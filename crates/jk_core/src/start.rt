@@ -1,18 +1,18 @@
 //! Beginning what waits first.
 
-ghost use Rattle.std.specs.Prelude.{◌≡◌, ◌≢◌, ℕ, ◌+◌, ◌≤◌, List, length, IfOk, IfErr, Some, None, ◌⊎◌};
+ghost use Rattle.std.specs.Prelude.{◌≡◌, ◌≢◌, ℕ, ◌+◌, ◌≤◌, List, length, true, IfOk, IfErr, Some, None, ◌⊎◌};
 ghost use Rattle.jk_core.specs.Log.{count as count_of, session as session_of, next_count as next_count_of, execute_at, running};
 ghost use Rattle.jk_core.specs.Results.{IsResult};
-ghost use Rattle.jk_core.specs.Steps.{stops_at as stops_at_of, allows_at as allows_at_of, broken, StartsFirst, BeginsAt, IsBrokenAt};
+ghost use Rattle.jk_core.specs.Steps.{answering, stops_at as stops_at_of, allows_at as allows_at_of, broken, BeginsAt, IsBrokenAt};
 ghost use Rattle.jp_msg.specs.declared.message.Execute.{Execute as ExecuteOf};
-ghost use Rattle.jk_core.specs.Kept.{IsKept, Stands, Opens, FirstRead, StartsOr};
+ghost use Rattle.jk_core.specs.Kept.{IsKept, Stands, Opens, StartsOr, first_is_read};
 ghost use Rattle.jk_language.specs.Beginning.{IsFresh};
 
 use crate::desk::{Active, Desk, Place, Wants};
 use crate::job::Parsed;
 use crate::kernel::Work;
 use crate::mark::{Ending, Kind};
-use crate::script::Script;
+use crate::script::{Script, Task};
 use crate::slice::go_on;
 use crate::taking::fail;
 use jk_language::{Begun, Language, Refusal};
@@ -83,7 +83,7 @@ fn open<L: Language>(
     }
 }
 
-/// Begins, or refuses, the first request that waits, which has its result.
+/// Answers the queries that wait before the first cell, and begins or refuses that cell, which has its result.
 pub(crate) fn start<L: Language>(
     script: &mut Script<L::Tree>,
     desk: &mut Desk<L::Session, L::Machine>,
@@ -94,7 +94,7 @@ pub(crate) fn start<L: Language>(
     requires session { session ≡ session_of L.spoken script.old.state.log }
     requires idle { running script.old.state.log ≡ None }
     requires kept { IsKept L.spoken script.old.state }
-    requires read { FirstRead script.old.state.waits }
+    requires read { first_is_read script.old.state.waits ≡ true }
     ensures starts { StartsOr L.spoken turns script.old.state result script.new.state }
     ensures stands { Stands L.spoken L.state script.new.state desk.new }
 {
@@ -103,10 +103,13 @@ pub(crate) fn start<L: Language>(
         desk.place = Place::Resting(session);
         return Work::NoMemory;
     }
-    let Some(first) = script.first() else {
+    let Some(first) = script.first_cell() else {
         unreachable!()
     };
-    let Some(outcome) = &first.result else {
+    let Task::Cell(result) = &first.task else {
+        unreachable!()
+    };
+    let Some(outcome) = result else {
         unreachable!()
     };
     let at = first.at;
@@ -117,6 +120,7 @@ pub(crate) fn start<L: Language>(
             return Work::NoMemory;
         }
     };
+    answer_queries(script);
     let _ = script.pop_waiting();
     match opening {
         Opening::Refused(session) => {
@@ -130,6 +134,22 @@ pub(crate) fn start<L: Language>(
             Work::Ran
         }
         Opening::Runs(machine) => begin::<L>(script, desk, at, machine, turns),
+    }
+}
+
+/// Answers the queries that wait before the first cell.
+pub(crate) fn answer_queries<T: Drop>(script: &mut Script<T>)
+    requires { length script.old.state.waits ≤ script.old.room }
+    ensures state { script.new.state ≡ answering script.old.state.waits script.old.state }
+    ensures room { script.old.room + length script.new.state.waits ≤ script.new.room + length script.old.state.waits }
+{
+    while let Some(first) = script.first() {
+        let Task::Query(status) = &first.task else {
+            return;
+        };
+        let (at, status) = (first.at, *status);
+        let _ = script.pop_waiting();
+        script.note(at, Kind::Answer { status });
     }
 }
 

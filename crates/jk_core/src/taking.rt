@@ -3,18 +3,19 @@
 ghost use Rattle.std.specs.Prelude.{◌≡◌, ℕ, ◌+◌, ◌<◌, ◌≤◌, List, is_some, length, OnOk, IfOk, IfErr, IfSome};
 ghost use Rattle.jk_core.specs.Asked.{input_in};
 ghost use Rattle.jk_core.specs.Log.{asker, running};
-ghost use Rattle.jk_core.specs.Steps.{taken, stopped, failing, aborting, given_to};
-ghost use Rattle.jk_core.specs.Kept.{IsKept, IsLineFor, Stands, CanStop, line_to, lined_up};
+ghost use Rattle.jk_core.specs.Steps.{Takes, aborting, failing, interrupted, shut, stopped, stops_with};
+ghost use Rattle.jk_core.specs.Kept.{IsKept, IsLineBy, IsLineFor, Stands, StandsFor, CanStop, line_to, lined_up, marked_as};
 
 use crate::arrival::{Arrival, Sort, input_sent, sort_of};
 use crate::desk::{Active, Desk, Place, Wants, take_place};
 use crate::mark::{Cause, Kind};
-use crate::script::Script;
+use crate::query::status_of;
+use crate::script::{Script, closing_kind};
 use jk_language::Language;
 use json_form::Text;
 use std::alloc::{AllocError, AllocFailed};
 
-/// Takes an arrival, and marks it where it is answered at once.
+/// Takes an arrival, and marks it where it is answered at once. Once the kernel has ended, the arrival is dropped.
 pub(crate) fn take_in<L: Language>(
     script: &mut Script<L::Tree>,
     desk: &mut Desk<L::Session, L::Machine>,
@@ -22,31 +23,56 @@ pub(crate) fn take_in<L: Language>(
 ) -> Result<(), AllocFailed<Arrival>>
     requires stands { Stands L.spoken L.state script.old.state desk.old }
     requires kept { IsKept L.spoken script.old.state }
-    ensures ok { OnOk result (script.new.state ≡ taken arrival script.old.state) }
+    ensures ok { OnOk result (Takes L.spoken arrival script.old.state script.new.state) }
     ensures err { IfErr result (λ back. (back.value ≡ arrival) × (script.new.state ≡ script.old.state)) }
     ensures stands { Stands L.spoken L.state script.new.state desk.new }
 {
-    let more = 4 + script.waiting_len();
+    if script.ended() {
+        return Ok(());
+    }
+    let more = 5 + script.waiting_len();
     if script.reserve(more).is_err() {
         return Err(AllocFailed { value: arrival });
     }
     let Ok(line) = line_for::<L>(script, desk, &arrival) else {
         return Err(AllocFailed { value: arrival });
     };
+    let Ok(status) = status_of::<L>(desk.alloc, &arrival.what) else {
+        return Err(AllocFailed { value: arrival });
+    };
     let place = script.next_place();
     let sort = sort_of(&arrival.what);
-    script.take(arrival)?;
+    script.take(arrival, status)?;
+    mark_taken::<L>(script, desk, sort, place, line);
+    Ok(())
+}
+
+/// Makes the marks of an arrival at this place, which gives the cell that runs this line.
+fn mark_taken<L: Language>(
+    script: &mut Script<L::Tree>,
+    desk: &mut Desk<L::Session, L::Machine>,
+    sort: Sort,
+    place: usize,
+    line: Option<Text>,
+)
+    requires room { 3 + length script.old.state.waits ≤ script.old.room }
+    requires stands { StandsFor L.spoken L.state sort script.old.state desk.old }
+    requires line { IsLineBy sort script.old.state.log place line }
+    ensures marked { script.new.state ≡ marked_as sort place line script.old.state }
+    ensures stands { Stands L.spoken L.state script.new.state desk.new }
+{
     match sort {
         Sort::Join => script.note(place, Kind::Join),
         Sort::Leave => script.note(place, Kind::Leave),
+        Sort::KernelInfo => script.note(place, Kind::KernelInfo),
         Sort::Interrupt => {
             script.note(place, Kind::Interrupt);
-            stop::<L>(script, desk, Cause::Interrupted);
+            interrupt::<L>(script, desk);
         }
+        Sort::Shutdown { restart } => shut_down::<L>(script, desk, place, restart),
         Sort::Input => give::<L>(script, desk, place, line),
-        Sort::Execute | Sort::Other => {}
+        Sort::Execute | Sort::Query | Sort::Other => {}
     }
-    Ok(())
 }
 
 /// The line that arrives for the cell that runs, where it asks that seat.
@@ -111,7 +137,7 @@ fn give<L: Language>(
     }
 }
 
-/// Aborts each request that waits, if the cell that failed stops on errors.
+/// Aborts or answers each request that waits, if the cell that failed stops on errors.
 pub(crate) fn fail<T: Drop>(script: &mut Script<T>, stops: bool)
     requires { length script.old.state.waits ≤ script.old.room }
     ensures { script.new.state ≡ failing stops script.old.state }
@@ -121,29 +147,66 @@ pub(crate) fn fail<T: Drop>(script: &mut Script<T>, stops: bool)
     }
 }
 
-/// Aborts each request that waits.
+/// Aborts or answers each request that waits.
 fn abort_waiting<T: Drop>(script: &mut Script<T>)
     requires { length script.old.state.waits ≤ script.old.room }
-    ensures { script.new.state ≡ aborting script.old.state.waits script.old.state }
+    ensures state { script.new.state ≡ aborting script.old.state.waits script.old.state }
+    ensures room { script.old.room ≤ script.new.room + length script.old.state.waits }
 {
     while let Some(waiting) = script.pop_waiting() {
-        script.note(waiting.at, Kind::Abort);
+        script.note(waiting.at, closing_kind(&waiting.task));
     }
 }
 
-/// Stops the cell that runs, where it stands.
+/// Stops the cell that runs because it was interrupted.
+fn interrupt<L: Language>(script: &mut Script<L::Tree>, desk: &mut Desk<L::Session, L::Machine>)
+    requires room { 2 + length script.old.state.waits ≤ script.old.room }
+    requires stands { CanStop L.spoken L.state script.old.state desk.old }
+    ensures interrupted { script.new.state ≡ interrupted (running script.old.state.log) script.old.state }
+    ensures stands { Stands L.spoken L.state script.new.state desk.new }
+{
+    let stops = stop::<L>(script, desk, Cause::Interrupted);
+    fail(script, stops);
+}
+
+/// Stops the cell that runs, aborts or answers what waits, and starts anew or ends.
+fn shut_down<L: Language>(
+    script: &mut Script<L::Tree>,
+    desk: &mut Desk<L::Session, L::Machine>,
+    place: usize,
+    restart: bool,
+)
+    requires room { 3 + length script.old.state.waits ≤ script.old.room }
+    requires stands { CanStop L.spoken L.state script.old.state desk.old }
+    ensures shut { script.new.state ≡ shut place restart (running script.old.state.log) script.old.state }
+    ensures stands { Stands L.spoken L.state script.new.state desk.new }
+{
+    let _ = stop::<L>(script, desk, Cause::Restarted);
+    abort_waiting(script);
+    script.note(place, Kind::Restart { restart });
+    desk.count = 0;
+    desk.place = Place::Resting(L::opening(desk.alloc));
+}
+
+/// Stops the cell that runs, where it stands. Answers whether its error aborts what waits.
 fn stop<L: Language>(
     script: &mut Script<L::Tree>,
     desk: &mut Desk<L::Session, L::Machine>,
     cause: Cause,
-)
-    requires room { 2 + length script.old.state.waits ≤ script.old.room }
+) -> bool
+    requires room { 2 ≤ script.old.room }
     requires stands { CanStop L.spoken L.state script.old.state desk.old }
+    ensures stops { result ≡ stops_with (running script.old.state.log) }
     ensures stopped { script.new.state ≡ stopped cause (running script.old.state.log) script.old.state }
+    ensures waits { script.new.state.waits ≡ script.old.state.waits }
+    ensures room { script.old.room ≤ script.new.room + 2 }
     ensures stands { Stands L.spoken L.state script.new.state desk.new }
 {
     match take_place::<L>(desk) {
-        Place::Resting(session) => desk.place = Place::Resting(session),
+        Place::Resting(session) => {
+            desk.place = Place::Resting(session);
+            false
+        }
         Place::Running(active) => {
             let Active {
                 at,
@@ -164,7 +227,7 @@ fn stop<L: Language>(
                 },
             );
             desk.place = Place::Resting(L::finish(machine));
-            fail(script, stops);
+            stops
         }
     }
 }

@@ -2,6 +2,7 @@
 
 ghost use Rattle.std.specs.Prelude.{◌≡◌, ℕ, List, true, false, None, ◌+◌, ◌<◌, ◌^◌, IfOk, IfErr, IsOk, OnOk, OnErr, option_copied, string_bytes};
 ghost use Rattle.jk_language.specs.Spoken.{Spoken, IsLanguage, IsRefusal};
+ghost use Rattle.jk_language.specs.Unread.{IsUnread};
 ghost use Rattle.jk_language.specs.MachineState.{MachineState, here};
 ghost use Rattle.jk_language.specs.Beginning.{HasBegun};
 ghost use Rattle.jk_language.specs.Runs.{HasTurned, unshown, output_taken, line_given};
@@ -38,10 +39,12 @@ pub trait Language {
     fn opening(alloc: Global) -> Self::Session
         ensures { result ≡ spoken.opening };
 
-    /// Reads a text. It is refused by a fault that it has in every session, or for want of memory.
+    /// Reads a text. It is refused by a fault that it has in every session, and only where it has no tree, or for want of
+    /// memory.
     fn parse(alloc: Global, text: &str) -> Result<Self::Tree, Refused>
         ensures found { IfOk result (λ tree. spoken.IsTree text.now tree) }
-        ensures faults { IfErr result (λ refused. (session : Self.Session) → IsRefusal spoken session text.now refused) };
+        ensures faults { IfErr result (λ refused. (session : Self.Session) → IsRefusal spoken session text.now refused) }
+        ensures unread { IfErr result (λ refused. IsUnread spoken text.now refused) };
 
     /// A machine before the first turn of a cell, or why the cell is refused. Where memory is wanting, the session
     /// is handed back.

@@ -1,5 +1,5 @@
 -- A replay goes on over a legal log, and what it has shown is the render of that log.
-use Rattle.std.proofs.Common.{◌≡◌, ℕ, zero, suc, Bool, true, false, cond, List, [], ◌∷◌, ◌++◌, length, refl, sym, ap, ◌∙◌, subst, append_assoc, append-nil, arith, inl, inr}
+use Rattle.std.proofs.Common.{◌≡◌, ℕ, zero, suc, List, [], ◌∷◌, ◌++◌, length, refl, sym, ap, ◌∙◌, subst, append_assoc, append-nil, arith, inl, inr}
 use Rattle.std.proofs.lemmas.List.{take_all, drop_all}
 use Rattle.jk_language.specs.Spoken.{Spoken, IsLanguage}
 use Rattle.jk_core.specs.declared.arrival.Arrival.{Arrival}
@@ -16,11 +16,11 @@ use Rattle.jk_core.specs.Results.{Reading}
 use Rattle.jk_core.specs.State.{KernelState, fresh, joined}
 use Rattle.jk_core.specs.Steps.{Hands, Works, with_given, without}
 use Rattle.jk_core.proofs.Handed.{kept-hands}
-use Rattle.jk_core.proofs.Keeps.{kept-taken, kept-works, kept_legal}
-use Rattle.jk_core.proofs.Shown.{IsShown, shown_taken, shown_works, shown_without}
+use Rattle.jk_core.proofs.Keeps.{kept-takes, kept-works, kept_legal}
+use Rattle.jk_core.proofs.Shown.{IsShown, shown_takes, shown_works, shown_without}
 use Rattle.jk_replay.specs.declared.step.Step.{Step}
 use Rattle.jk_replay.specs.declared.step.Step.TheVariants as step
-use Rattle.jk_replay.specs.Replaying.{ReplayState, sends, joins, sent_on, next_number, with_seat, leaves, ParsesOne, pending_lines, StepDone}
+use Rattle.jk_replay.specs.Replaying.{ReplayState, Sends, Joins, sent_on, next_number, ParsesOne, pending_lines, StepDone}
 use Rattle.jk_replay.specs.Replays.{opening, LineDone, LinesDone, SlicesDone, last_turns}
 use Rattle.jk_replay.specs.Shown.{entry_line, entry_lines}
 
@@ -79,17 +79,16 @@ module _ {S T : Type 0} (spoken : Spoken S T) (laws : IsLanguage spoken) where
     none = ap (λ (j : KernelState T). j.pending) is ∙ drop_all (length k.pending) k.pending (omega arith);
   }
 
-  sends_keeps : (board : List Entry) (seat : ℕ) (w : What) (s : ReplayState T) → Keeps board s.kernel → Keeps board (sends seat w s).kernel
-  sends_keeps board seat w s h =
+  sends_keeps : (board : List Entry) (seat : ℕ) (w : What) (s t : ReplayState T) → Sends spoken seat w s t → Keeps board s.kernel → Keeps board t.kernel
+  sends_keeps board seat w s t (k, takes, e) h =
       let a : Arrival = record { seat = seat; number = next_number seat s; what = w } in
-      record { kept = kept-taken spoken laws a s.kernel h.kept; shown = shown_taken board a s.kernel h.shown }
+      subst (Keeps board) (sym (ap (λ (s : ReplayState T). s.kernel) e))
+      (record { kept = kept-takes spoken laws a s.kernel k h.kept takes; shown = shown_takes spoken board a s.kernel k takes h.shown })
 
-  cond_keeps : (board : List Entry) (b : Bool) (x y : ReplayState T) → Keeps board x.kernel → Keeps board y.kernel → Keeps board (cond b x y).kernel
-  cond_keeps board true x y p q = p
-  cond_keeps board false x y p q = q
-
-  joins_keeps : (board : List Entry) (seat : ℕ) (s : ReplayState T) → Keeps board s.kernel → Keeps board (joins seat s).kernel
-  joins_keeps board seat s h = cond_keeps board _ s (with_seat seat true (sends seat what.Join s)) h (sends_keeps board seat what.Join s h)
+  joins_keeps : (board : List Entry) (seat : ℕ) (s t : ReplayState T) → Joins spoken seat s t → Keeps board s.kernel → Keeps board t.kernel
+  joins_keeps board seat s t (inl (here, e)) h = subst (λ (s : ReplayState T). Keeps board s.kernel) (sym e) h
+  joins_keeps board seat s t (inr (away, mid, sends, e)) h =
+      subst (λ (s : ReplayState T). Keeps board s.kernel) (sym e) (sends_keeps board seat what.Join s mid sends h)
 
   hands_shown : (board : List Entry) (p : Reading T) (old : KernelState T) (used : Used (Reading T)) (new : KernelState T) → Hands p old used new → IsShown board old → IsShown board new
   hands_shown board p old Kept new (i, w, there, can, e) h = subst (IsShown board) (sym e) h
@@ -121,13 +120,14 @@ module _ {S T : Type 0} (spoken : Spoken S T) (laws : IsLanguage spoken) where
 
   -- what a line that asks for something does
   step_going : (asked : Step) (old new : ReplayState T) (text lines : List ℕ) → StepDone spoken asked old new lines → Going text old → Going (text ++ lines) new
-  step_going (step.Message seat m) old new text lines (k, parses, e, is) g =
-      let sent = sends_keeps g.board seat (sent_on m.channel m) (joins seat old) (joins_keeps g.board seat old g.keeps) in
+  step_going (step.Message seat m) old new text lines (sent, (mid, joins, sends), (k, parses, e, is)) g =
+      let kept = sends_keeps g.board seat (sent_on m.channel m) mid sent sends (joins_keeps g.board seat old mid joins g.keeps) in
       subst (λ (l : List ℕ). Going (text ++ l) new) (sym is)
-      (shown_going text g.board k new g.says (parses_keeps g.board _ k parses sent) (ap (λ (s : ReplayState T). s.kernel) e))
-  step_going (step.Leave seat) old new text lines (e, is) g =
+      (shown_going text g.board k new g.says (parses_keeps g.board sent.kernel k parses kept) (ap (λ (s : ReplayState T). s.kernel) e))
+  step_going (step.Leave seat) old new text lines (left, (mid, sends, f), e, is) g =
+      let kept = subst (λ (s : ReplayState T). Keeps g.board s.kernel) (sym f) (sends_keeps g.board seat what.Leave old mid sends g.keeps) in
       subst (λ (l : List ℕ). Going (text ++ l) new) (sym is)
-      (shown_going text g.board (leaves seat old).kernel new g.says (sends_keeps g.board seat what.Leave old g.keeps) (ap (λ (s : ReplayState T). s.kernel) e))
+      (shown_going text g.board left.kernel new g.says kept (ap (λ (s : ReplayState T). s.kernel) e))
   step_going (step.Run turns) old new text lines (answer, (k, works, some, e, is)) g =
       subst (λ (l : List ℕ). Going (text ++ l) new) (sym is)
       (shown_going text g.board k new g.says (works_keeps g.board turns old.kernel k answer works g.keeps) (ap (λ (s : ReplayState T). s.kernel) e))

@@ -14,7 +14,7 @@ use Rattle.jk_core.specs.declared.kernel.Work.{Work}
 use Rattle.jk_core.specs.declared.kernel.Work.TheVariants as work
 use Rattle.jk_core.specs.Results.{Reading, IsResult}
 use Rattle.jk_core.specs.State.{KernelState, joined}
-use Rattle.jk_core.specs.Steps.{taken, GivesJob, Hands, Works, without}
+use Rattle.jk_core.specs.Steps.{Takes, GivesJob, Hands, Works, without}
 use Rattle.jk_replay.specs.declared.step.Step.{Step}
 use Rattle.jk_replay.specs.declared.step.Step.TheVariants as step
 use Rattle.jk_replay.specs.declared.replaying.Replay.{Replay}
@@ -43,13 +43,11 @@ sent_on channel.Iopub m = what.Stdin m
 abbrev pub next_number : {T : Type 0} → ℕ → ReplayState T → ℕ
 next_number seat s = min (slice_index_or s.sent seat 0 + 1) (2 ^ 64 - 1)
 
--- a seat sends this, and the kernel takes it
-abbrev pub sends : {T : Type 0} → ℕ → What → ReplayState T → ReplayState T
-sends seat w s = record {
-  kernel = taken (record { seat = seat; number = next_number seat s; what = w }) s.kernel;
-  sent = slice_set s.sent seat (next_number seat s);
-  seated = s.seated;
-}
+-- a seat sends this, and the kernel takes it, or drops it once it has ended
+abbrev pub Sends : {S T : Type 0} → Spoken S T → ℕ → What → ReplayState T → ReplayState T → Type 0
+Sends {T = T} spoken seat w old new =
+    (k : KernelState T) × Takes spoken (record { seat = seat; number = next_number seat old; what = w }) old.kernel k
+    × (new ≡ record { kernel = k; sent = slice_set old.sent seat (next_number seat old); seated = old.seated })
 
 -- whether a seat has joined and not left since
 abbrev pub is_seated : {T : Type 0} → ℕ → ReplayState T → Bool
@@ -59,12 +57,14 @@ abbrev pub with_seat : {T : Type 0} → ℕ → Bool → ReplayState T → Repla
 with_seat seat here s = record { kernel = s.kernel; sent = s.sent; seated = slice_set s.seated seat here }
 
 -- a seat joins with the first that it sends, and anew with the first after it left
-abbrev pub joins : {T : Type 0} → ℕ → ReplayState T → ReplayState T
-joins seat s = if is_seated seat s then s else with_seat seat true (sends seat what.Join s)
+abbrev pub Joins : {S T : Type 0} → Spoken S T → ℕ → ReplayState T → ReplayState T → Type 0
+Joins {T = T} spoken seat old new =
+    ((is_seated seat old ≡ true) × (new ≡ old))
+    ⊎ ((is_seated seat old ≡ false) × (mid : ReplayState T) × Sends spoken seat what.Join old mid × (new ≡ with_seat seat true mid))
 
 -- a seat leaves
-abbrev pub leaves : {T : Type 0} → ℕ → ReplayState T → ReplayState T
-leaves seat s = with_seat seat false (sends seat what.Leave s)
+abbrev pub Leaves : {S T : Type 0} → Spoken S T → ℕ → ReplayState T → ReplayState T → Type 0
+Leaves {T = T} spoken seat old new = (mid : ReplayState T) × Sends spoken seat what.Leave old mid × (new ≡ with_seat seat false mid)
 
 -- what may be asked for now: only a seat that has joined can leave
 abbrev pub admitted : {T : Type 0} → ReplayState T → Step → Result Step Fault
@@ -88,8 +88,8 @@ abbrev pub pending_lines : {T : Type 0} → KernelState T → List ℕ
 pending_lines k = entry_lines (joined k.pending)
 
 -- a seat sends a message
-abbrev pub message_sent : {T : Type 0} → ℕ → Message → ReplayState T → ReplayState T
-message_sent seat m s = sends seat (sent_on m.channel m) (joins seat s)
+abbrev pub MessageSent : {S T : Type 0} → Spoken S T → ℕ → Message → ReplayState T → ReplayState T → Type 0
+MessageSent {T = T} spoken seat m old new = (mid : ReplayState T) × Joins spoken seat old mid × Sends spoken seat (sent_on m.channel m) mid new
 
 -- what a slice comes to, and the lines that it shows
 abbrev pub IsSliced : {S T : Type 0} → Spoken S T → ℕ → ReplayState T → Work → ReplayState T → List ℕ → Type 0
@@ -100,8 +100,8 @@ IsSliced {T = T} spoken turns old answer new lines =
 -- what a line that asks for something does, and the lines that it shows
 abbrev pub StepDone : {S T : Type 0} → Spoken S T → Step → ReplayState T → ReplayState T → List ℕ → Type 0
 StepDone {T = T} spoken (step.Message seat m) old new lines =
-    (k : KernelState T) × ParsesOne spoken (message_sent seat m old).kernel k
-    × (new ≡ shown (with_kernel k (message_sent seat m old))) × (lines ≡ pending_lines k)
+    (sent : ReplayState T) × MessageSent spoken seat m old sent
+    × ((k : KernelState T) × ParsesOne spoken sent.kernel k × (new ≡ shown (with_kernel k sent)) × (lines ≡ pending_lines k))
 StepDone spoken (step.Run turns) old new lines = (answer : Work) × IsSliced spoken turns old answer new lines
-StepDone spoken (step.Leave seat) old new lines =
-    (new ≡ shown (leaves seat old)) × (lines ≡ pending_lines (leaves seat old).kernel)
+StepDone {T = T} spoken (step.Leave seat) old new lines =
+    (left : ReplayState T) × Leaves spoken seat old left × (new ≡ shown left) × (lines ≡ pending_lines left.kernel)

@@ -44,9 +44,9 @@ impl<L: Language> Replay<Kernel<L>> {
         })
     }
 
-    /// A seat sends this.
+    /// A seat sends this. Once the kernel has ended, it is dropped.
     fn send(&mut self, seat: u8, what: What) -> Result<(), AllocError>
-        ensures { OnOk result (self.new ≡ spec.sends seat what self.old) }
+        ensures { OnOk result (spec.Sends L.spoken seat what self.old self.new) }
     {
         let number = self.sent[seat as usize].saturating_add(1);
         match self.kernel.take(Arrival { seat, number, what }) {
@@ -60,7 +60,7 @@ impl<L: Language> Replay<Kernel<L>> {
 
     /// A seat joins with the first that it sends, and anew with the first after it left.
     fn join(&mut self, seat: u8) -> Result<(), AllocError>
-        ensures { OnOk result (self.new ≡ spec.joins seat self.old) }
+        ensures { OnOk result (spec.Joins L.spoken seat self.old self.new) }
     {
         if !self.seated[seat as usize] {
             self.send(seat, What::Join)?;

@@ -13,18 +13,25 @@ use Rattle.jk_core.specs.declared.arrival.What.TheVariants as what
 use Rattle.jk_core.specs.declared.entry.Entry.{Entry}
 use Rattle.jk_core.specs.declared.mark.Item.TheVariants.{Took, Marked}
 use Rattle.jk_core.specs.declared.mark.Kind.{Kind}
-use Rattle.jk_core.specs.declared.mark.Kind.TheVariants.{Join, Leave, Begin, Flush, Ask, Line, End, Stop, Refuse, Abort, Interrupt}
+use Rattle.jk_core.specs.declared.mark.Kind.TheVariants.{Join, Leave, Begin, Flush, Ask, Line, End, Stop, Refuse, Abort, Answer, Interrupt, KernelInfo, Restart}
 use Rattle.jk_core.specs.declared.mark.Ending.{Ending}
 use Rattle.jk_core.specs.declared.mark.Ending.TheVariants.{Completed, Trapped, Refused}
-use Rattle.jk_core.specs.Asked.{message_execute, execute_in}
+use Rattle.jp_msg.specs.declared.message.Channel.TheVariants as channel
+use Rattle.jp_msg.specs.declared.message.Completeness.{Completeness}
+use Rattle.jp_msg.specs.declared.message.Output.{Output}
+use Rattle.jp_msg.specs.declared.message.Output.TheVariants.{InterruptReply, KernelInfoReply, ShutdownReply}
+use Rattle.jp_msg.specs.declared.message.Request.{Request}
+use Rattle.jp_msg.specs.declared.message.Request.TheVariants as request
+use Rattle.jk_core.specs.declared.entry.To.TheVariants.{Seat}
+use Rattle.jk_core.specs.Asked.{message_execute, message_query, execute_in}
 use Rattle.jk_core.specs.Legal.{EachFollows, MayMark, owed}
 use Rattle.jk_core.specs.Failures.{refusal_failure, trap_failure, cause_failure}
 use Rattle.jk_core.specs.Log.{Log, running, seat_at, arrival_at, execute_at, option_at, option_or, flushed_at, asking, lined}
-use Rattle.jk_core.specs.Render.{interrupt_shown, unless, streamed, begun, failed, ended, shown_of, execute_shown, control_shown, entries_of, entries_at}
-use Rattle.jk_world.specs.Cells.{streams, times_answered, runs_at, interrupts}
-use Rattle.jk_world.specs.Requests.{shown_at, AllFor, AreFor, text_in, text_told, replies_in, IsShownRight}
+use Rattle.jk_core.specs.Render.{unless, streamed, begun, failed, ended, shown_of, execute_shown, answered, answer_shown, query_shown, control_shown, entries_of, entries_at}
+use Rattle.jk_world.specs.Cells.{streams, times_closed, runs_at, interrupts}
+use Rattle.jk_world.specs.Requests.{output_audience, shown_at, AllFor, AreFor, text_in, text_told, replies_in, IsShownRight}
 use Rattle.jk_world.proofs.Basics.{cond_same, cond_nil, arrival_past}
-use Rattle.jk_world.proofs.Once.{answers_first, first_asks}
+use Rattle.jk_world.proofs.Dues.{begin_asks, refuse_asks, abort_asks}
 use Rattle.jk_world.proofs.Streams.{flush_may, runs_asked, quiet_past, running_took}
 use Rattle.jk_world.proofs.Parents.{end_may, stop_may, is_shown}
 use Rattle.jk_world.proofs.Ends.{begin_idle, runs_as, runs_begun, runs_changed, runs_unread, runs_none, runs_one}
@@ -64,6 +71,9 @@ shown_for seat Abort m e = (record { to = refl; parent = refl }, (record { to = 
 shown_for seat Join m e = tt
 shown_for seat Leave m e = tt
 shown_for seat Interrupt m e = tt
+shown_for seat (Answer status) m e = tt
+shown_for seat KernelInfo m e = tt
+shown_for seat (Restart restart) m e = tt
 
 request_for : (seat : ℕ) (kind : Kind) (m : Message) (o : Option Execute) → AllFor seat (what.Shell m) (option_or (shown_of seat kind m) [] o)
 request_for seat kind m None = tt
@@ -76,17 +86,48 @@ execute_for seat kind what.Leave = tt
 execute_for seat kind (what.Control m) = tt
 execute_for seat kind (what.Stdin m) = tt
 
-control_for : (seat : ℕ) (w : What) → AllFor seat w (control_shown seat w)
-control_for seat (what.Control m) = (record { to = refl; parent = refl }, (record { to = refl; parent = refl }, (record { to = refl; parent = refl }, tt)))
-control_for seat what.Join = tt
-control_for seat what.Leave = tt
-control_for seat (what.Shell m) = tt
-control_for seat (what.Stdin m) = tt
+control_for : (seat : ℕ) (output : Output) (w : What) → output_audience seat output ≡ Seat seat → AllFor seat w (control_shown seat output w)
+control_for seat output (what.Control m) h = (record { to = refl; parent = refl }, (record { to = sym h; parent = refl }, (record { to = refl; parent = refl }, tt)))
+control_for seat output what.Join h = tt
+control_for seat output what.Leave h = tt
+control_for seat output (what.Shell m) h = tt
+control_for seat output (what.Stdin m) h = tt
+
+for_complete : (seat : ℕ) (m : Message) (status : Option Completeness) (code : List ℕ) → AllFor seat (what.Shell m) (answer_shown seat status m (request.IsComplete code))
+for_complete seat m None code = tt
+for_complete seat m (Some c) code = (record { to = refl; parent = refl }, (record { to = refl; parent = refl }, (record { to = refl; parent = refl }, tt)))
+
+for_answer : (seat : ℕ) (m : Message) (status : Option Completeness) (q : Request) → AllFor seat (what.Shell m) (answer_shown seat status m q)
+for_answer seat m status (request.IsComplete code) = for_complete seat m status code
+for_answer seat m status request.KernelInfo = (record { to = refl; parent = refl }, (record { to = refl; parent = refl }, (record { to = refl; parent = refl }, tt)))
+for_answer seat m status (request.Complete cursor) = (record { to = refl; parent = refl }, (record { to = refl; parent = refl }, (record { to = refl; parent = refl }, tt)))
+for_answer seat m status request.Inspect = (record { to = refl; parent = refl }, (record { to = refl; parent = refl }, (record { to = refl; parent = refl }, tt)))
+for_answer seat m status request.History = (record { to = refl; parent = refl }, (record { to = refl; parent = refl }, (record { to = refl; parent = refl }, tt)))
+for_answer seat m status request.CommInfo = (record { to = refl; parent = refl }, (record { to = refl; parent = refl }, (record { to = refl; parent = refl }, tt)))
+for_answer seat m status (request.Execute e) = tt
+for_answer seat m status request.Interrupt = tt
+for_answer seat m status (request.Shutdown restart) = tt
+for_answer seat m status (request.InputReply line) = tt
+for_answer seat m status request.Other = tt
+
+for_asked : (seat : ℕ) (m : Message) (status : Option Completeness) (o : Option Request) → AllFor seat (what.Shell m) (option_or (answer_shown seat status m) [] o)
+for_asked seat m status None = tt
+for_asked seat m status (Some q) = for_answer seat m status q
+
+for_query : (seat : ℕ) (status : Option Completeness) (w : What) → AllFor seat w (query_shown seat status w)
+for_query seat status (what.Shell m) = for_asked seat m status (message_query m)
+for_query seat status what.Join = tt
+for_query seat status what.Leave = tt
+for_query seat status (what.Control m) = tt
+for_query seat status (what.Stdin m) = tt
 
 entries_for : (kind : Kind) (a : Arrival) → AllFor a.seat a.what (entries_of kind a)
 entries_for Join a = (record { to = refl; parent = refl }, tt)
 entries_for Leave a = (record { to = refl; parent = refl }, tt)
-entries_for Interrupt a = control_for a.seat a.what
+entries_for Interrupt a = control_for a.seat InterruptReply a.what refl
+entries_for KernelInfo a = control_for a.seat KernelInfoReply a.what refl
+entries_for (Restart restart) a = control_for a.seat (ShutdownReply restart) a.what refl
+entries_for (Answer status) a = for_query a.seat status a.what
 entries_for (Begin n) a = execute_for a.seat (Begin n) a.what
 entries_for (Flush turns text) a = execute_for a.seat (Flush turns text) a.what
 entries_for Ask a = execute_for a.seat Ask a.what
@@ -147,12 +188,12 @@ by_execute P kind seat what.Leave none h = none
 by_execute P kind seat (what.Control m) none h = none
 by_execute P kind seat (what.Stdin m) none h = none
 
-by_control : (P : List Entry → Type 0) (seat : ℕ) (w : What) → P [] → ((m : Message) → P (interrupt_shown seat m)) → P (control_shown seat w)
-by_control P seat (what.Control m) none h = h m
-by_control P seat what.Join none h = none
-by_control P seat what.Leave none h = none
-by_control P seat (what.Shell m) none h = none
-by_control P seat (what.Stdin m) none h = none
+by_control : (P : List Entry → Type 0) (seat : ℕ) (output : Output) (w : What) → P [] → ((m : Message) → P (answered seat channel.Control m output)) → P (control_shown seat output w)
+by_control P seat output (what.Control m) none h = h m
+by_control P seat output what.Join none h = none
+by_control P seat output what.Leave none h = none
+by_control P seat output (what.Shell m) none h = none
+by_control P seat output (what.Stdin m) none h = none
 
 by_silent : (P : List Entry → Type 0) (b : Bool) (es : List Entry) → P [] → P es → P (unless b es)
 by_silent P true es none h = none
@@ -207,11 +248,45 @@ request_replies seat Abort m e = refl
 request_replies seat Join m e = refl
 request_replies seat Leave m e = refl
 request_replies seat Interrupt m e = refl
+request_replies seat (Answer status) m e = refl
+request_replies seat KernelInfo m e = refl
+request_replies seat (Restart restart) m e = refl
+
+none_complete : (seat : ℕ) (m : Message) (status : Option Completeness) (code : List ℕ) → HasNone (answer_shown seat status m (request.IsComplete code))
+none_complete seat m None code = refl
+none_complete seat m (Some c) code = refl
+
+none_answer : (seat : ℕ) (m : Message) (status : Option Completeness) (q : Request) → HasNone (answer_shown seat status m q)
+none_answer seat m status (request.IsComplete code) = none_complete seat m status code
+none_answer seat m status request.KernelInfo = refl
+none_answer seat m status (request.Complete cursor) = refl
+none_answer seat m status request.Inspect = refl
+none_answer seat m status request.History = refl
+none_answer seat m status request.CommInfo = refl
+none_answer seat m status (request.Execute e) = refl
+none_answer seat m status request.Interrupt = refl
+none_answer seat m status (request.Shutdown restart) = refl
+none_answer seat m status (request.InputReply line) = refl
+none_answer seat m status request.Other = refl
+
+none_asked : (seat : ℕ) (m : Message) (status : Option Completeness) (o : Option Request) → HasNone (option_or (answer_shown seat status m) [] o)
+none_asked seat m status None = refl
+none_asked seat m status (Some q) = none_answer seat m status q
+
+none_query : (seat : ℕ) (status : Option Completeness) (w : What) → HasNone (query_shown seat status w)
+none_query seat status (what.Shell m) = none_asked seat m status (message_query m)
+none_query seat status what.Join = refl
+none_query seat status what.Leave = refl
+none_query seat status (what.Control m) = refl
+none_query seat status (what.Stdin m) = refl
 
 quiet_none : (kind : Kind) (o : Option Arrival) → replies_of kind ≡ 0 → HasNone (option_or (entries_of kind) [] o)
 quiet_none Join o e = by_places HasNone Join o refl (λ a. refl)
 quiet_none Leave o e = by_places HasNone Leave o refl (λ a. refl)
-quiet_none Interrupt o e = by_places HasNone Interrupt o refl (λ a. by_control HasNone a.seat a.what refl (λ m. refl))
+quiet_none Interrupt o e = by_places HasNone Interrupt o refl (λ a. by_control HasNone a.seat InterruptReply a.what refl (λ m. refl))
+quiet_none KernelInfo o e = by_places HasNone KernelInfo o refl (λ a. by_control HasNone a.seat KernelInfoReply a.what refl (λ m. refl))
+quiet_none (Restart restart) o e = by_places HasNone (Restart restart) o refl (λ a. by_control HasNone a.seat (ShutdownReply restart) a.what refl (λ m. refl))
+quiet_none (Answer status) o e = by_places HasNone (Answer status) o refl (λ a. none_query a.seat status a.what)
 quiet_none other o e = by_places HasNone other o refl (λ a. by_execute HasNone other a.seat a.what refl (λ m x. request_replies a.seat other m x ∙ e))
 
 -- the sums of replies, of cells that run and of answers
@@ -266,11 +341,42 @@ abbrev IsNoFlush : Kind → Type 0
 IsNoFlush (Flush turns text) = ⊥
 IsNoFlush other = Unit {0}
 
+silent_complete : (seat : ℕ) (m : Message) (status : Option Completeness) (code : List ℕ) → HasNoText (answer_shown seat status m (request.IsComplete code))
+silent_complete seat m None code = refl
+silent_complete seat m (Some c) code = refl
+
+silent_answer : (seat : ℕ) (m : Message) (status : Option Completeness) (q : Request) → HasNoText (answer_shown seat status m q)
+silent_answer seat m status (request.IsComplete code) = silent_complete seat m status code
+silent_answer seat m status request.KernelInfo = refl
+silent_answer seat m status (request.Complete cursor) = refl
+silent_answer seat m status request.Inspect = refl
+silent_answer seat m status request.History = refl
+silent_answer seat m status request.CommInfo = refl
+silent_answer seat m status (request.Execute e) = refl
+silent_answer seat m status request.Interrupt = refl
+silent_answer seat m status (request.Shutdown restart) = refl
+silent_answer seat m status (request.InputReply line) = refl
+silent_answer seat m status request.Other = refl
+
+silent_asked : (seat : ℕ) (m : Message) (status : Option Completeness) (o : Option Request) → HasNoText (option_or (answer_shown seat status m) [] o)
+silent_asked seat m status None = refl
+silent_asked seat m status (Some q) = silent_answer seat m status q
+
+silent_query : (seat : ℕ) (status : Option Completeness) (w : What) → HasNoText (query_shown seat status w)
+silent_query seat status (what.Shell m) = silent_asked seat m status (message_query m)
+silent_query seat status what.Join = refl
+silent_query seat status what.Leave = refl
+silent_query seat status (what.Control m) = refl
+silent_query seat status (what.Stdin m) = refl
+
 no_text : (kind : Kind) (o : Option Arrival) → IsNoFlush kind → HasNoText (option_or (entries_of kind) [] o)
 no_text (Flush turns text) o h = absurd h
 no_text Join o h = by_places HasNoText Join o refl (λ a. refl)
 no_text Leave o h = by_places HasNoText Leave o refl (λ a. refl)
-no_text Interrupt o h = by_places HasNoText Interrupt o refl (λ a. by_control HasNoText a.seat a.what refl (λ m. refl))
+no_text Interrupt o h = by_places HasNoText Interrupt o refl (λ a. by_control HasNoText a.seat InterruptReply a.what refl (λ m. refl))
+no_text KernelInfo o h = by_places HasNoText KernelInfo o refl (λ a. by_control HasNoText a.seat KernelInfoReply a.what refl (λ m. refl))
+no_text (Restart restart) o h = by_places HasNoText (Restart restart) o refl (λ a. by_control HasNoText a.seat (ShutdownReply restart) a.what refl (λ m. refl))
+no_text (Answer status) o h = by_places HasNoText (Answer status) o refl (λ a. silent_query a.seat status a.what)
 no_text (Begin n) o h = by_places HasNoText (Begin n) o refl (λ a. by_execute HasNoText (Begin n) a.seat a.what refl (λ m e. begun_no_text m e n))
 no_text (End ending n) o h = by_places HasNoText (End ending n) o refl (λ a. by_execute HasNoText (End ending n) a.seat a.what refl (λ m e. ended_no_text a.seat n m e.silent ending))
 no_text (Stop turns cause n) o h = by_places HasNoText (Stop turns cause n) o refl (λ a. by_execute HasNoText (Stop turns cause n) a.seat a.what refl (λ m e. failed_no_text a.seat n m e.silent (cause_failure cause)))
@@ -307,7 +413,7 @@ module _ {S T : Type 0} (spoken : Spoken S T) (laws : IsLanguage spoken) where
 
   -- each request that was answered has one reply, once its cell no longer runs
   abbrev Replied : ℕ → Log → Type 0
-  Replied at log = replies_in (shown_at at log) + runs_at at log ≡ times_answered at log
+  Replied at log = replies_in (shown_at at log) + runs_at at log ≡ times_closed at log
 
   more_replies : (past : Log) (at p n : ℕ) (kind : Kind) → replies_in (entries_at past (record { at = p; kind = kind })) ≡ n → replies_in (shown_at at (Marked (record { at = p; kind = kind }) ∷ past)) ≡ replies_in (shown_at at past) + cond (eqb p at) n 0
   more_replies past at p n kind e =
@@ -315,36 +421,36 @@ module _ {S T : Type 0} (spoken : Spoken S T) (laws : IsLanguage spoken) where
       ∙ ap (λ (k : ℕ). replies_in (shown_at at past) + k) (replies_if (eqb p at) _ n e)
 
   -- a mark that begins, ends and answers nothing
-  quiet_replied : (past : Log) (at p : ℕ) (kind : Kind) → replies_of kind ≡ 0 → runs_at at (Marked (record { at = p; kind = kind }) ∷ past) ≡ runs_at at past → times_answered at (Marked (record { at = p; kind = kind }) ∷ past) ≡ times_answered at past + cond (eqb p at) 0 0 → Replied at past → Replied at (Marked (record { at = p; kind = kind }) ∷ past)
+  quiet_replied : (past : Log) (at p : ℕ) (kind : Kind) → replies_of kind ≡ 0 → runs_at at (Marked (record { at = p; kind = kind }) ∷ past) ≡ runs_at at past → times_closed at (Marked (record { at = p; kind = kind }) ∷ past) ≡ times_closed at past + cond (eqb p at) 0 0 → Replied at past → Replied at (Marked (record { at = p; kind = kind }) ∷ past)
   quiet_replied past at p kind none runs same h =
       ap (λ (k : ℕ). k + runs_at at (Marked (record { at = p; kind = kind }) ∷ past)) (more_replies past at p 0 kind (quiet_none kind (arrival_at p past) none))
       ∙ ap (λ (k : ℕ). (replies_in (shown_at at past) + cond (eqb p at) 0 0) + k) runs
-      ∙ sum_none (eqb p at) (replies_in (shown_at at past)) (runs_at at past) (times_answered at past) 0 refl h ∙ sym same
+      ∙ sum_none (eqb p at) (replies_in (shown_at at past)) (runs_at at past) (times_closed at past) 0 refl h ∙ sym same
 
   mark_replied : (past : Log) (at p : ℕ) (kind : Kind) → EachFollows spoken past → MayMark spoken past (owed past) (record { at = p; kind = kind }) → Replied at past → Replied at (Marked (record { at = p; kind = kind }) ∷ past)
   mark_replied past at p (Begin n) each may h =
-      let asks = first_asks past p (answers_first spoken past p (Begin n) each may tt) in
+      let asks = begin_asks spoken past (owed past) p n may in
       ap (λ (k : ℕ). k + runs_at at (Marked (record { at = p; kind = Begin n }) ∷ past)) (more_replies past at p 0 (Begin n) (quiet_none (Begin n) (arrival_at p past) refl))
       ∙ ap (λ (k : ℕ). (replies_in (shown_at at past) + cond (eqb p at) 0 0) + k) (runs_begun at p (seat_at p past) (execute_at p past) asks.0 asks.1)
-      ∙ sum_begins (eqb p at) (replies_in (shown_at at past)) (runs_at at past) (times_answered at past) (runs_none at (running past) (begin_idle spoken past (owed past) p n may)) h
+      ∙ sum_begins (eqb p at) (replies_in (shown_at at past)) (runs_at at past) (times_closed at past) (runs_none at (running past) (begin_idle spoken past (owed past) p n may)) h
   mark_replied past at p (End ending n) each may h =
       let (r, runs, f) = end_may spoken past (owed past) p n ending may in
       let there : execute_at p past ≡ Some r.request = ap (λ (q : ℕ). execute_at q past) f.request ∙ runs_asked spoken laws past each r runs in
       ap (λ (k : ℕ). k + 0) (more_replies past at p 1 (End ending n) (entries_shown past p (End ending n) r.request (λ a. refl) there))
-      ∙ sum_ends (eqb p at) (replies_in (shown_at at past)) (runs_at at past) (times_answered at past) (runs_one at p (running past) r runs f.request) h
+      ∙ sum_ends (eqb p at) (replies_in (shown_at at past)) (runs_at at past) (times_closed at past) (runs_one at p (running past) r runs f.request) h
   mark_replied past at p (Stop turns cause n) each may h =
       let s = stop_may spoken past (owed past) p turns n cause may in
       let there : execute_at p past ≡ Some s.0.request = ap (λ (q : ℕ). execute_at q past) s.2 ∙ runs_asked spoken laws past each s.0 s.1 in
       ap (λ (k : ℕ). k + 0) (more_replies past at p 1 (Stop turns cause n) (entries_shown past p (Stop turns cause n) s.0.request (λ a. refl) there))
-      ∙ sum_ends (eqb p at) (replies_in (shown_at at past)) (runs_at at past) (times_answered at past) (runs_one at p (running past) s.0 s.1 s.2) h
+      ∙ sum_ends (eqb p at) (replies_in (shown_at at past)) (runs_at at past) (times_closed at past) (runs_one at p (running past) s.0 s.1 s.2) h
   mark_replied past at p (Refuse n) each may h =
-      let asks = first_asks past p (answers_first spoken past p (Refuse n) each may tt) in
+      let asks = refuse_asks spoken past (owed past) p n may in
       ap (λ (k : ℕ). k + runs_at at past) (more_replies past at p 1 (Refuse n) (entries_shown past p (Refuse n) asks.0 (λ a. refl) asks.1))
-      ∙ sum_replied (eqb p at) (replies_in (shown_at at past)) (runs_at at past) (times_answered at past) h
+      ∙ sum_replied (eqb p at) (replies_in (shown_at at past)) (runs_at at past) (times_closed at past) h
   mark_replied past at p Abort each may h =
-      let asks = first_asks past p (answers_first spoken past p Abort each may tt) in
+      let asks = abort_asks spoken past p may in
       ap (λ (k : ℕ). k + runs_at at past) (more_replies past at p 1 Abort (entries_shown past p Abort asks.0 (λ a. refl) asks.1))
-      ∙ sum_replied (eqb p at) (replies_in (shown_at at past)) (runs_at at past) (times_answered at past) h
+      ∙ sum_replied (eqb p at) (replies_in (shown_at at past)) (runs_at at past) (times_closed at past) h
   mark_replied past at p (Flush turns text) each may h = quiet_replied past at p (Flush turns text) refl (runs_changed at (flushed_at turns) (running past) (λ r. refl)) refl h
   mark_replied past at p Ask each may h = quiet_replied past at p Ask refl (runs_changed at asking (running past) (λ r. refl)) refl h
   mark_replied past at p (Line line) each may h = quiet_replied past at p (Line line) refl (runs_changed at (lined line) (running past) (λ r. refl)) refl h

@@ -12,15 +12,17 @@ use Rattle.jk_core.specs.declared.mark.Item.{Item}
 use Rattle.jk_core.specs.declared.mark.Item.TheVariants.{Took, Marked}
 use Rattle.jk_core.specs.declared.mark.Mark.{Mark}
 use Rattle.jk_core.specs.declared.mark.Kind.{Kind}
-use Rattle.jk_core.specs.declared.mark.Kind.TheVariants.{Begin, Flush, Ask, Line, End, Stop, Interrupt}
-use Rattle.jk_core.specs.declared.mark.Cause.TheVariants.{Interrupted}
+use Rattle.jk_core.specs.declared.mark.Kind.TheVariants.{Begin, Flush, Ask, Line, End, Stop, Answer, Interrupt, Restart}
+use Rattle.jk_core.specs.declared.mark.Cause.{Cause}
+use Rattle.jk_core.specs.declared.mark.Cause.TheVariants.{Interrupted, Restarted}
 use Rattle.jk_core.specs.Asked.{sort_as}
 use Rattle.jk_core.specs.Log.{Log, Running, running, running_with, seat_at, session, meaning, stood, execute_at, option_with, opened, flushed_at, asking, lined, unread}
-use Rattle.jk_core.specs.Legal.{Due, MarkDue, FlushDue, StopDue, IsForced, EachFollows, MayMark, MayCome, Asks, JustFlushed, owed, dues_of, ends_due}
+use Rattle.jk_core.specs.Legal.{Due, MarkDue, AnswerDue, FlushDue, StopDue, IsForced, EachFollows, MayMark, MayCome, Asks, JustFlushed, owed, dues_of, ends_due, waiting_dues}
 use Rattle.jk_core.proofs.Logs.{by_sort}
 use Rattle.jk_world.specs.Cells.{begun_in, last_turns, interrupts}
 use Rattle.jk_world.specs.Order.{AllBelow, IsFalling}
 use Rattle.jk_world.specs.Input.{asks_at, IsInputRight}
+use Rattle.jk_world.proofs.Dues.{restart_idle}
 use Rattle.jk_world.proofs.Basics.{no_run, cond_same}
 use Rattle.jk_world.proofs.Ordered.{below_less}
 use Rattle.jk_world.proofs.Once.{answers_first, just_flush}
@@ -34,12 +36,14 @@ IsStopping [] = ⊥
 IsStopping (StopDue cause ∷ ds) = Unit {0}
 IsStopping (FlushDue ∷ ds) = IsStopping ds
 IsStopping (MarkDue at kind ∷ ds) = IsStopping ds
+IsStopping (AnswerDue at ∷ ds) = IsStopping ds
 
 stopping_append : (ds es : List Due) → IsStopping ds → IsStopping (ds ++ es)
 stopping_append [] es h = absurd h
 stopping_append (StopDue cause ∷ ds) es h = tt
 stopping_append (FlushDue ∷ ds) es h = stopping_append ds es h
 stopping_append (MarkDue at kind ∷ ds) es h = stopping_append ds es h
+stopping_append (AnswerDue at ∷ ds) es h = stopping_append ds es h
 
 -- a mark that stops no cell
 abbrev IsNoStop : Kind → Type 0
@@ -53,11 +57,13 @@ module _ {S T : Type 0} (spoken : Spoken S T) where
   stopping_goes past (StopDue cause ∷ ds) es at kind other (t, n, e, rest) h = absurd (subst IsNoStop e other)
   stopping_goes past (FlushDue ∷ ds) es at kind other may h = stopping_append ds es h
   stopping_goes past (MarkDue a due ∷ ds) es at kind other may h = stopping_append ds es h
+  stopping_goes past (AnswerDue a ∷ ds) es at kind other may h = stopping_append ds es h
 
   -- a question comes only where nothing is owed
   ask_may : (past : Log) (ds : List Due) (at : ℕ) → MayMark spoken past ds (record { at = at; kind = Ask }) → MayCome spoken past at Ask × (ds ≡ [])
   ask_may past [] at may = (may, refl)
   ask_may past (MarkDue a due ∷ ds) at (same, forced) = absurd (subst IsForced (sym (ap (λ (m : Mark). m.kind) same)) forced)
+  ask_may past (AnswerDue a ∷ ds) at (status, same, right) = let k : Ask ≡ Answer status = ap (λ (m : Mark). m.kind) same in cc
   ask_may past (FlushDue ∷ ds) at may = absurd may.0
   ask_may past (StopDue cause ∷ ds) at (t, n, e, rest) = cc
 
@@ -255,6 +261,9 @@ module _ {S T : Type 0} (spoken : Spoken S T) (laws : IsLanguage spoken) where
       others_asked spoken past (Marked (record { at = at; kind = End ending n })) (λ p. cond_same (eqb at p) (asks_at p past)) (λ p. cond_same (eqb at p) (begun_in spoken p past)) (λ r e. no_run r _ e) (λ r e. no_run r _ e) h
   mark_asked past at (Stop turns cause n) each may h =
       others_asked spoken past (Marked (record { at = at; kind = Stop turns cause n })) (λ p. cond_same (eqb at p) (asks_at p past)) (λ p. cond_same (eqb at p) (begun_in spoken p past)) (λ r e. no_run r _ e) (λ r e. no_run r _ e) h
+  mark_asked past at (Restart restart) each may h =
+      let idle = restart_idle spoken past at restart each may in
+      others_asked spoken past (Marked (record { at = at; kind = Restart restart })) (λ p. cond_same (eqb at p) (asks_at p past)) (λ p. cond_same (eqb at p) (begun_in spoken p past)) (λ r e. no_run r _ (sym idle ∙ e)) (λ r e. no_run r _ (sym idle ∙ e)) h
   mark_asked past at other each may h =
       others_asked spoken past (Marked (record { at = at; kind = other })) (λ p. cond_same (eqb at p) (asks_at p past)) (λ p. cond_same (eqb at p) (begun_in spoken p past))
       (λ r e. h.used r e) (λ r e. goes_on past at other r r tt may (λ has. has) (h.runs r e)) h
@@ -263,14 +272,16 @@ module _ {S T : Type 0} (spoken : Spoken S T) (laws : IsLanguage spoken) where
   took_asked past a none h =
       others_asked spoken past (Took a) (λ p. refl) (λ p. refl) used
       (λ r e. by_sort (λ s. running_with s (running past) ≡ Some r → IsStopping (dues_of s a past) ⊎ HasAsked spoken (Took a ∷ past) r (asks_at r.at past))
-      (λ e. inr (same r e)) (λ e. inr (same r e)) (λ e. inr (same r e)) (λ e. inr (same r e)) (λ e. inl (stops (running past) r e)) (λ e. inr (same r e)) (sort_as a.what) e) h
+      (λ e. inr (same r e)) (λ e. inr (same r e)) (λ e. inr (same r e)) (λ e. inr (same r e)) (λ e. inr (same r e)) (λ e. inl (stops Interrupted (running past) r e)) (λ e. inr (same r e))
+      (λ restart. λ e. inl (stopping_append (ends_due Restarted (running past) ++ waiting_dues past) (MarkDue (length past) (Restart restart) ∷ []) (stopping_append (ends_due Restarted (running past)) (waiting_dues past) (stops Restarted (running past) r e))))
+      (λ e. inr (same r e)) (sort_as a.what) e) h
     where
       same : (r : Running) → running past ≡ Some r → HasAsked spoken past r (asks_at r.at past)
       same r e = (not_stopping past r (asks_at r.at past) none (h.runs r e))
 
-      stops : (o : Option Running) (r : Running) → option_with unread o ≡ Some r → IsStopping (MarkDue (length past) Interrupt ∷ ends_due Interrupted o)
-      stops None r e = absurd (none-some r e)
-      stops (Some q) r e = tt
+      stops : (cause : Cause) (o : Option Running) (r : Running) → option_with unread o ≡ Some r → IsStopping (ends_due cause o)
+      stops cause None r e = absurd (none-some r e)
+      stops cause (Some q) r e = tt
 
       used : (r : Running) → running (Took a ∷ past) ≡ Some r → (stood spoken (Took a ∷ past) r).turns ≡ r.turns
       used r e =
@@ -282,7 +293,7 @@ module _ {S T : Type 0} (spoken : Spoken S T) (laws : IsLanguage spoken) where
 
   asked : (log : Log) → EachFollows spoken log → IsAsked spoken log
   asked [] each = record { quiet = λ p e. refl; falls = λ p. tt; used = λ r e. no_run r _ e; runs = λ r e. no_run r _ e }
-  asked (Took a ∷ past) each = took_asked past a each.1 (asked past each.0)
+  asked (Took a ∷ past) each = took_asked past a each.1.0 (asked past each.0)
   asked (Marked m ∷ past) each = mark_asked past m.at m.kind each.0 each.1 (asked past each.0)
 
   pub input_right : (log : Log) → EachFollows spoken log → (at : ℕ) → IsInputRight log at

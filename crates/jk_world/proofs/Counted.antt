@@ -7,13 +7,14 @@ use Rattle.jk_core.specs.declared.mark.Item.{Item}
 use Rattle.jk_core.specs.declared.mark.Item.TheVariants.{Took, Marked}
 use Rattle.jk_core.specs.declared.mark.Mark.{Mark}
 use Rattle.jk_core.specs.declared.mark.Kind.{Kind}
-use Rattle.jk_core.specs.declared.mark.Kind.TheVariants.{Begin, End, Stop, Refuse}
+use Rattle.jk_core.specs.declared.mark.Kind.TheVariants.{Begin, End, Stop, Refuse, Answer, Restart}
 use Rattle.jk_core.specs.Log.{Log, count, next_count, raised, execute_at, option_or}
-use Rattle.jk_core.specs.Legal.{Due, MarkDue, FlushDue, StopDue, IsForced, EachFollows, MayMark, owed}
+use Rattle.jk_core.specs.Legal.{Due, MarkDue, AnswerDue, FlushDue, StopDue, IsForced, EachFollows, MayMark, owed}
 use Rattle.jk_core.proofs.Logs.{execute_grows}
 use Rattle.jk_world.specs.Sessions.{begun_places}
 use Rattle.jk_world.specs.Counts.{is_stored_at, stored_among, stored, Tells, TellCounts}
-use Rattle.jk_world.proofs.Once.{answers_first, first_asks, AllAsk, asks_grow}
+use Rattle.jk_world.proofs.Once.{AllAsk, asks_grow}
+use Rattle.jk_world.proofs.Dues.{begin_asks}
 use Rattle.jk_world.proofs.Parents.{end_may}
 use Rattle.jk_world.proofs.Outcomes.{stop_stops}
 
@@ -47,12 +48,14 @@ module _ {S T : Type 0} (spoken : Spoken S T) where
   begin_counts : (past : Log) (dues : List Due) (at n : ℕ) → MayMark spoken past dues (record { at = at; kind = Begin n }) → n ≡ next_count at past
   begin_counts past [] at n h = h.1
   begin_counts past (MarkDue a due ∷ dues) at n (same, forced) = absurd (subst IsForced (sym (ap (λ (m : Mark). m.kind) same)) forced)
+  begin_counts past (AnswerDue a ∷ dues) at n (status, same, right) = let k : Begin n ≡ Answer status = ap (λ (m : Mark). m.kind) same in cc
   begin_counts past (FlushDue ∷ dues) at n h = absurd h.0
   begin_counts past (StopDue cause ∷ dues) at n (t, k, is, rest) = cc
 
   refuse_counts : (past : Log) (dues : List Due) (at n : ℕ) → MayMark spoken past dues (record { at = at; kind = Refuse n }) → n ≡ count past
   refuse_counts past [] at n h = h.1
   refuse_counts past (MarkDue a due ∷ dues) at n (same, forced) = absurd (subst IsForced (sym (ap (λ (m : Mark). m.kind) same)) forced)
+  refuse_counts past (AnswerDue a ∷ dues) at n (status, same, right) = let k : Refuse n ≡ Answer status = ap (λ (m : Mark). m.kind) same in cc
   refuse_counts past (FlushDue ∷ dues) at n h = absurd h.0
   refuse_counts past (StopDue cause ∷ dues) at n (t, k, is, rest) = cc
 
@@ -71,8 +74,9 @@ module _ {S T : Type 0} (spoken : Spoken S T) where
 
   mark_counted : (past : Log) (at : ℕ) (kind : Kind) → EachFollows spoken past → MayMark spoken past (owed past) (record { at = at; kind = kind }) → IsCounted past → IsCounted (Marked (record { at = at; kind = kind }) ∷ past)
   mark_counted past at (Begin n) each may h =
-      let asks = first_asks past at (answers_first spoken past at (Begin n) each may tt) in
+      let asks = begin_asks spoken past (owed past) at n may in
       begin_counted past at n asks.0 asks.1 (begin_counts past (owed past) at n may) h
+  mark_counted past at (Restart restart) each may h = record { asks = tt; right = refl }
   mark_counted past at other each may h = same_counted past (Marked (record { at = at; kind = other })) refl refl h
 
   counted : (log : Log) → EachFollows spoken log → IsCounted log

@@ -5,12 +5,13 @@ use Rattle.jp_msg.specs.declared.message.Execute.{Execute}
 use Rattle.jk_core.specs.declared.mark.Item.TheVariants.{Took, Marked}
 use Rattle.jk_core.specs.declared.mark.Mark.{Mark}
 use Rattle.jk_core.specs.declared.mark.Kind.{Kind}
-use Rattle.jk_core.specs.declared.mark.Kind.TheVariants.{Begin, Flush, Ask, Line, End, Stop}
+use Rattle.jk_core.specs.declared.mark.Kind.TheVariants.{Begin, Flush, Ask, Line, End, Stop, Answer}
 use Rattle.jk_core.specs.Log.{Log, Running, running, seat_at, execute_at, option_or, option_with, opened, flushed_at, asking, lined, unread}
-use Rattle.jk_core.specs.Legal.{Due, MarkDue, FlushDue, StopDue, IsForced, EachFollows, MayMark, owed}
+use Rattle.jk_core.specs.Legal.{Due, MarkDue, AnswerDue, FlushDue, StopDue, IsForced, EachFollows, MayMark, owed}
 use Rattle.jk_core.specs.declared.arrival.Arrival.{Arrival}
 use Rattle.jk_world.specs.Cells.{times_begun, times_ended, runs_at, interrupts, IsAnsweredOnce}
-use Rattle.jk_world.proofs.Once.{answers_first, answered_at_most_once, first_asks}
+use Rattle.jk_world.proofs.Once.{answered_at_most_once}
+use Rattle.jk_world.proofs.Dues.{begin_asks}
 use Rattle.jk_world.proofs.Streams.{running_took}
 use Rattle.jk_world.proofs.Parents.{end_may, stop_may}
 
@@ -54,6 +55,7 @@ module _ {S T : Type 0} (spoken : Spoken S T) where
   pub begin_idle : (past : Log) (dues : List Due) (at n : ℕ) → MayMark spoken past dues (record { at = at; kind = Begin n }) → running past ≡ None
   begin_idle past [] at n h = h.0.idle
   begin_idle past (MarkDue a due ∷ dues) at n (same, forced) = absurd (subst IsForced (sym (ap (λ (m : Mark). m.kind) same)) forced)
+  begin_idle past (AnswerDue a ∷ dues) at n (status, same, right) = let k : Begin n ≡ Answer status = ap (λ (m : Mark). m.kind) same in cc
   begin_idle past (FlushDue ∷ dues) at n h = absurd h.0
   begin_idle past (StopDue cause ∷ dues) at n (t, k, is, rest) = cc
 
@@ -63,7 +65,7 @@ module _ {S T : Type 0} (spoken : Spoken S T) where
 
   mark_lives : (past : Log) (at p : ℕ) (kind : Kind) → EachFollows spoken past → MayMark spoken past (owed past) (record { at = p; kind = kind }) → Lives at past → Lives at (Marked (record { at = p; kind = kind }) ∷ past)
   mark_lives past at p (Begin n) each may h =
-      let asks = first_asks past p (answers_first spoken past p (Begin n) each may tt) in
+      let asks = begin_asks spoken past (owed past) p n may in
       starts (eqb p at) (times_begun at past) (times_ended at past) (runs_at at past) (runs_none at (running past) (begin_idle past (owed past) p n may)) h
       ∙ ap (λ (k : ℕ). (times_ended at past + cond (eqb p at) 0 0) + k) (sym (runs_begun at p (seat_at p past) (execute_at p past) asks.0 asks.1))
   mark_lives past at p (Flush turns text) each may h =

@@ -5,18 +5,19 @@ use Rattle.jk_language.specs.Spoken.{Spoken}
 use Rattle.jk_core.specs.declared.arrival.Arrival.{Arrival}
 use Rattle.jk_core.specs.declared.kernel.Used.{Used}
 use Rattle.jk_core.specs.declared.kernel.Used.TheVariants.{Kept, Stranger}
-use Rattle.jk_core.specs.declared.mark.Cause.TheVariants.{Interrupted}
+use Rattle.jp_msg.specs.declared.message.Completeness.{Completeness}
 use Rattle.jk_core.specs.declared.mark.Item.{Item}
 use Rattle.jk_core.specs.declared.mark.Item.TheVariants.{Took, Marked}
-use Rattle.jk_core.specs.declared.mark.Kind.TheVariants.{Join, Leave, Line, Interrupt}
+use Rattle.jk_core.specs.declared.mark.Kind.TheVariants.{Join, Leave, Line, Interrupt, KernelInfo}
 use Rattle.jk_core.specs.Asked.{sort_as, input_in}
 use Rattle.jk_core.specs.Log.{Log, running, asker}
 use Rattle.jk_core.specs.Results.{Reading}
 use Rattle.jk_core.specs.State.{KernelState, joined}
 use Rattle.jk_core.specs.Steps.{answered, given_to, took, taken, noted, Hands}
 use Rattle.jk_core.proofs.Logs.{by_sort}
-use Rattle.jk_core.proofs.Moves.{IsMoved, stopped_moves, works_moves}
-use Rattle.jk_world.specs.World.{World, Event, Send, Take, GiveJob, Parse, Hand, Work, Publish, Read, Takes, Step, Run, IsBeginning, HasGoneOn}
+use Rattle.jk_core.proofs.Moves.{IsMoved, interrupted_moves, shut_moves, works_moves}
+use Rattle.js_shelf.specs.Shelves.{Contents}
+use Rattle.jk_world.specs.World.{World, Recording, Event, Send, Take, GiveJob, Parse, Hand, Work, Publish, Read, Start, Record, Put, Move, Save, Store, Takes, Step, Run, IsBeginning, HasGoneOn}
 
 -- one log goes on to another
 abbrev Grows : Log → Log → Type 0
@@ -50,17 +51,19 @@ module _ {T : Type 0} where
   given_grows log (Some text) None k h = h
   given_grows log (Some text) (Some at) k h = grows_by (Marked (record { at = at; kind = Line (Some text) })) log k.log h
 
-  took_grows : (a : Arrival) (k : KernelState T) → Grows k.log (taken a k).log
-  took_grows a k =
+  took_grows : (status : Option Completeness) (a : Arrival) (k : KernelState T) → Grows k.log (taken status a k).log
+  took_grows status a k =
       let at : ℕ = length k.log in
       let one : Grows k.log (Took a ∷ k.log) = grows_by (Took a) k.log k.log (grows_same k.log) in
-      by_sort (λ s. Grows k.log (answered s a k.log (took a k)).log)
+      by_sort (λ s. Grows k.log (answered s a k.log (took status a k)).log)
       (grows_by (Marked (record { at = at; kind = Join })) k.log (Took a ∷ k.log) one)
       (grows_by (Marked (record { at = at; kind = Leave })) k.log (Took a ∷ k.log) one)
-      one
-      (given_grows k.log (input_in a.what) (asker a.seat k.log) (took a k) one)
-      (stopped_moves (λ j. Grows k.log j.log) (grows_moved k.log) Interrupted (running (took a k).log) (noted at Interrupt (took a k))
+      one one
+      (given_grows k.log (input_in a.what) (asker a.seat k.log) (took status a k) one)
+      (interrupted_moves (λ j. Grows k.log j.log) (grows_moved k.log) (running (took status a k).log) (noted at Interrupt (took status a k))
       (grows_by (Marked (record { at = at; kind = Interrupt })) k.log (Took a ∷ k.log) one))
+      (grows_by (Marked (record { at = at; kind = KernelInfo })) k.log (Took a ∷ k.log) one)
+      (λ restart. shut_moves (λ j. Grows k.log j.log) (grows_moved k.log) at restart (running (took status a k).log) (took status a k) one)
       one (sort_as a.what)
 
   hands_grow : (p : Reading T) (old : KernelState T) (used : Used (Reading T)) (new : KernelState T) → Hands p old used new → Grows old.log new.log
@@ -70,11 +73,15 @@ module _ {T : Type 0} where
   same_goes : (w : World T) → HasGoneOn w w
   same_goes w = record { log = grows_same w.kernel.log; board = begins_same w.board; sent = begins_same w.sent }
 
-  take_goes : (inbox : List Arrival) (w v : World T) → Takes inbox w v → HasGoneOn w v
-  take_goes [] w v s = absurd s
-  take_goes (a ∷ rest) w v s = subst (HasGoneOn w) (sym s) (record { log = took_grows a w.kernel; board = begins_same w.board; sent = begins_same w.sent })
+  -- a step of the recorder or of the shelf
+  aside_goes : (w : World T) (recorder : Option Recording) (shelf : Contents) → HasGoneOn w (record w { recorder = recorder; shelf = shelf })
+  aside_goes w recorder shelf = record { log = grows_same w.kernel.log; board = begins_same w.board; sent = begins_same w.sent }
 
 module _ {S T : Type 0} (spoken : Spoken S T) where
+  take_goes : (inbox : List Arrival) (w v : World T) → Takes spoken inbox w v → HasGoneOn w v
+  take_goes [] w v s = absurd s
+  take_goes (a ∷ rest) w v (on, status, right, s) = subst (HasGoneOn w) (sym s) (record { log = took_grows status a w.kernel; board = begins_same w.board; sent = begins_same w.sent })
+
   step_goes : (w : World T) (e : Event T) (v : World T) → Step spoken w e v → HasGoneOn w v
   step_goes w (Send a) v s = subst (HasGoneOn w) (sym s) (record { log = grows_same w.kernel.log; board = begins_same w.board; sent = (a ∷ [], refl) })
   step_goes w Take v s = take_goes w.inbox w v s
@@ -94,6 +101,12 @@ module _ {S T : Type 0} (spoken : Spoken S T) where
       subst (HasGoneOn w) (sym s) (record { log = grows_same w.kernel.log; board = (joined (take marks w.kernel.pending), refl); sent = begins_same w.sent })
   step_goes w (Read follower most) v (f, there, s) =
       subst (HasGoneOn w) (sym s) (record { log = grows_same w.kernel.log; board = begins_same w.board; sent = begins_same w.sent })
+  step_goes w (Start follower path base) v (f, there, (p, stands, s)) = subst (HasGoneOn w) (sym s) (aside_goes w _ w.shelf)
+  step_goes w (Record most) v (r, is, (p, told, s)) = subst (HasGoneOn w) (sym s) (aside_goes w _ w.shelf)
+  step_goes w (Put n) v (r, is, (p, told, s)) = subst (HasGoneOn w) (sym s) (aside_goes w _ w.shelf)
+  step_goes w (Move path) v (r, is, s) = subst (HasGoneOn w) (sym s) (aside_goes w _ w.shelf)
+  step_goes w (Save result) v (r, is, (c, saves, s)) = subst (HasGoneOn w) (sym s) (aside_goes w w.recorder c)
+  step_goes w (Store shelf) v s = subst (HasGoneOn w) (sym s) (aside_goes w w.recorder shelf)
 
   pub run_goes : (w : World T) (es : List (Event T)) (v : World T) → Run spoken w es v → HasGoneOn w v
   run_goes w [] v r = subst (HasGoneOn w) (sym r) (same_goes w)

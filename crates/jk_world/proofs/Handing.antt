@@ -11,14 +11,15 @@ use Rattle.jk_core.specs.declared.mark.Item.{Item}
 use Rattle.jk_core.specs.declared.mark.Item.TheVariants.{Took, Marked}
 use Rattle.jk_core.specs.declared.mark.Mark.{Mark}
 use Rattle.jk_core.specs.declared.mark.Kind.{Kind}
-use Rattle.jk_core.specs.declared.mark.Kind.TheVariants.{Begin, Flush, Ask, Line, End, Stop}
+use Rattle.jk_core.specs.declared.mark.Kind.TheVariants.{Begin, Flush, Ask, Line, End, Stop, Restart}
 use Rattle.jk_core.specs.Log.{Log, Running, running, seat_at, waiting, session, stood, stood_in, execute_at, option_or, option_with, opened, flushed_at, asking, lined, unread}
 use Rattle.jk_core.specs.Legal.{EachFollows, MayMark, owed}
 use Rattle.jk_core.proofs.Logs.{execute_grows}
 use Rattle.jk_world.specs.Cells.{times_begun, begun_in, last_turns, lines_at, interrupts}
 use Rattle.jk_world.specs.Sessions.{begun_places, Leaves, LastLeaves, AreHandedOn, IsHandedOn}
 use Rattle.jk_world.proofs.Basics.{no_run, cond_same, cond_no}
-use Rattle.jk_world.proofs.Once.{answers_first, answered_at_most_once, first_new, first_asks, count_in, is_at}
+use Rattle.jk_world.proofs.Once.{answers_first, answered_at_most_once, first_new, count_in, is_at}
+use Rattle.jk_world.proofs.Dues.{begin_asks, restart_idle}
 use Rattle.jk_world.proofs.Streams.{flush_may, cell_told, begun_run, run_asked, run_took, running_took}
 use Rattle.jk_world.proofs.Parents.{end_may, stop_may}
 use Rattle.jk_world.proofs.Ends.{begin_idle}
@@ -34,21 +35,22 @@ none_took true o e = none_before unread o e
 none_took false o e = e
 
 -- as often as a place stands there, its cell was begun
-counts : (b : Bool) (c t : ℕ) → c ≡ t → cond b 1 0 + c ≡ t + cond b 1 0
+counts : (b : Bool) (c t : ℕ) → c ≤ t → cond b 1 0 + c ≤ t + cond b 1 0
 counts true c t e = omega arith
 counts false c t e = omega arith
 
-same_count : (b : Bool) (c t : ℕ) → c ≡ t → c ≡ t + cond b 0 0
+same_count : (b : Bool) (c t : ℕ) → c ≤ t → c ≤ t + cond b 0 0
 same_count true c t e = omega arith
 same_count false c t e = omega arith
 
-begun_counted : (at : ℕ) (log : Log) → count_in at (begun_places log) ≡ times_begun at log
-begun_counted at [] = refl
+begun_counted : (at : ℕ) (log : Log) → count_in at (begun_places log) ≤ times_begun at log
+begun_counted at [] = omega arith
 begun_counted at (Took a ∷ past) = begun_counted at past
 begun_counted at (Marked m ∷ past) = by_kind m.at m.kind (begun_counted at past)
   where
-    by_kind : (p : ℕ) (kind : Kind) → count_in at (begun_places past) ≡ times_begun at past → count_in at (begun_places (Marked (record { at = p; kind = kind }) ∷ past)) ≡ times_begun at (Marked (record { at = p; kind = kind }) ∷ past)
+    by_kind : (p : ℕ) (kind : Kind) → count_in at (begun_places past) ≤ times_begun at past → count_in at (begun_places (Marked (record { at = p; kind = kind }) ∷ past)) ≤ times_begun at (Marked (record { at = p; kind = kind }) ∷ past)
     by_kind p (Begin n) e = counts (eqb p at) _ _ e
+    by_kind p (Restart restart) e = omega arith
     by_kind p other e = same_count (eqb p at) _ _ e
 
 -- none of these is that place
@@ -152,11 +154,11 @@ module _ {S T : Type 0} (spoken : Spoken S T) (laws : IsLanguage spoken) where
   rest_apart past at rest each same =
       let once = answered_at_most_once spoken past each at in
       let few = begun_few past at in
-      let counted : count_in at (at ∷ rest) ≡ times_begun at past = ap (count_in at) (sym same) ∙ begun_counted at past in
+      let counted : count_in at (at ∷ rest) ≤ times_begun at past = subst (λ (ps : List ℕ). count_in at ps ≤ times_begun at past) same (begun_counted at past) in
       all_apart at rest (one_of at rest (omega (arith, once, few, counted)))
 
-  begin_handed : (past : Log) (at n : ℕ) → EachFollows spoken past → slice_get (waiting past) 0 ≡ Some at → running past ≡ None → IsHanded spoken past → IsHanded spoken (Marked (record { at = at; kind = Begin n }) ∷ past)
-  begin_handed past at n each first idle h = record {
+  begin_handed : (past : Log) (at n : ℕ) → EachFollows spoken past → slice_get (waiting past) 0 ≡ Some at → (e : Execute) × (execute_at at past ≡ Some e) → running past ≡ None → IsHanded spoken past → IsHanded spoken (Marked (record { at = at; kind = Begin n }) ∷ past)
+  begin_handed past at n each first asks idle h = record {
     each = (
       (
         session spoken past,
@@ -174,9 +176,6 @@ module _ {S T : Type 0} (spoken : Spoken S T) (laws : IsLanguage spoken) where
     where
       mark : Mark
       mark = record { at = at; kind = Begin n }
-
-      asks : (e : Execute) × (execute_at at past ≡ Some e)
-      asks = first_asks past at first
 
       still : AllStill spoken past (Marked mark) (begun_places past)
       still =
@@ -242,7 +241,7 @@ module _ {S T : Type 0} (spoken : Spoken S T) (laws : IsLanguage spoken) where
 
   mark_handed : (past : Log) (at : ℕ) (kind : Kind) → EachFollows spoken past → MayMark spoken past (owed past) (record { at = at; kind = kind }) → IsHanded spoken past → IsHanded spoken (Marked (record { at = at; kind = kind }) ∷ past)
   mark_handed past at (Begin n) each may h =
-      begin_handed past at n each (answers_first spoken past at (Begin n) each may tt) (begin_idle spoken past (owed past) at n may) h
+      begin_handed past at n each (answers_first spoken past at (Begin n) each may tt) (begin_asks spoken past (owed past) at n may) (begin_idle spoken past (owed past) at n may) h
   mark_handed past at (Flush turns text) each may h =
       let f = flush_may spoken past (owed past) at turns text may in
       flush_handed past at turns text f.0 each f.1 f.2.request h
@@ -260,6 +259,9 @@ module _ {S T : Type 0} (spoken : Spoken S T) (laws : IsLanguage spoken) where
       still_handed spoken past _ (λ p. (record { begun = cond_same (eqb at p) _; turns = cond_same (eqb at p) _; lines = cond_same (eqb at p) _ })) refl
       (λ e. (none_before (lined line) (running past) e, refl))
       (λ r e. (q.0, q.1, ap (λ (r : Running). r.at) (same_Some (lined line q.0) r (sym (ap (option_with (lined line)) q.1) ∙ e)))) h
+  mark_handed past at (Restart restart) each may h =
+      let idle = restart_idle spoken past at restart each may in
+      record { each = tt; now = λ e. refl; runs = λ r e. no_run r _ (sym idle ∙ e) }
   mark_handed past at other each may h =
       still_handed spoken past _ (λ p. (record { begun = cond_same (eqb at p) _; turns = cond_same (eqb at p) _; lines = cond_same (eqb at p) _ })) refl
       (λ e. (e, refl)) (λ r e. (r, e, refl)) h

@@ -1,5 +1,6 @@
 pub mod Basics
 pub mod Once
+pub mod Dues
 pub mod Ordered
 pub mod Lines
 pub mod Streams

@@ -6,7 +6,7 @@ use Rattle.jk_language.specs.Spoken.{Spoken}
 use Rattle.jk_core.specs.declared.arrival.Arrival.{Arrival}
 use Rattle.jk_core.specs.declared.mark.Item.TheVariants.{Took, Marked}
 use Rattle.jk_core.specs.declared.mark.Kind.{Kind}
-use Rattle.jk_core.specs.declared.mark.Kind.TheVariants.{Begin, Refuse, Abort}
+use Rattle.jk_core.specs.declared.mark.Kind.TheVariants.{Begin, Refuse, Abort, Answer}
 use Rattle.jk_core.specs.Asked.{sort_as}
 use Rattle.jk_core.specs.Log.{Log, waiting, waits_as}
 use Rattle.jk_core.specs.Legal.{EachFollows, MayMark, owed}
@@ -103,13 +103,14 @@ IsInOrder log = AreInOrder (length log) (answered_places log) (waiting log)
 took_order : (past : Log) (a : Arrival) → IsInOrder past → IsInOrder (Took a ∷ past)
 took_order past a h =
     by_sort (λ s. AreInOrder (suc (length past)) (answered_places past) (waiting past ++ waits_as s (length past)))
-    (waits_same _ _ _ h) (waits_same _ _ _ h) (waits_more _ _ _ h) (waits_same _ _ _ h) (waits_same _ _ _ h) (waits_same _ _ _ h) (sort_as a.what)
+    (waits_same _ _ _ h) (waits_same _ _ _ h) (waits_more _ _ _ h) (waits_more _ _ _ h) (waits_same _ _ _ h) (waits_same _ _ _ h) (waits_same _ _ _ h) (λ restart. waits_same _ _ _ h) (waits_same _ _ _ h) (sort_as a.what)
 
 module _ {S T : Type 0} (spoken : Spoken S T) where
   mark_order : (past : Log) (at : ℕ) (kind : Kind) → EachFollows spoken past → MayMark spoken past (owed past) (record { at = at; kind = kind }) → IsInOrder past → IsInOrder (Marked (record { at = at; kind = kind }) ∷ past)
   mark_order past at (Begin n) each may h = answers_next (length past) at (answered_places past) (waiting past) (answers_first spoken past at (Begin n) each may tt) h
   mark_order past at (Refuse n) each may h = answers_next (length past) at (answered_places past) (waiting past) (answers_first spoken past at (Refuse n) each may tt) h
   mark_order past at Abort each may h = answers_next (length past) at (answered_places past) (waiting past) (answers_first spoken past at Abort each may tt) h
+  mark_order past at (Answer status) each may h = answers_next (length past) at (answered_places past) (waiting past) (answers_first spoken past at (Answer status) each may tt) h
   mark_order past at other each may h = one_more (length past) (answered_places past) (waiting past) h
 
   in_order : (log : Log) → EachFollows spoken log → IsInOrder log

@@ -10,10 +10,10 @@ use Rattle.jk_core.specs.declared.mark.Item.{Item}
 use Rattle.jk_core.specs.declared.mark.Item.TheVariants.{Took, Marked}
 use Rattle.jk_core.specs.declared.mark.Mark.{Mark}
 use Rattle.jk_core.specs.declared.mark.Kind.{Kind}
-use Rattle.jk_core.specs.declared.mark.Kind.TheVariants.{Begin, Flush, End, Stop}
+use Rattle.jk_core.specs.declared.mark.Kind.TheVariants.{Begin, Flush, End, Stop, Answer}
 use Rattle.jk_core.specs.declared.mark.Cause.{Cause}
 use Rattle.jk_core.specs.Log.{Log, Running, running, waiting, session, stood, execute_at}
-use Rattle.jk_core.specs.Legal.{Due, MarkDue, FlushDue, StopDue, IsForced, EachFollows, MayMark, Stops, owed}
+use Rattle.jk_core.specs.Legal.{Due, MarkDue, AnswerDue, FlushDue, StopDue, IsForced, EachFollows, MayMark, Stops, owed}
 use Rattle.jk_core.proofs.Logs.{execute_grows}
 use Rattle.jk_world.specs.Cells.{begins, answers, times_answered, times_begun, times_ended, begun_in, last_turns, lines_at, closed_as, runs_at, flushed_meaning, TellsEnd, CellIsRight}
 use Rattle.jk_world.proofs.Basics.{cond_same, cond_no}
@@ -61,6 +61,7 @@ module _ {S T : Type 0} (spoken : Spoken S T) where
   pub stop_stops : (past : Log) (dues : List Due) (at turns n : ℕ) (c : Cause) → MayMark spoken past dues (record { at = at; kind = Stop turns c n }) → (r : Running) × (running past ≡ Some r) × Stops spoken past r at turns c n
   stop_stops past [] at turns n c (is, r, runs, s) = (r, runs, s)
   stop_stops past (MarkDue a due ∷ dues) at turns n c (same, forced) = absurd (subst IsForced (sym (ap (λ (m : Mark). m.kind) same)) forced)
+  stop_stops past (AnswerDue a ∷ dues) at turns n c (status, same, right) = let k : Stop turns c n ≡ Answer status = ap (λ (m : Mark). m.kind) same in cc
   stop_stops past (FlushDue ∷ dues) at turns n c h = absurd h.0
   stop_stops past (StopDue cause ∷ dues) at turns n c (t, k, is, (r, runs, s)) = (r, runs, stops_as t k cause is s)
     where

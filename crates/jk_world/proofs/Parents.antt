@@ -8,6 +8,7 @@ use Rattle.jk_language.specs.Spoken.{Spoken, IsLanguage}
 use Rattle.jp_msg.specs.declared.message.Message.{Message}
 use Rattle.jp_msg.specs.declared.message.Execute.{Execute}
 use Rattle.jp_msg.specs.declared.message.Failure.{Failure}
+use Rattle.jp_msg.specs.declared.message.Channel.TheVariants as channel
 use Rattle.jk_core.specs.declared.arrival.Arrival.{Arrival}
 use Rattle.jk_core.specs.declared.arrival.What.{What}
 use Rattle.jk_core.specs.declared.arrival.What.TheVariants as what
@@ -16,19 +17,24 @@ use Rattle.jk_core.specs.declared.mark.Item.{Item}
 use Rattle.jk_core.specs.declared.mark.Item.TheVariants.{Took, Marked}
 use Rattle.jk_core.specs.declared.mark.Mark.{Mark}
 use Rattle.jk_core.specs.declared.mark.Kind.{Kind}
-use Rattle.jk_core.specs.declared.mark.Kind.TheVariants.{Join, Leave, Begin, Flush, Ask, Line, End, Stop, Refuse, Abort, Interrupt}
+use Rattle.jk_core.specs.declared.mark.Kind.TheVariants.{Join, Leave, Begin, Flush, Ask, Line, End, Stop, Refuse, Abort, Answer, Interrupt, KernelInfo, Restart}
 use Rattle.jk_core.specs.declared.mark.Ending.{Ending}
 use Rattle.jk_core.specs.declared.mark.Ending.TheVariants.{Completed, Trapped, Refused}
 use Rattle.jk_core.specs.declared.mark.Cause.{Cause}
-use Rattle.jk_core.specs.Asked.{message_execute, execute_in}
+use Rattle.jp_msg.specs.declared.message.Completeness.{Completeness}
+use Rattle.jp_msg.specs.declared.message.Output.{Output}
+use Rattle.jp_msg.specs.declared.message.Output.TheVariants.{InterruptReply, KernelInfoReply, ShutdownReply}
+use Rattle.jp_msg.specs.declared.message.Request.{Request}
+use Rattle.jp_msg.specs.declared.message.Request.TheVariants as request
+use Rattle.jk_core.specs.Asked.{message_execute, message_query, execute_in}
 use Rattle.jk_core.specs.Failures.{refusal_failure, trap_failure, cause_failure}
 use Rattle.jk_core.specs.Log.{Log, Running, running, waiting, arrival_at, arrival_in, execute_at, option_at, option_or, option_with, seat_at, flushed_at, lined}
-use Rattle.jk_core.specs.Legal.{Due, MarkDue, FlushDue, StopDue, IsForced, EachFollows, MayMark, MayCome, owed}
-use Rattle.jk_core.specs.Render.{unless, streamed, begun, failed, ended, shown_of, execute_shown, control_shown, entries_of, entries_at, render}
+use Rattle.jk_core.specs.Legal.{Due, MarkDue, AnswerDue, FlushDue, StopDue, IsForced, EachFollows, MayMark, MayCome, owed}
+use Rattle.jk_core.specs.Render.{unless, streamed, begun, failed, ended, shown_of, execute_shown, answered, answer_shown, query_shown, control_shown, entries_of, entries_at, render}
 use Rattle.jk_core.proofs.Logs.{execute_within}
 use Rattle.jk_world.specs.Parents.{last_input, ParentsFit, input_by, role}
 use Rattle.jk_world.proofs.Basics.{no_run}
-use Rattle.jk_world.proofs.Once.{answers_first, first_asks}
+use Rattle.jk_world.proofs.Dues.{begin_asks}
 use Rattle.jk_world.specs.Cells.{interrupts}
 use Rattle.jk_world.proofs.Streams.{flush_may, runs_asked, begun_run, run_asked, run_took, running_took}
 use Rattle.jk_world.proofs.Lines.{line_runs}
@@ -54,12 +60,40 @@ what_quiet kind seat last what.Leave h = (tt, refl)
 what_quiet kind seat last (what.Control m) h = (tt, refl)
 what_quiet kind seat last (what.Stdin m) h = (tt, refl)
 
-control_quiet : (seat : ℕ) (last : Option Message) (w : What) → Shows last (control_shown seat w) last
-control_quiet seat last (what.Shell m) = (tt, refl)
-control_quiet seat last what.Join = (tt, refl)
-control_quiet seat last what.Leave = (tt, refl)
-control_quiet seat last (what.Control m) = ((tt, (tt, (tt, tt))), refl)
-control_quiet seat last (what.Stdin m) = (tt, refl)
+control_quiet : (seat : ℕ) (output : Output) (last : Option Message) (w : What) → ((m : Message) → Shows last (answered seat channel.Control m output) last) → Shows last (control_shown seat output w) last
+control_quiet seat output last (what.Shell m) h = (tt, refl)
+control_quiet seat output last what.Join h = (tt, refl)
+control_quiet seat output last what.Leave h = (tt, refl)
+control_quiet seat output last (what.Control m) h = h m
+control_quiet seat output last (what.Stdin m) h = (tt, refl)
+
+complete_quiet : (seat : ℕ) (last : Option Message) (m : Message) (status : Option Completeness) (code : List ℕ) → Shows last (answer_shown seat status m (request.IsComplete code)) last
+complete_quiet seat last m None code = (tt, refl)
+complete_quiet seat last m (Some c) code = ((tt, (tt, (tt, tt))), refl)
+
+answer_quiet : (seat : ℕ) (last : Option Message) (m : Message) (status : Option Completeness) (q : Request) → Shows last (answer_shown seat status m q) last
+answer_quiet seat last m status (request.IsComplete code) = complete_quiet seat last m status code
+answer_quiet seat last m status request.KernelInfo = ((tt, (tt, (tt, tt))), refl)
+answer_quiet seat last m status (request.Complete cursor) = ((tt, (tt, (tt, tt))), refl)
+answer_quiet seat last m status request.Inspect = ((tt, (tt, (tt, tt))), refl)
+answer_quiet seat last m status request.History = ((tt, (tt, (tt, tt))), refl)
+answer_quiet seat last m status request.CommInfo = ((tt, (tt, (tt, tt))), refl)
+answer_quiet seat last m status (request.Execute e) = (tt, refl)
+answer_quiet seat last m status request.Interrupt = (tt, refl)
+answer_quiet seat last m status (request.Shutdown restart) = (tt, refl)
+answer_quiet seat last m status (request.InputReply line) = (tt, refl)
+answer_quiet seat last m status request.Other = (tt, refl)
+
+asked_quiet : (seat : ℕ) (last : Option Message) (m : Message) (status : Option Completeness) (o : Option Request) → Shows last (option_or (answer_shown seat status m) [] o) last
+asked_quiet seat last m status None = (tt, refl)
+asked_quiet seat last m status (Some q) = answer_quiet seat last m status q
+
+query_quiet : (seat : ℕ) (last : Option Message) (status : Option Completeness) (w : What) → Shows last (query_shown seat status w) last
+query_quiet seat last status (what.Shell m) = asked_quiet seat last m status (message_query m)
+query_quiet seat last status what.Join = (tt, refl)
+query_quiet seat last status what.Leave = (tt, refl)
+query_quiet seat last status (what.Control m) = (tt, refl)
+query_quiet seat last status (what.Stdin m) = (tt, refl)
 
 option_quiet : (kind : Kind) (last : Option Message) (o : Option Arrival) → ((a : Arrival) → Shows last (entries_of kind a) last) → Shows last (option_or (entries_of kind) [] o) last
 option_quiet kind last None h = (tt, refl)
@@ -84,7 +118,16 @@ abort_shows : (last : Option Message) (o : Option Arrival) → Shows last (optio
 abort_shows last o = option_quiet Abort last o (λ a. what_quiet Abort a.seat last a.what (λ m e. ((tt, (tt, (tt, tt))), refl)))
 
 interrupt_shows : (last : Option Message) (o : Option Arrival) → Shows last (option_or (entries_of Interrupt) [] o) last
-interrupt_shows last o = option_quiet Interrupt last o (λ a. control_quiet a.seat last a.what)
+interrupt_shows last o = option_quiet Interrupt last o (λ a. control_quiet a.seat InterruptReply last a.what (λ m. ((tt, (tt, (tt, tt))), refl)))
+
+info_shows : (last : Option Message) (o : Option Arrival) → Shows last (option_or (entries_of KernelInfo) [] o) last
+info_shows last o = option_quiet KernelInfo last o (λ a. control_quiet a.seat KernelInfoReply last a.what (λ m. ((tt, (tt, (tt, tt))), refl)))
+
+restart_shows : (restart : Bool) (last : Option Message) (o : Option Arrival) → Shows last (option_or (entries_of (Restart restart)) [] o) last
+restart_shows restart last o = option_quiet (Restart restart) last o (λ a. control_quiet a.seat (ShutdownReply restart) last a.what (λ m. ((tt, (tt, (tt, tt))), refl)))
+
+answer_shows : (status : Option Completeness) (last : Option Message) (o : Option Arrival) → Shows last (option_or (entries_of (Answer status)) [] o) last
+answer_shows status last o = option_quiet (Answer status) last o (λ a. query_quiet a.seat last status a.what)
 
 -- what the marks of a cell show
 
@@ -155,12 +198,14 @@ module _ {S T : Type 0} (spoken : Spoken S T) where
   pub end_may : (past : Log) (dues : List Due) (at n : ℕ) (e : Ending) → MayMark spoken past dues (record { at = at; kind = End e n }) → MayCome spoken past at (End e n)
   end_may past [] at n e h = h
   end_may past (MarkDue a due ∷ dues) at n e (same, forced) = absurd (subst IsForced (sym (ap (λ (m : Mark). m.kind) same)) forced)
+  end_may past (AnswerDue a ∷ dues) at n e (status, same, right) = let k : End e n ≡ Answer status = ap (λ (m : Mark). m.kind) same in cc
   end_may past (FlushDue ∷ dues) at n e h = absurd h.0
   end_may past (StopDue cause ∷ dues) at n e (t, k, is, rest) = cc
 
   pub stop_may : (past : Log) (dues : List Due) (at turns n : ℕ) (c : Cause) → MayMark spoken past dues (record { at = at; kind = Stop turns c n }) → (r : Running) × (running past ≡ Some r) × (at ≡ r.at)
   stop_may past [] at turns n c (is, r, runs, s) = (r, runs, s.request)
   stop_may past (MarkDue a due ∷ dues) at turns n c (same, forced) = absurd (subst IsForced (sym (ap (λ (m : Mark). m.kind) same)) forced)
+  stop_may past (AnswerDue a ∷ dues) at turns n c (status, same, right) = let k : Stop turns c n ≡ Answer status = ap (λ (m : Mark). m.kind) same in cc
   stop_may past (FlushDue ∷ dues) at turns n c h = absurd h.0
   stop_may past (StopDue cause ∷ dues) at turns n c (t, k, is, (r, runs, s)) = (r, runs, s.request)
 
@@ -189,9 +234,8 @@ module _ {S T : Type 0} (spoken : Spoken S T) (laws : IsLanguage spoken) where
   asked_at : (past : Log) (r : Running) (at : ℕ) → EachFollows spoken past → running past ≡ Some r → at ≡ r.at → execute_at at past ≡ Some r.request
   asked_at past r at each runs here = ap (λ (p : ℕ). execute_at p past) here ∙ runs_asked spoken laws past each r runs
 
-  begin_own : (past : Log) (at n : ℕ) → EachFollows spoken past → slice_get (waiting past) 0 ≡ Some at → IsOwn past → IsOwn (Marked (record { at = at; kind = Begin n }) ∷ past)
-  begin_own past at n each first h =
-      let asks = first_asks past at first in
+  begin_own : (past : Log) (at n : ℕ) → (e : Execute) × (execute_at at past ≡ Some e) → IsOwn past → IsOwn (Marked (record { at = at; kind = Begin n }) ∷ past)
+  begin_own past at n asks h =
       let s = is_shown (Begin n) (arrival_at at past) asks.0 (λ a. refl) asks.1 in
       let last = last_input None (render past) in
       marked_own past _ (cond asks.0.silent last (Some s.request)) h
@@ -235,7 +279,7 @@ module _ {S T : Type 0} (spoken : Spoken S T) (laws : IsLanguage spoken) where
       (λ q e. no_run q _ e)
 
   mark_own : (past : Log) (at : ℕ) (kind : Kind) → EachFollows spoken past → MayMark spoken past (owed past) (record { at = at; kind = kind }) → IsOwn past → IsOwn (Marked (record { at = at; kind = kind }) ∷ past)
-  mark_own past at (Begin n) each may h = begin_own past at n each (answers_first spoken past at (Begin n) each may tt) h
+  mark_own past at (Begin n) each may h = begin_own past at n (begin_asks spoken past (owed past) at n may) h
   mark_own past at (Flush turns text) each may h = flush_own past at turns text each (flush_may spoken past (owed past) at turns text may) h
   mark_own past at (End ending n) each may h = end_own past at n ending each (end_may spoken past (owed past) at n ending may) h
   mark_own past at (Stop turns cause n) each may h =
@@ -255,6 +299,9 @@ module _ {S T : Type 0} (spoken : Spoken S T) (laws : IsLanguage spoken) where
   mark_own past at (Refuse n) each may h = same_own past _ each h (refuse_shows n _ (arrival_at at past)) (λ r e. (r, e, refl, refl))
   mark_own past at Abort each may h = same_own past _ each h (abort_shows _ (arrival_at at past)) (λ r e. (r, e, refl, refl))
   mark_own past at Interrupt each may h = same_own past _ each h (interrupt_shows _ (arrival_at at past)) (λ r e. (r, e, refl, refl))
+  mark_own past at KernelInfo each may h = same_own past _ each h (info_shows _ (arrival_at at past)) (λ r e. (r, e, refl, refl))
+  mark_own past at (Restart restart) each may h = same_own past _ each h (restart_shows restart _ (arrival_at at past)) (λ r e. (r, e, refl, refl))
+  mark_own past at (Answer status) each may h = same_own past _ each h (answer_shows status _ (arrival_at at past)) (λ r e. (r, e, refl, refl))
 
   took_own : (past : Log) (a : Arrival) → EachFollows spoken past → IsOwn past → IsOwn (Took a ∷ past)
   took_own past a each h = record {

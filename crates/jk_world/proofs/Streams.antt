@@ -15,33 +15,76 @@ use Rattle.jk_core.specs.declared.mark.Item.{Item}
 use Rattle.jk_core.specs.declared.mark.Item.TheVariants.{Took, Marked}
 use Rattle.jk_core.specs.declared.mark.Mark.{Mark}
 use Rattle.jk_core.specs.declared.mark.Kind.{Kind}
-use Rattle.jk_core.specs.declared.mark.Kind.TheVariants.{Begin, Flush, Ask, Line, End, Stop, Refuse, Abort}
-use Rattle.jk_core.specs.Asked.{sort_as, execute_in, is_interrupt, message_execute, message_input, shell_sort, stdin_sort}
+use Rattle.jk_core.specs.declared.mark.Kind.TheVariants.{Begin, Flush, Ask, Line, End, Stop, Refuse, Abort, Answer, Restart}
+use Rattle.jp_msg.specs.declared.message.Content.{Content}
+use Rattle.jp_msg.specs.declared.message.Content.TheVariants as content
+use Rattle.jp_msg.specs.declared.message.Request.{Request}
+use Rattle.jp_msg.specs.declared.message.Request.TheVariants as request
+use Rattle.jk_core.specs.Asked.{sort_as, execute_in, content_sort, shell_sort, control_sort, stdin_sort}
 use Rattle.jk_core.specs.Log.{Log, Running, running, running_with, seat_at, arrival_at, option_at, waiting, session, meaning, stood, execute_at, option_with, opened, flushed_at, asking, lined, unread, nones}
-use Rattle.jk_core.specs.Legal.{Due, MarkDue, FlushDue, StopDue, IsForced, EachFollows, MayMark, MayCome, owed}
+use Rattle.jk_core.specs.Legal.{Due, MarkDue, AnswerDue, FlushDue, StopDue, IsForced, EachFollows, MayMark, MayCome, owed}
 use Rattle.jk_core.proofs.Logs.{execute_grows}
-use Rattle.jk_world.specs.Cells.{times_answered, streams, last_turns, fresh_lines, lines_at, begun_in, interrupts, flushed_meaning}
+use Rattle.jk_world.specs.Cells.{times_answered, streams, last_turns, fresh_lines, lines_at, begun_in, interrupts, request_interrupts, content_interrupts, flushed_meaning}
 use Rattle.jk_world.proofs.Basics.{no_run, cond_same, cond_nil}
-use Rattle.jk_world.proofs.Once.{answers_first, first_asks, first_new}
+use Rattle.jk_world.proofs.Once.{answers_first, first_new}
+use Rattle.jk_world.proofs.Dues.{begin_asks, restart_idle}
 use Rattle.jk_world.proofs.Lines.{line_runs}
 
 no_some : {A : Type 0} (x : A) (P : Type 0) → Some x ≡ None → P
 no_some x P e = cc
 
--- an interrupt
-by_control : (b : Bool) (m : Message) (o : Option Running) → is_interrupt m ≡ b → running_with (sort_as (what.Control m)) o ≡ cond b (option_with unread o) o
-by_control true m o e = rw e refl
-by_control false m o e = rw e refl
+-- an interrupt or a shutdown
+by_control : (c : Content) (o : Option Running) → running_with (content_sort control_sort c) o ≡ cond (content_interrupts c) (option_with unread o) o
+by_control (content.Request (request.Execute e)) o = refl
+by_control (content.Request request.KernelInfo) o = refl
+by_control (content.Request (request.IsComplete code)) o = refl
+by_control (content.Request (request.Complete cursor)) o = refl
+by_control (content.Request request.Inspect) o = refl
+by_control (content.Request request.History) o = refl
+by_control (content.Request request.CommInfo) o = refl
+by_control (content.Request request.Interrupt) o = refl
+by_control (content.Request (request.Shutdown restart)) o = refl
+by_control (content.Request (request.InputReply line)) o = refl
+by_control (content.Request request.Other) o = refl
+by_control (content.Output x) o = refl
+
+by_shell : (c : Content) (o : Option Running) → running_with (content_sort shell_sort c) o ≡ o
+by_shell (content.Request (request.Execute e)) o = refl
+by_shell (content.Request request.KernelInfo) o = refl
+by_shell (content.Request (request.IsComplete code)) o = refl
+by_shell (content.Request (request.Complete cursor)) o = refl
+by_shell (content.Request request.Inspect) o = refl
+by_shell (content.Request request.History) o = refl
+by_shell (content.Request request.CommInfo) o = refl
+by_shell (content.Request request.Interrupt) o = refl
+by_shell (content.Request (request.Shutdown restart)) o = refl
+by_shell (content.Request (request.InputReply line)) o = refl
+by_shell (content.Request request.Other) o = refl
+by_shell (content.Output x) o = refl
+
+by_stdin : (c : Content) (o : Option Running) → running_with (content_sort stdin_sort c) o ≡ o
+by_stdin (content.Request (request.Execute e)) o = refl
+by_stdin (content.Request request.KernelInfo) o = refl
+by_stdin (content.Request (request.IsComplete code)) o = refl
+by_stdin (content.Request (request.Complete cursor)) o = refl
+by_stdin (content.Request request.Inspect) o = refl
+by_stdin (content.Request request.History) o = refl
+by_stdin (content.Request request.CommInfo) o = refl
+by_stdin (content.Request request.Interrupt) o = refl
+by_stdin (content.Request (request.Shutdown restart)) o = refl
+by_stdin (content.Request (request.InputReply line)) o = refl
+by_stdin (content.Request request.Other) o = refl
+by_stdin (content.Output x) o = refl
 
 pub running_took : (a : Arrival) (o : Option Running) → running_with (sort_as a.what) o ≡ cond (interrupts a.what) (option_with unread o) o
 running_took a o = by_what a.what
   where
     by_what : (w : What) → running_with (sort_as w) o ≡ cond (interrupts w) (option_with unread o) o
-    by_what (what.Control m) = by_control (is_interrupt m) m o refl
+    by_what (what.Control m) = by_control m.content o
     by_what what.Join = refl
     by_what what.Leave = refl
-    by_what (what.Shell m) = elim (message_execute m) as (λ x. running_with (shell_sort x) o ≡ o) [ None ↦ refl | Some x ↦ refl ]
-    by_what (what.Stdin m) = elim (message_input m) as (λ x. running_with (stdin_sort x) o ≡ o) [ None ↦ refl | Some x ↦ refl ]
+    by_what (what.Shell m) = by_shell m.content o
+    by_what (what.Stdin m) = by_stdin m.content o
 
 -- the same cell, which was given these lines since its last flush
 pub record IsSame (q r : Running) (since : List Given) : Type 0 where
@@ -143,6 +186,7 @@ module _ {S T : Type 0} (spoken : Spoken S T) where
   pub flush_may : (past : Log) (dues : List Due) (at turns : ℕ) (text : List ℕ) → MayMark spoken past dues (record { at = at; kind = Flush turns text }) → MayCome spoken past at (Flush turns text)
   flush_may past [] at turns text h = h
   flush_may past (MarkDue a due ∷ dues) at turns text (same, forced) = absurd (subst IsForced (sym (ap (λ (m : Mark). m.kind) same)) forced)
+  flush_may past (AnswerDue a ∷ dues) at turns text (status, same, right) = let k : Flush turns text ≡ Answer status = ap (λ (m : Mark). m.kind) same in cc
   flush_may past (FlushDue ∷ dues) at turns text h = h.1
   flush_may past (StopDue cause ∷ dues) at turns text (t, n, e, rest) = cc
 
@@ -163,6 +207,7 @@ module _ {S T : Type 0} (spoken : Spoken S T) where
       mark_once p (Begin n) h e = begins (eqb p at) h e
       mark_once p (Refuse n) h e = later 1 (eqb p at) h e
       mark_once p Abort h e = later 1 (eqb p at) h e
+      mark_once p (Answer status) h e = later 1 (eqb p at) h e
       mark_once p other h e = later 0 (eqb p at) h e
 
   -- what waits first was not begun
@@ -293,8 +338,8 @@ module _ {S T : Type 0} (spoken : Spoken S T) (laws : IsLanguage spoken) where
             ∙ ap (λ (ls : List Given). (spoken.cell session text ls m).output) (append_assoc xs (y ∷ []) ys),
       )
 
-  begin_told : (past : Log) (at n : ℕ) → EachFollows spoken past → slice_get (waiting past) 0 ≡ Some at → IsTold spoken past → IsTold spoken (Marked (record { at = at; kind = Begin n }) ∷ past)
-  begin_told past at n each first h = record {
+  begin_told : (past : Log) (at n : ℕ) → EachFollows spoken past → slice_get (waiting past) 0 ≡ Some at → (e : Execute) × (execute_at at past ≡ Some e) → IsTold spoken past → IsTold spoken (Marked (record { at = at; kind = Begin n }) ∷ past)
+  begin_told past at n each first asks h = record {
     quiet = λ p e. quiet_by (eqb at p) p e (h.quiet p);
     runs = λ r e. (
         let b = begun_run at (seat_at at past) (execute_at at past) r e in
@@ -336,7 +381,6 @@ module _ {S T : Type 0} (spoken : Spoken S T) (laws : IsLanguage spoken) where
 
       right_by : (p : ℕ) (s : S) → begun_in spoken p (Marked mark ∷ past) ≡ Some s → ((eqb at p ≡ true) × (at ≡ p)) ⊎ ((eqb at p ≡ false) × (at ≢ p)) → StreamsAreRight spoken (Marked mark ∷ past) p s
       right_by p s e (inl (b, same)) =
-          let asks = first_asks past at first in
           record {
             request = asks.0;
             there = execute_grows past (Marked mark) p asks.0 (ap (λ (p : ℕ). execute_at p past) (sym same) ∙ asks.1);
@@ -435,7 +479,7 @@ module _ {S T : Type 0} (spoken : Spoken S T) (laws : IsLanguage spoken) where
           (ap (λ (b : Bool). cond b turns (last_turns p past)) b) (ap (λ (b : Bool). cond b (lines_at p past ++ fresh_lines p past) (lines_at p past)) b) (h.right p s e)
 
   mark_told : (past : Log) (at : ℕ) (kind : Kind) → EachFollows spoken past → MayMark spoken past (owed past) (record { at = at; kind = kind }) → IsTold spoken past → IsTold spoken (Marked (record { at = at; kind = kind }) ∷ past)
-  mark_told past at (Begin n) each may h = begin_told past at n each (answers_first spoken past at (Begin n) each may tt) h
+  mark_told past at (Begin n) each may h = begin_told past at n each (answers_first spoken past at (Begin n) each may tt) (begin_asks spoken past (owed past) at n may) h
   mark_told past at (Flush turns text) each may h = flush_told past at turns text (flush_may spoken past (owed past) at turns text may) h
   mark_told past at (Line line) each may h =
       let r = line_runs spoken past at line may in
@@ -467,6 +511,17 @@ module _ {S T : Type 0} (spoken : Spoken S T) (laws : IsLanguage spoken) where
     runs = λ r e. run_asked (running past) r e;
     handed = λ r e. refl;
   }) h
+  mark_told past at (Restart restart) each may h =
+      let idle = restart_idle spoken past at restart each may in
+      plain_told spoken past _ (record {
+        begun = λ p. cond_same (eqb at p) (begun_in spoken p past);
+        shown = λ p. cond_nil (eqb at p) (streams p past);
+        turns = λ p. cond_same (eqb at p) (last_turns p past);
+        lines = λ p. cond_same (eqb at p) (lines_at p past);
+        fresh = λ p. cond_same (eqb at p) (fresh_lines p past);
+        runs = λ r e. no_run r _ (sym idle ∙ e);
+        handed = λ r e. no_run r _ (sym idle ∙ e);
+      }) h
   mark_told past at other each may h = plain_told spoken past _ (record {
     begun = λ p. cond_same (eqb at p) (begun_in spoken p past);
     shown = λ p. cond_nil (eqb at p) (streams p past);

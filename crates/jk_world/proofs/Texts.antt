@@ -11,16 +11,16 @@ use Rattle.jk_core.specs.declared.arrival.Arrival.{Arrival}
 use Rattle.jk_core.specs.declared.mark.Item.TheVariants.{Took, Marked}
 use Rattle.jk_core.specs.declared.mark.Mark.{Mark}
 use Rattle.jk_core.specs.declared.mark.Kind.{Kind}
-use Rattle.jk_core.specs.declared.mark.Kind.TheVariants.{Join, Leave, Begin, Flush, Ask, Line, End, Stop, Interrupt}
+use Rattle.jk_core.specs.declared.mark.Kind.TheVariants.{Join, Leave, Begin, Flush, Ask, Line, End, Stop, Answer, Interrupt, KernelInfo}
 use Rattle.jk_core.specs.Asked.{sort_as, input_in}
 use Rattle.jk_core.specs.Log.{Log, Running, running, seat_at, arrival_at, execute_at, asker, asked_of, left, nones, option_at, option_or, option_with, flushed_at, lined}
-use Rattle.jk_core.specs.Legal.{Due, MarkDue, FlushDue, StopDue, EachFollows, MayMark, owed, dues_of, line_due}
+use Rattle.jk_core.specs.Legal.{Due, MarkDue, AnswerDue, FlushDue, StopDue, EachFollows, MayMark, owed, dues_of, line_due}
 use Rattle.jk_core.proofs.Logs.{by_sort, execute_within}
 use Rattle.jk_world.specs.Cells.{lines_at, fresh_lines, interrupts}
 use Rattle.jk_world.specs.Input.{texts_in, all_lines, listed, sent_lines, IsPartOf}
 use Rattle.jk_world.proofs.Basics.{no_run, cond_same, arrival_past}
 use Rattle.jk_world.proofs.Streams.{flush_may, run_took, run_asked, running_took, begun_run, runs_asked, quiet_past}
-use Rattle.jk_world.proofs.Lines.{NoLines, line_runs, no_lines_after, no_lines_append, no_line_after, lines_fit}
+use Rattle.jk_world.proofs.Lines.{NoLines, line_runs, no_lines_after, no_lines_append, no_line_after, no_line_shut, lines_fit}
 
 -- lists in lists
 
@@ -91,6 +91,7 @@ module _ {S T : Type 0} (spoken : Spoken S T) where
   no_line_may past (MarkDue a due ∷ ds) at text h (same, forced) =
       let kind_is : Line (Some text) ≡ due = ap (λ (m : Mark). m.kind) same in
       (subst (λ (k : Kind). NoLines (MarkDue a k ∷ ds)) (sym kind_is) h).0
+  no_line_may past (AnswerDue a ∷ ds) at text h (status, same, right) = let k : Line (Some text) ≡ Answer status = ap (λ (m : Mark). m.kind) same in cc
   no_line_may past (FlushDue ∷ ds) at text h may = may.0
   no_line_may past (StopDue cause ∷ ds) at text h (t, n, e, rest) = cc
 
@@ -109,8 +110,11 @@ module _ {S T : Type 0} (spoken : Spoken S T) where
       (λ may. (let k : Line (Some text) ≡ Join = ap (λ (m : Mark). m.kind) may.0 in cc))
       (λ may. (let k : Line (Some text) ≡ Leave = ap (λ (m : Mark). m.kind) may.0 in cc))
       (λ may. absurd may)
+      (λ may. absurd may)
       (λ may. line_sent (Took a ∷ past) (input_in a.what) (asker a.seat past) at text may)
       (λ may. (let k : Line (Some text) ≡ Interrupt = ap (λ (m : Mark). m.kind) may.0 in cc))
+      (λ may. (let k : Line (Some text) ≡ KernelInfo = ap (λ (m : Mark). m.kind) may.0 in cc))
+      (λ restart. λ may. absurd (no_line_may (Took a ∷ past) _ at text (no_line_shut (running past) past (length past) restart) may))
       (λ may. absurd may)
       (sort_as a.what)
 
@@ -231,7 +235,7 @@ module _ {S T : Type 0} (spoken : Spoken S T) (laws : IsLanguage spoken) where
       (part_snoc (texts_in (all_lines at log)) (sent_lines (seat_at at log) past) text h)))
   text_from (Marked m ∷ past) at text each may h =
       absurd (no_line_may spoken (Marked m ∷ past) (owed (Marked m ∷ past)) at text
-      (no_lines_append (drop 1 (owed past)) _ (no_lines_after (owed past) (running past) (lines_fit past)) (no_line_after m.kind (running past) _)) may)
+      (no_lines_append (drop 1 (owed past)) _ (no_lines_after (owed past) (running past) (lines_fit past)) (no_line_after m.kind (running past) past)) may)
 
   mark_from : (past : Log) (at p : ℕ) (kind : Kind) → EachFollows spoken past → MayMark spoken past (owed past) (record { at = p; kind = kind }) → FromSeat at past → FromSeat at (Marked (record { at = p; kind = kind }) ∷ past)
   mark_from past at p (Line None) each may h =

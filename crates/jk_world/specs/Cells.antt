@@ -1,23 +1,34 @@
 -- What a log tells of the request at a place.
-use Rattle.std.specs.Prelude.{◌≡◌, Bool, false, ℕ, ◌+◌, ◌≤◌, ◌==◌, if◌then◌else◌, List, [], ◌∷◌, ◌++◌, Option, None, Some}
+use Rattle.std.specs.Prelude.{◌≡◌, Bool, true, false, ℕ, ◌+◌, ◌≤◌, ◌==◌, if◌then◌else◌, List, [], ◌∷◌, ◌++◌, Option, None, Some}
 use Rattle.jk_language.specs.Parts.{Line as Given, Meaning}
 use Rattle.jk_language.specs.Spoken.{Spoken}
 use Rattle.jp_msg.specs.declared.message.Execute.{Execute}
 use Rattle.jk_core.specs.declared.mark.Item.TheVariants.{Took, Marked}
 use Rattle.jk_core.specs.declared.mark.Kind.{Kind}
-use Rattle.jk_core.specs.declared.mark.Kind.TheVariants.{Begin, Flush, Line, End, Stop, Refuse, Abort}
+use Rattle.jk_core.specs.declared.mark.Kind.TheVariants.{Begin, Flush, Line, End, Stop, Refuse, Abort, Answer}
 use Rattle.jk_core.specs.Legal.{EndsSo, StopsFor}
 use Rattle.jk_core.specs.declared.arrival.What.{What}
 use Rattle.jk_core.specs.declared.arrival.What.TheVariants.{Control}
-use Rattle.jk_core.specs.Asked.{is_interrupt}
+use Rattle.jp_msg.specs.declared.message.Content.{Content}
+use Rattle.jp_msg.specs.declared.message.Content.TheVariants as content
+use Rattle.jp_msg.specs.declared.message.Request.{Request}
+use Rattle.jp_msg.specs.declared.message.Request.TheVariants as request
 use Rattle.jk_core.specs.Log.{Log, Running, running, session, execute_at, nones, option_or}
 
--- how often a request is begun, refused or aborted by a mark
+-- how often a request is begun, refused, aborted or answered by a mark
 abbrev pub answers : Kind → ℕ
 answers (Begin count) = 1
 answers (Refuse count) = 1
 answers Abort = 1
+answers (Answer status) = 1
 answers other = 0
+
+-- how often an execute request is begun, refused or aborted
+abbrev pub closes : Kind → ℕ
+closes (Begin count) = 1
+closes (Refuse count) = 1
+closes Abort = 1
+closes other = 0
 
 -- how often it is begun
 abbrev pub begins : Kind → ℕ
@@ -39,6 +50,9 @@ times what at (Marked m ∷ past) = times what at past + (if m.at == at then wha
 abbrev pub times_answered : ℕ → Log → ℕ
 times_answered at log = times answers at log
 
+abbrev pub times_closed : ℕ → Log → ℕ
+times_closed at log = times closes at log
+
 abbrev pub times_begun : ℕ → Log → ℕ
 times_begun at log = times begins at log
 
@@ -49,7 +63,7 @@ times_ended at log = times ends at log
 abbrev pub runs_at : ℕ → Log → ℕ
 runs_at at log = option_or (λ (r : Running). if r.at == at then 1 else 0) 0 (running log)
 
--- A request is begun, refused or aborted at most once; and a cell that was begun runs, or was ended or stopped once.
+-- A request is begun, refused, aborted or answered at most once; and a cell that was begun runs, or was ended or stopped once.
 pub record IsAnsweredOnce (log : Log) (at : ℕ) : Type 0 where
   pub answered : times_answered at log ≤ 1
   pub ended : times_begun at log ≡ times_ended at log + runs_at at log
@@ -79,11 +93,29 @@ fresh_after (Flush turns text) before = []
 fresh_after (Line line) before = before ++ line ∷ []
 fresh_after other before = before
 
+abbrev pub request_interrupts : Request → Bool
+request_interrupts request.Interrupt = true
+request_interrupts (request.Shutdown restart) = true
+request_interrupts (request.Execute e) = false
+request_interrupts request.KernelInfo = false
+request_interrupts (request.IsComplete code) = false
+request_interrupts (request.Complete cursor) = false
+request_interrupts request.Inspect = false
+request_interrupts request.History = false
+request_interrupts request.CommInfo = false
+request_interrupts (request.InputReply line) = false
+request_interrupts request.Other = false
+
+abbrev pub content_interrupts : Content → Bool
+content_interrupts (content.Request r) = request_interrupts r
+content_interrupts (content.Output o) = false
+
+-- whether what arrived stops the cell that runs: it interrupts, or shuts the kernel down
 abbrev pub interrupts : What → Bool
-interrupts (Control m) = is_interrupt m
+interrupts (Control m) = content_interrupts m.content
 interrupts other = false
 
--- the lines that the request at a place was given since its last flush, where an interrupt drops a text
+-- the lines that the request at a place was given since its last flush, where an interrupt or a shutdown drops a text
 abbrev pub fresh_lines : ℕ → Log → List Given
 fresh_lines at [] = []
 fresh_lines at (Took a ∷ past) = if interrupts a.what then nones (fresh_lines at past) else fresh_lines at past

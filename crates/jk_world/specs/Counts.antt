@@ -16,7 +16,7 @@ abbrev pub stored_among : Log → List ℕ → ℕ
 stored_among log [] = 0
 stored_among log (at ∷ places) = stored_among log places + (if is_stored_at at log then 1 else 0)
 
--- how many of the cells that were begun are to be stored
+-- how many of the cells that were begun since the last shutdown are to be stored
 abbrev pub stored : Log → ℕ
 stored log = stored_among log (begun_places log)
 
@@ -28,7 +28,8 @@ Tells (Stop turns cause count) n = count ≡ n
 Tells (Refuse count) n = count ≡ n
 Tells other n = Unit {0}
 
--- each mark that tells a count tells how many of the cells begun so far are to be stored, its own among them
+-- each mark that tells a count tells how many of the cells begun since the last shutdown are to be stored, its own among
+-- them
 abbrev pub TellCounts : Log → Type 0
 TellCounts [] = Unit {0}
 TellCounts (Took a ∷ past) = TellCounts past

@@ -2,7 +2,7 @@
 use Rattle.std.specs.Prelude.{ℕ, ◌<◌, List, [], ◌∷◌}
 use Rattle.jk_core.specs.declared.mark.Item.TheVariants.{Took, Marked}
 use Rattle.jk_core.specs.declared.mark.Kind.{Kind}
-use Rattle.jk_core.specs.declared.mark.Kind.TheVariants.{Begin, Refuse, Abort}
+use Rattle.jk_core.specs.declared.mark.Kind.TheVariants.{Begin, Refuse, Abort, Answer}
 use Rattle.jk_core.specs.Log.{Log}
 
 abbrev pub AllBelow : ℕ → List ℕ → Type 0
@@ -18,9 +18,10 @@ abbrev pub answered_with : Kind → ℕ → List ℕ → List ℕ
 answered_with (Begin count) at places = at ∷ places
 answered_with (Refuse count) at places = at ∷ places
 answered_with Abort at places = at ∷ places
+answered_with (Answer status) at places = at ∷ places
 answered_with other at places = places
 
--- the places of the requests that were begun, refused or aborted, the last first
+-- the places of the requests that were begun, refused, aborted or answered, the last first
 abbrev pub answered_places : Log → List ℕ
 answered_places [] = []
 answered_places (Took a ∷ past) = answered_places past

@@ -15,7 +15,7 @@ use Rattle.jk_core.specs.declared.entry.To.TheVariants.{All, Seat, Nobody}
 use Rattle.jk_core.specs.declared.mark.Item.TheVariants.{Took, Marked}
 use Rattle.jk_core.specs.Log.{Log, execute_at, arrival_at}
 use Rattle.jk_core.specs.Render.{entries_at}
-use Rattle.jk_world.specs.Cells.{streams, times_answered, runs_at}
+use Rattle.jk_world.specs.Cells.{streams, times_closed, runs_at}
 
 -- the entries of the marks for the arrival at a place, in their order
 abbrev pub shown_at : ℕ → Log → List Entry
@@ -91,5 +91,5 @@ replies_in (e ∷ es) = replies_told e.content + replies_in es
 -- none where it is silent.
 pub record IsShownRight (log : Log) (at : ℕ) : Type 0 where
   pub addressed : AreFor (arrival_at at log) (shown_at at log)
-  pub replies : replies_in (shown_at at log) + runs_at at log ≡ times_answered at log
+  pub replies : replies_in (shown_at at log) + runs_at at log ≡ times_closed at log
   pub streams : (e : Execute) → execute_at at log ≡ Some e → text_in (shown_at at log) ≡ (if e.silent then [] else streams at log)

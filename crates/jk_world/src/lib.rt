@@ -20,8 +20,9 @@ ghost use Rattle.jk_world.specs.View.{view, part, has_joined};
 use jk_language::Language;
 
 /// After any list of steps, whatever the seats send: the log is legal; the board and the pending entries together are
-/// what is shown of the log; each follower has read a beginning of the board; and what was taken from each seat is a
-/// beginning of what it sent.
+/// what is shown of the log; each follower has read a beginning of the board; what was taken from each seat is a
+/// beginning of what it sent; a recorder's notebook is the book of the entries that it has read since it began and of the
+/// puts between them; and a save that says so leaves the text of that book at the recorder's path.
 pub fn world_law<L: Language>()
     ensures { (followers : ℕ) (events : List (Event L.Tree)) (w : World L.Tree)
         → Run L.spoken (opening followers) events w → IsTrueWorld L.spoken w }
@@ -33,13 +34,14 @@ pub fn growth_law<L: Language>()
         → Run L.spoken w events v → HasGoneOn w v }
 {}
 
-/// In a legal log each request is begun, refused or aborted at most once, and a cell that was begun either runs or was
-/// ended or stopped once.
+/// In a legal log each request is begun, refused, aborted or answered at most once, and a cell that was begun either runs
+/// or was ended or stopped once.
 pub fn once_law<L: Language>()
     ensures { (log : Log) (at : ℕ) → IsLegal L.spoken log → IsAnsweredOnce log at }
 {}
 
-/// In a legal log the requests are begun, refused or aborted in the order in which they were taken.
+/// In a legal log the requests on the shell channel are begun, refused, aborted or answered in the order in which they
+/// were taken.
 pub fn order_law<L: Language>()
     ensures { (log : Log) → IsLegal L.spoken log → IsFalling (answered_places log) }
 {}
@@ -52,8 +54,8 @@ pub fn streams_law<L: Language>()
         → begun_in L.spoken at log ≡ Some begun → CellIsRight L.spoken log at begun }
 {}
 
-/// In a legal log each cell is begun in the session that the cell before it left, the first in the opening session. While
-/// no cell runs the session is what the last one left.
+/// In a legal log each cell is begun in the session that the cell before it left, the first, and the first after a
+/// shutdown, in the opening session. While no cell runs the session is what the last one left.
 pub fn session_law<L: Language>()
     ensures { (log : Log) → IsLegal L.spoken log → IsHandedOn L.spoken log }
 {}
@@ -64,7 +66,7 @@ pub fn input_law<L: Language>()
     ensures { (log : Log) (at : ℕ) → IsLegal L.spoken log → IsInputRight log at }
 {}
 
-/// In a legal log each count that is told is the number of the cells begun so far that are to be stored.
+/// In a legal log each count that is told is the number of the cells begun since the last shutdown that are to be stored.
 pub fn count_law<L: Language>()
     ensures { (log : Log) → IsLegal L.spoken log → TellCounts log }
 {}

@@ -4,7 +4,7 @@ use Rattle.std.specs.Prelude.{IfSome}
 use Rattle.std.specs.Io.KnownBytes.{Consumes}
 use Rattle.std.proofs.lemmas.List.{take-append-le}
 use Rattle.std.proofs.Math.Seq.{take-append-add}
-use Rattle.httparse.specs.Grammar.{RequestHead, ReadsRequest, print_request, HasNoRequest, NeverHasRequest}
+use Rattle.httparse.specs.Grammar.{RequestHead, ReadsRequest, print_request, HasNoRequest, MayBecomeRequest, NeverHasRequest}
 use Rattle.httparse.proofs.GrammarLemmas.{request_unique}
 use Rattle.js_http.specs.declared.refusal.HttpRefusal.{HttpRefusal}
 use Rattle.js_http.specs.declared.refusal.HttpRefusal.TheVariants.{BadRequest, HeaderFieldsTooLarge, NotImplemented, LengthRequired, ContentTooLarge, Memory, Ended}
@@ -30,7 +30,11 @@ never-append input more never after = subst HasNoRequest (sym (append_assoc inpu
 
 too_long-append : (input more : List ℕ) → IsTooLong input → IsTooLong (input ++ more)
 too_long-append input more long =
-    (omega (arith, long.0, length-append input more), subst HasNoRequest (sym (take-append-le 16384 input more long.0)) long.1)
+    let same = sym (take-append-le 16384 input more long.long) in record {
+      long = omega (arith, long.long, length-append input more);
+      none = subst HasNoRequest same long.none;
+      may_become = subst MayBecomeRequest same long.may_become;
+    }
 
 too_many-append : (input more : List ℕ) → HasTooManyLines input → HasTooManyLines (input ++ more)
 too_many-append input more many =
@@ -99,7 +103,7 @@ not_never input rest h begun never = never [] h rest (subst (λ bytes. ReadsRequ
 
 not_long : (input rest : List ℕ) (h : RequestHead) → BeginsWith input h rest → IsTooLong input → ⊥
 not_long input rest h begun long =
-    long.1 h (take (16384 - length (print_request h)) rest)
+    long.none h (take (16384 - length (print_request h)) rest)
     (begun.reads.0, ap (take 16384) begun.reads.1 ∙ take_past (print_request h) rest 16384 begun.short)
   where
     take_past : (xs ys : List ℕ) (n : ℕ) → length xs ≤ n → take n (xs ++ ys) ≡ xs ++ take (n - length xs) ys

@@ -21,26 +21,26 @@ few_fields buf spans count fields at room =
     simp length-map at (ap length at) in
     omega (arith, lengths, length-take count spans)
 
-pub too_long : (bytes : List ℕ) → 16384 ≤ length bytes → length bytes ≤ 16384 → HasNoRequest bytes → IsTooLong bytes
-too_long bytes low high none = (low, subst HasNoRequest (sym (take_all 16384 bytes high)) none)
+pub too_long : (bytes : List ℕ) → 16384 ≤ length bytes → length bytes ≤ 16384 → HasNoRequest bytes × MayBecomeRequest bytes → IsTooLong bytes
+too_long bytes low high none =
+    let all = sym (take_all 16384 bytes high) in
+    record { long = low; none = subst HasNoRequest all none.0; may_become = subst MayBecomeRequest all none.1 }
 
--- a head is not whole, and no more comes
-pub head_stops : (a b c : Option (List ℕ)) (bytes new received : List ℕ) (room : ℕ) (e : HttpRefusal)
-    → Consumes a b bytes → Consumes b c received → ReadsSome bytes new room received (Err e) → length bytes + room ≤ 16384 → length bytes < 16384 → HasNoRequest bytes × MayBecomeRequest bytes
-    → (taken : List ℕ) × Consumes a c taken × (length taken ≤ 16384) × Refuses taken e
-head_stops a b c bytes new received room Ended before now reads fits short none = (
-  bytes ++ received,
-  Consumes-trans a b c bytes received before now,
-  omega (arith, length-append {A = ℕ}, ap length reads.0),
-  inl (subst IsPartOfHead (sym (ap (λ more. bytes ++ more) reads.0 ∙ append-nil bytes)) (record { short = short; none = none.0; may_become = none.1 })),
-)
-head_stops a b c bytes new received room Memory before now reads fits short none =
-    (bytes ++ received, Consumes-trans a b c bytes received before now, omega (arith, length-append {A = ℕ}), tt)
-head_stops a b c bytes new received room BadRequest before now reads fits short none = absurd reads
-head_stops a b c bytes new received room HeaderFieldsTooLarge before now reads fits short none = absurd reads
-head_stops a b c bytes new received room NotImplemented before now reads fits short none = absurd reads
-head_stops a b c bytes new received room LengthRequired before now reads fits short none = absurd reads
-head_stops a b c bytes new received room ContentTooLarge before now reads fits short none = absurd reads
+-- no more is read where there is no memory
+within_room : (old new received : List ℕ) (room : ℕ) (e : HttpRefusal) → ReadsSome old new room received (Err e) → length received ≤ room
+within_room old new received room Ended reads = omega (arith, ap length reads.0)
+within_room old new received room Memory reads = reads.0
+within_room old new received room BadRequest reads = absurd reads
+within_room old new received room HeaderFieldsTooLarge reads = absurd reads
+within_room old new received room NotImplemented reads = absurd reads
+within_room old new received room LengthRequired reads = absurd reads
+within_room old new received room ContentTooLarge reads = absurd reads
+
+pub head_unread : (a b c : Option (List ℕ)) (bytes new received : List ℕ) (room : ℕ) (e : HttpRefusal)
+    → Consumes a b bytes → Consumes b c received → ReadsSome bytes new room received (Err e) → length bytes + room ≤ 16384
+    → (taken : List ℕ) × Consumes a c taken × (length taken ≤ 16384) × Unit {0}
+head_unread a b c bytes new received room e before now reads fits =
+    (bytes ++ received, Consumes-trans a b c bytes received before now, omega (arith, length-append bytes received, within_room bytes new received room e reads), tt)
 
 -- a body is not whole, and no more comes
 pub body_stops : (a b c : Option (List ℕ)) (start received body new more : List ℕ) (len room : ℕ) (e : HttpRefusal)

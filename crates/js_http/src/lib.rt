@@ -14,6 +14,7 @@ mod response;
 mod serve;
 mod target;
 mod values;
+mod watch;
 mod write;
 
 pub use framing::MAX_BODY_LEN;

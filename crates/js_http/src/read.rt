@@ -6,6 +6,7 @@ ghost use Rattle.js_http.specs.Requests.{Refuses};
 
 use crate::HttpRefusal;
 use crate::head::{Head, MAX_HEAD_LEN, parse_head};
+use crate::watch::Watch;
 use std::alloc::Global;
 use std::io::Read;
 
@@ -13,11 +14,12 @@ use std::io::Read;
 pub const MAX_READS: u32 = 16_793_600;
 
 /// At most so many bytes are asked for in one read.
-const READ_LEN: usize = 16_384;
+pub(crate) const READ_LEN: usize = 16_384;
 
-/// Reads once, straight to the end of `bytes`, which then has at most `most` bytes.
+/// Reads once, and adds what came to `bytes`, which then has at most `most` bytes. `room` is overwritten.
 fn read_some<R: Read>(
     reader: &mut R,
+    room: &mut [u8],
     bytes: &mut Vec<u8>,
     most: usize,
     reads: &mut u32,
@@ -27,19 +29,32 @@ fn read_some<R: Read>(
     ensures bytes { (received : List ℕ)
         × Consumes (R.remaining reader.old) (R.remaining reader.new) received
         × ReadsSome bytes.old.items bytes.new.items (most - vec_len bytes.old) received result }
-    ensures counted { OnOk result (reads.new ≡ reads.old + 1) }
+    ensures counted { reads.new ≤ reads.old + 1 }
 {
-    let held = bytes.len();
-    bytes.resize(held + (most - held).min(READ_LEN), 0)?;
-    match reader.read(&mut bytes[held..]) {
+    let asked = (most - bytes.len()).min(room.len());
+    match reader.read(&mut room[..asked]) {
         Ok(count) if count > 0 => {
+            bytes.extend_from_slice(&room[..count])?;
             *reads += 1;
-            bytes.truncate(held + count);
             Ok(())
         }
-        _ => {
-            bytes.truncate(held);
-            Err(HttpRefusal::Ended)
+        _ => Err(HttpRefusal::Ended),
+    }
+}
+
+/// The head that stands there where nothing more is read, or why there is none.
+fn last_head(alloc: Global, bytes: Vec<u8>) -> Result<(Head, Vec<u8>), HttpRefusal>
+    requires { vec_len bytes ≤ 16384 }
+    ensures { MatchResult result (λ found. HasHead bytes.items found.0 found.1.items) (Refuses bytes.items) }
+{
+    match parse_head(alloc, &bytes)? {
+        Some(head) => Ok((head, bytes)),
+        None => {
+            if bytes.len() >= MAX_HEAD_LEN {
+                Err(HttpRefusal::HeaderFieldsTooLarge)
+            } else {
+                Err(HttpRefusal::Ended)
+            }
         }
     }
 }
@@ -48,6 +63,7 @@ fn read_some<R: Read>(
 pub(crate) fn read_head<R: Read>(
     alloc: Global,
     reader: &mut R,
+    room: &mut [u8],
     reads: &mut u32,
 ) -> Result<(Head, Vec<u8>), HttpRefusal>
     requires { reads.old ≡ 0 }
@@ -57,21 +73,28 @@ pub(crate) fn read_head<R: Read>(
     ensures counted { OnOk result (reads.new ≤ 16384) }
 {
     let mut bytes = Vec::new(alloc);
-    'head: loop {
-        if let Some(head) = parse_head(alloc, &bytes)? {
-            return Ok((head, bytes));
+    let mut watch = Watch::new();
+    'head: while bytes.len() < MAX_HEAD_LEN {
+        let held = bytes.len();
+        match read_some(reader, room, &mut bytes, MAX_HEAD_LEN, reads) {
+            Ok(()) => watch.note(&bytes[held..]),
+            Err(HttpRefusal::Ended) => return last_head(alloc, bytes),
+            Err(_) => return Err(HttpRefusal::Memory),
         }
-        if bytes.len() >= MAX_HEAD_LEN {
-            return Err(HttpRefusal::HeaderFieldsTooLarge);
+        if watch.is_due(bytes.len()) {
+            if let Some(head) = parse_head(alloc, &bytes)? {
+                return Ok((head, bytes));
+            }
         }
-        read_some(reader, &mut bytes, MAX_HEAD_LEN, reads)?;
     }
+    last_head(alloc, bytes)
 }
 
-/// Reads until `len` bytes of body are there, of which `start` received with the head.
+/// Reads until `len` bytes of body are there, of which `start` received with the head. Its memory grows as they come.
 pub(crate) fn read_body<R: Read>(
     alloc: Global,
     reader: &mut R,
+    room: &mut [u8],
     start: &[u8],
     len: usize,
     reads: &mut u32,
@@ -82,10 +105,10 @@ pub(crate) fn read_body<R: Read>(
         × Consumes (R.remaining reader.old) (R.remaining reader.new) received
         × (length received ≤ len) × MatchResult result (λ body. HasBody start.now received len body.items) (LacksBody start.now received len) }
 {
-    let mut body = Vec::with_capacity(alloc, len)?;
+    let mut body = Vec::new(alloc);
     body.extend_from_slice(&start[..start.len().min(len)])?;
     'body: while body.len() < len {
-        read_some(reader, &mut body, len, reads)?;
+        read_some(reader, room, &mut body, len, reads)?;
     }
     Ok(body)
 }

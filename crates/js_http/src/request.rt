@@ -7,7 +7,7 @@ ghost use Rattle.js_http.specs.declared.refusal.HttpRefusal.{HttpRefusal};
 ghost use Rattle.js_http.specs.declared.request.Request.{Request};
 
 use crate::framing::body_len;
-use crate::read::{read_body, read_head};
+use crate::read::{READ_LEN, read_body, read_head};
 use crate::{Bytes, Headers, HttpRefusal, Method, Text};
 use std::alloc::Global;
 use std::io::Read;
@@ -50,11 +50,14 @@ fn take_request<R: Read>(alloc: Global, reader: &mut R) -> Result<Request, HttpR
         × (length taken ≤ 16793600) × Answers taken result }
 {
     let mut reads = 0;
-    let (head, received) = read_head(alloc, reader, &mut reads)?;
+    let mut room = Vec::new(alloc);
+    room.resize(READ_LEN, 0)?;
+    let (head, received) = read_head(alloc, reader, &mut room, &mut reads)?;
     let len = body_len(head.method.needs_length(), &head.headers)?;
     let body = read_body(
         alloc,
         reader,
+        &mut room,
         &received[head.len..],
         len as usize,
         &mut reads,
@@ -71,7 +74,7 @@ fn take_request<R: Read>(alloc: Global, reader: &mut R) -> Result<Request, HttpR
 ///
 /// It counts its reads: at most 16,793,600 of them give bytes. Any fault of the stream is `Ended`, an interrupted
 /// read too, and so is its end before the request is whole. What was taken of the stream is gone from it, whatever
-/// the answer is. A head that is both bad and too long may be refused as either.
+/// the answer is. A head that is bad within its first `MAX_HEAD_LEN` bytes is refused as bad, whatever its length is.
 pub fn read_request<R: Read>(alloc: Global, reader: &mut R) -> Result<Request, HttpRefusal>
     // The answer is to what was taken, and no more is taken than a request may have.
     ensures taken { (taken : List ℕ)

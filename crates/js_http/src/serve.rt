@@ -53,9 +53,10 @@ pub fn serve_one<R: Read, W: Write, F: FnOnce(Request) -> Response + Drop>(
             Ok(Served::Answered)
         }
         Err(refusal) => {
-            if let Some(status) = refusal.status() {
-                write_response(&mut stream.writer, &Response::Refused(status))?;
-            }
+            let Some(status) = refusal.status() else {
+                return Ok(Served::Unanswered(refusal));
+            };
+            write_response(&mut stream.writer, &Response::Refused(status))?;
             Ok(Served::Unanswered(refusal))
         }
     }

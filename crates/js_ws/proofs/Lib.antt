@@ -1,0 +1,5 @@
+pub mod Roles
+pub mod Parts
+pub mod Sending
+pub mod Frames
+pub mod Turns

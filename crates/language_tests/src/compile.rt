@@ -2,11 +2,11 @@ ghost use Rattle.ob_fit.specs.Solid.{EachSolid};
 
 use ob_base::{Boxed, Items, Refused, Text};
 use ob_check::check;
-use ob_code::whole::checked::Checked;
-use ob_compile::{compile, face_of, faces_of, has_room, same_face};
+use ob_code::checked::Checked;
+use ob_compile::{compile, face_of, faces_of, has_room};
 use ob_declare::Imports;
-use ob_image::copy_face;
-use ob_mean::whole::{Face, ModuleVariable, Shape, TypedModule};
+use ob_image::{copy_face, same_face};
+use ob_mean::{Face, ModuleVariable, Shape, TypedModule};
 use ob_parse::parse_text;
 use ob_parse::tree::{Cell, Module};
 use std::alloc::{AllocError, Global};

@@ -4,7 +4,7 @@ use ob_express::{
     Called, Operand, actual, actuals, assigned_value, basic_value, expr, guard, number, procedure,
     target, truth,
 };
-use ob_mean::whole::{
+use ob_mean::{
     Argument, Callee, Designator, ModuleVariable, Operation, Operator, TypedExpr, Variable,
 };
 use ob_parse::parse_text;

@@ -1,6 +1,6 @@
 use ob_base::{Items, Text};
 use ob_link::{CommandName, KeyedImport, LinkFault, Looked, Modules, Ready, SessionModule};
-use ob_mean::whole::TypedModule;
+use ob_mean::TypedModule;
 use ob_types::{Basic, Exported, Formal, FormalKind, Interface, ObType, Object, Signature};
 use std::alloc::{AllocError, Global};
 use std::test::Fail;

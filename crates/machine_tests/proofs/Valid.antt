@@ -3,9 +3,9 @@ use Rattle.std.proofs.Common.{◌≡◌, ℕ, zero, suc, ◌<◌, List, [], ◌�
 use Rattle.std.specs.Prelude.{slice_get, All}
 use Rattle.std.proofs.lemmas.Option.{slice_get_within, get_or_from_slice_get}
 use Rattle.std.proofs.lemmas.List.Elements.{All-append}
-use Rattle.ob_code.specs.declared.whole.instr.LinkedModule.{LinkedModule}
-use Rattle.ob_code.specs.whole.Machine.{Code}
-use Rattle.ob_code.specs.whole.Valid.{IsValid}
+use Rattle.ob_code.specs.declared.instr.LinkedModule.{LinkedModule}
+use Rattle.ob_code.specs.Machine.{Code}
+use Rattle.ob_code.specs.Valid.{IsValid}
 
 abbrev pub AllValid : Code → Type 0
 AllValid code = All (λ (l : LinkedModule). IsValid l.code) code

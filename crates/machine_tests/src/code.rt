@@ -1,9 +1,9 @@
-use ob_code::whole::checked::validate;
-use ob_code::whole::instr::{
+use ob_code::checked::validate;
+use ob_code::instr::{
     CodeModule, Entries, Entry, Extent, Instr, Line, LinkedModule, Procedure, Root, Target,
 };
-use ob_code::whole::linked::are_linked;
-use ob_mean::whole::{Adjustment, Callee, Operator, Relation};
+use ob_code::linked::are_linked;
+use ob_mean::{Adjustment, Callee, Operator, Relation};
 use std::alloc::{AllocError, Global};
 use std::test::Fail;
 

@@ -6,9 +6,9 @@ mod run;
 use crate::compiled::build::{begin, image_of};
 use crate::compiled::run::{Stood, run};
 use crate::reference::Seen;
-use ob_mean::whole::{Face, Loaded, Outcome};
+use ob_mean::{Face, Loaded, Outcome};
 use ob_reference::NoAnswer;
-use ob_vm::whole::Turned;
+use ob_vm::Turned;
 use std::alloc::Global;
 
 /// How many turns a slice has at most.

@@ -11,7 +11,7 @@ mod trees;
 mod values;
 
 use crate::compiled;
-use ob_mean::whole::{Face, Loaded, Outcome, TrapKind, TurnKind};
+use ob_mean::{Face, Loaded, Outcome, TrapKind, TurnKind};
 use ob_reference::{GivenLine, NoAnswer, Ran, Reference};
 use std::alloc::{AllocError, Global};
 
@@ -59,7 +59,7 @@ fn loaded(alloc: Global, program: Result<Vec<Loaded>, AllocError>) -> Result<Ref
 }
 
 /// Lines that In may ask for; the empty one stands for none to be had.
-fn given(alloc: Global, lines: &[&str]) -> Result<Vec<GivenLine>, AllocError> {
+pub(crate) fn given(alloc: Global, lines: &[&str]) -> Result<Vec<GivenLine>, AllocError> {
     let mut all = Vec::new(alloc);
     for &line in lines {
         if line.is_empty() {

@@ -69,7 +69,7 @@ is_there-book : (base : Notebook) (past : List Item) (cs : List Cell) (wish : Op
 is_there-book base past cs None = refl
 is_there-book base past cs (Some w) = has_code-book base past cs w
 
-length-ids : (xs : List Cell) → length (ids xs) ≡ length xs
+pub length-ids : (xs : List Cell) → length (ids xs) ≡ length xs
 length-ids [] = refl
 length-ids (x ∷ xs) = ap suc (length-ids xs)
 

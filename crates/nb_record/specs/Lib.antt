@@ -1,3 +1,4 @@
 pub mod Book
+pub mod Readable
 pub mod Steps
 pub mod State

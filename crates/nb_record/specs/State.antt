@@ -1,12 +1,16 @@
 -- What contracts see of a recorder.
-use Rattle.std.specs.Prelude.{◌≡◌, ℕ, List, ◌∷◌, true}
+use Rattle.std.specs.Prelude.{◌≡◌, ℕ, List, ◌∷◌, Result}
+use Rattle.js_shelf.specs.declared.item.Item.TheVariants.{File}
+use Rattle.js_shelf.specs.declared.item.ShelfRefusal.{ShelfRefusal}
+use Rattle.js_shelf.specs.Shelves.{Contents, Puts as PutsOnShelf}
 use Rattle.nb_doc.specs.declared.notebook.Notebook.{Notebook}
-use Rattle.nb_doc.specs.Documents.{ids}
-use Rattle.nb_doc.specs.Ids.{is_among, are_distinct}
+use Rattle.nb_doc.specs.Ids.{is_among}
+use Rattle.nb_doc.specs.Writing.{notebook_text}
 use Rattle.nb_record.specs.declared.event.Event.{Event}
 use Rattle.nb_record.specs.declared.event.Event.TheVariants.{Begins, Passes, Writes, Puts, Nothing}
 use Rattle.nb_record.specs.declared.pages.Pages.{Pages}
 use Rattle.nb_record.specs.Book.{Item, event, book, executed, current}
+use Rattle.nb_record.specs.Readable.{IsReadableOutput, IsReadable}
 
 pub record RecorderState : Type 0 where
   pub path : List ℕ
@@ -18,14 +22,22 @@ pub record StandsAt (p : Pages) (base : Notebook) (items : List Item) : Type 0 w
   pub executed : (id : List ℕ) → is_among p.executed id ≡ executed base items id
   pub current : p.current ≡ current base items
 
+-- The pages were told an item: where they held some items over a notebook, they now hold these and the new one.
+abbrev pub IsTold : Item → Pages → Pages → Type 0
+IsTold i old new = (base : Notebook) (items : List Item) → StandsAt old base items → StandsAt new base (i ∷ items)
+
+-- the text of the recorder's notebook was put on a shelf, as the file at its path
+abbrev pub Saves : RecorderState → Result Unit ShelfRefusal → Contents → Contents → Type 0
+Saves r result = PutsOnShelf r.path (File (notebook_text r.pages.notebook)) result
+
 -- an event happened, whatever was told before
 abbrev pub Follows : Event → Pages → Pages → Type 0
 Follows v old new = (base : Notebook) (past : List Item) (i : Item) → event i ≡ v → StandsAt old base past → StandsAt new base (i ∷ past)
 
--- the ids of a notebook that is put are distinct
-abbrev pub HasDistinct : Event → Type 0
-HasDistinct (Puts n) = are_distinct (ids n.cells) ≡ true
-HasDistinct (Begins wish source count) = Unit {0}
-HasDistinct Passes = Unit {0}
-HasDistinct (Writes o) = Unit {0}
-HasDistinct Nothing = Unit {0}
+-- what it brings is readable
+abbrev pub IsReadableEvent : Event → Type 0
+IsReadableEvent (Puts n) = IsReadable n
+IsReadableEvent (Writes o) = IsReadableOutput o
+IsReadableEvent (Begins wish source count) = Unit {0}
+IsReadableEvent Passes = Unit {0}
+IsReadableEvent Nothing = Unit {0}

@@ -3,6 +3,7 @@
 ghost use Rattle.std.specs.Prelude.{◌≡◌, IfOk, string_bytes};
 ghost use Rattle.jp_msg.specs.Writing.{traceback_text};
 ghost use Rattle.nb_record.specs.Book.{is_stored, wish_of, begins, error_of, event_told, event_of};
+ghost use Rattle.nb_record.specs.State.{IsReadableEvent};
 
 use jk_core::{Entry, Told};
 use jp_msg::{Content, Failure, Message, Output as ToldOutput, Request};
@@ -30,7 +31,8 @@ pub enum Event {
 
 /// What an entry means.
 pub(crate) fn event_in(alloc: Global, entry: &Entry) -> Result<Event, AllocError>
-    ensures { IfOk result (λ v. v ≡ event_of entry.now.parent entry.now.content) }
+    ensures event { IfOk result (λ v. v ≡ event_of entry.now.parent entry.now.content) }
+    ensures readable { IfOk result IsReadableEvent }
 {
     match &entry.parent {
         None => Ok(Event::Nothing),
@@ -42,7 +44,8 @@ pub(crate) fn event_in(alloc: Global, entry: &Entry) -> Result<Event, AllocError
 }
 
 fn told(alloc: Global, request: &Message, output: &ToldOutput) -> Result<Event, AllocError>
-    ensures { IfOk result (λ v. v ≡ event_told request.now output.now) }
+    ensures event { IfOk result (λ v. v ≡ event_told request.now output.now) }
+    ensures readable { IfOk result IsReadableEvent }
 {
     match output {
         ToldOutput::ExecuteInput {
@@ -60,7 +63,8 @@ fn told(alloc: Global, request: &Message, output: &ToldOutput) -> Result<Event, 
 }
 
 fn begun(alloc: Global, request: &Message, source: &Text, count: u64) -> Result<Event, AllocError>
-    ensures { IfOk result (λ v. v ≡ begins request.now source.now count) }
+    ensures event { IfOk result (λ v. v ≡ begins request.now source.now count) }
+    ensures readable { IfOk result IsReadableEvent }
 {
     if !stored(&request.content) {
         return Ok(Event::Passes);

@@ -2,11 +2,10 @@
 
 ghost use Rattle.std.specs.Prelude.{◌≡◌, true, false, Some, slice_get, OnOk, OnErr};
 ghost use Rattle.nb_doc.specs.declared.notebook.Cell.{Cell};
-ghost use Rattle.nb_doc.specs.Documents.{ids};
-ghost use Rattle.nb_doc.specs.Ids.{are_distinct};
 ghost use Rattle.nb_record.specs.declared.event.Event.TheVariants.{Begins, Writes, Puts};
 ghost use Rattle.nb_record.specs.Book.{is_code_at, is_there};
-ghost use Rattle.nb_record.specs.State.{HasDistinct, Follows};
+ghost use Rattle.nb_record.specs.Readable.{IsReadableOutput, IsReadable};
+ghost use Rattle.nb_record.specs.State.{IsReadableEvent, Follows};
 
 use crate::cells::{begin_at, code_place, fresh, id_for, kept_cells, still_executed, write_at};
 use crate::event::Event;
@@ -25,11 +24,11 @@ pub struct Pages {
 
 /// An event happens. Where there is no memory for it, nothing has changed.
 pub(crate) fn take(alloc: Global, pages: &mut Pages, event: Event) -> Result<(), AllocError>
-    requires once { are_distinct (ids pages.old.notebook.cells) ≡ true }
-    requires puts { HasDistinct event }
+    requires readable { IsReadable pages.old.notebook }
+    requires event { IsReadableEvent event }
     ensures ok { OnOk result (Follows event pages.old pages.new) }
     ensures err { OnErr result (pages.new ≡ pages.old) }
-    ensures once { are_distinct (ids pages.new.notebook.cells) ≡ true }
+    ensures readable { IsReadable pages.new.notebook }
 {
     match event {
         Event::Begins {
@@ -54,10 +53,10 @@ fn begin(
     source: Text,
     count: u64,
 ) -> Result<(), AllocError>
-    requires { are_distinct (ids pages.old.notebook.cells) ≡ true }
+    requires { IsReadable pages.old.notebook }
     ensures ok { OnOk result (Follows (Begins wish source count) pages.old pages.new) }
     ensures err { OnErr result (pages.new ≡ pages.old) }
-    ensures once { are_distinct (ids pages.new.notebook.cells) ≡ true }
+    ensures readable { IsReadable pages.new.notebook }
 {
     match wish {
         None => append(alloc, pages, None, source, count),
@@ -78,10 +77,10 @@ fn restart(
     count: u64,
 ) -> Result<(), AllocError>
     requires there { (c : Cell) × (slice_get pages.old.notebook.cells place ≡ Some c) × (is_code_at id c ≡ true) }
-    requires once { are_distinct (ids pages.old.notebook.cells) ≡ true }
+    requires readable { IsReadable pages.old.notebook }
     ensures ok { OnOk result (Follows (Begins (Some id) source count) pages.old pages.new) }
     ensures err { OnErr result (pages.new ≡ pages.old) }
-    ensures once { are_distinct (ids pages.new.notebook.cells) ≡ true }
+    ensures readable { IsReadable pages.new.notebook }
 {
     pages.executed.add(alloc, id.as_str())?;
     begin_at(alloc, &mut pages.notebook.cells, place, source, count);
@@ -98,10 +97,10 @@ fn append(
     count: u64,
 ) -> Result<(), AllocError>
     requires gone { is_there pages.old.notebook.cells wish ≡ false }
-    requires once { are_distinct (ids pages.old.notebook.cells) ≡ true }
+    requires readable { IsReadable pages.old.notebook }
     ensures ok { OnOk result (Follows (Begins wish source count) pages.old pages.new) }
     ensures err { OnErr result (pages.new ≡ pages.old) }
-    ensures once { are_distinct (ids pages.new.notebook.cells) ≡ true }
+    ensures readable { IsReadable pages.new.notebook }
 {
     let id = id_for(alloc, pages.notebook.cells.as_slice(), wish)?;
     let cell = fresh(alloc, id.copy()?, source, count);
@@ -116,10 +115,11 @@ fn append(
 
 /// The cell that began last writes.
 fn write(alloc: Global, pages: &mut Pages, output: Output) -> Result<(), AllocError>
-    requires { are_distinct (ids pages.old.notebook.cells) ≡ true }
+    requires readable { IsReadable pages.old.notebook }
+    requires output { IsReadableOutput output }
     ensures ok { OnOk result (Follows (Writes output) pages.old pages.new) }
     ensures err { OnErr result (pages.new ≡ pages.old) }
-    ensures once { are_distinct (ids pages.new.notebook.cells) ≡ true }
+    ensures readable { IsReadable pages.new.notebook }
 {
     let Some(id) = &pages.current else {
         return Ok(());
@@ -132,10 +132,11 @@ fn write(alloc: Global, pages: &mut Pages, output: Output) -> Result<(), AllocEr
 
 /// A notebook is put.
 fn put(alloc: Global, pages: &mut Pages, notebook: Notebook) -> Result<(), AllocError>
-    requires { are_distinct (ids notebook.cells) ≡ true }
+    requires readable { IsReadable pages.old.notebook }
+    requires new { IsReadable notebook }
     ensures ok { OnOk result (Follows (Puts notebook) pages.old pages.new) }
     ensures err { OnErr result (pages.new ≡ pages.old) }
-    ensures once { OnOk result (are_distinct (ids pages.new.notebook.cells) ≡ true) }
+    ensures readable { IsReadable pages.new.notebook }
 {
     let still = still_executed(alloc, &pages.executed, notebook.cells.as_slice())?;
     let Notebook { cells, metadata } = notebook;

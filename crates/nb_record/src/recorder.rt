@@ -1,17 +1,22 @@
 //! The recorder: a notebook that follows what a kernel shows.
 
-ghost use Rattle.std.specs.Prelude.{◌≡◌, true, [], ◌∷◌, List, OnOk, OnErr};
-ghost use Rattle.nb_doc.specs.declared.notebook.Notebook.{Notebook};
-ghost use Rattle.nb_doc.specs.Documents.{ids};
-ghost use Rattle.nb_doc.specs.Ids.{are_distinct};
-ghost use Rattle.nb_record.specs.Book.{Item, Shown, Put};
-ghost use Rattle.nb_record.specs.State.{StandsAt};
+ghost use Rattle.std.specs.Prelude.{◌≡◌, ◌≤◌, [], Ok, OnOk, OnErr};
+ghost use Rattle.serde_json.specs.Data.{depth};
+ghost use Rattle.serde_json.specs.Read.{max_depth};
+ghost use Rattle.js_shelf.specs.Shelves.{Tells, HasCause};
+ghost use Rattle.nb_doc.specs.Building.{empty_notebook};
+ghost use Rattle.nb_doc.specs.Documents.{IsDocument, joined_notebook};
+ghost use Rattle.nb_doc.specs.Reading.{notebook_at};
+ghost use Rattle.nb_doc.specs.Writing.{notebook_form, notebook_text};
+ghost use Rattle.nb_record.specs.Book.{Shown, Put};
+ghost use Rattle.nb_record.specs.State.{StandsAt, IsTold, Saves};
 
 use crate::event::{Event, event_in};
 use crate::pages::{Pages, take};
 use jk_core::Entry;
+use js_shelf::{Bytes, Item as ShelfItem, Shelf, ShelfRefusal};
 use json_form::Text;
-use nb_doc::{Names, Notebook};
+use nb_doc::{Names, Notebook, write_notebook};
 use std::alloc::{AllocError, Global};
 use std::marker::Model;
 
@@ -24,11 +29,9 @@ pub struct Recorder {
 }
 
 impl Model for Recorder {
-    ghost use Rattle.std.specs.Prelude.{◌≡◌, true};
     ghost use Rattle.std.specs.Coded.{codes};
     ghost use Rattle.json_form.specs.contracts.kept.Json as json;
-    ghost use Rattle.nb_doc.specs.Documents.{ids};
-    ghost use Rattle.nb_doc.specs.Ids.{are_distinct};
+    ghost use Rattle.nb_record.specs.Readable.{IsReadable};
     ghost use Rattle.nb_record.specs.State.{RecorderState};
 
     ghost Value = { RecorderState };
@@ -37,13 +40,23 @@ impl Model for Recorder {
 
     ghost view = { λ r. record { path = r.path; pages = r.pages } };
 
-    ghost invariant = { λ r. are_distinct (ids r.pages.notebook.cells) ≡ true };
+    ghost invariant = { λ r. IsReadable r.pages.notebook };
 }
 
 impl Recorder {
-    /// It begins with a notebook whose ids are distinct, as those of one that was read are.
+    /// It begins with no cells and no metadata.
+    pub fn empty(alloc: Global, path: Text) -> Recorder
+        ensures path { result.path ≡ path }
+        ensures stands { StandsAt result.pages empty_notebook [] }
+    {
+        Recorder::new(alloc, path, Notebook::empty(alloc))
+    }
+
+    /// It begins with a notebook that is a document of 4.5 and nests no deeper than JSON is read, as one that was
+    /// read does.
     pub fn new(alloc: Global, path: Text, notebook: Notebook) -> Recorder
-        requires { are_distinct (ids notebook.cells) ≡ true }
+        requires document { IsDocument notebook }
+        requires shallow { depth (notebook_form notebook) ≤ max_depth }
         ensures path { result.path ≡ path }
         ensures stands { StandsAt result.pages notebook [] }
     {
@@ -64,8 +77,7 @@ impl Recorder {
 
     /// An entry was shown. Where there is no memory for it, nothing has changed.
     pub fn entry(&mut self, entry: &Entry) -> Result<(), AllocError>
-        ensures ok { OnOk result ((base : Notebook) (items : List Item) → StandsAt self.old.pages base items
-            → StandsAt self.new.pages base (Shown entry.now ∷ items)) }
+        ensures ok { OnOk result (IsTold (Shown entry.now) self.old.pages self.new.pages) }
         ensures err { OnErr result (self.new ≡ self.old) }
         ensures path { self.new.path ≡ self.old.path }
     {
@@ -73,11 +85,12 @@ impl Recorder {
         take(self.alloc, &mut self.pages, event)
     }
 
-    /// A notebook was put, whose ids are distinct. Where there is no memory for it, nothing has changed.
+    /// A notebook was put: a document of 4.5 that nests no deeper than JSON is read, as one that was read is. Where
+    /// there is no memory for it, nothing has changed.
     pub fn put(&mut self, notebook: Notebook) -> Result<(), AllocError>
-        requires { are_distinct (ids notebook.cells) ≡ true }
-        ensures ok { OnOk result ((base : Notebook) (items : List Item) → StandsAt self.old.pages base items
-            → StandsAt self.new.pages base (Put notebook ∷ items)) }
+        requires document { IsDocument notebook }
+        requires shallow { depth (notebook_form notebook) ≤ max_depth }
+        ensures ok { OnOk result (IsTold (Put notebook) self.old.pages self.new.pages) }
         ensures err { OnErr result (self.new ≡ self.old) }
         ensures path { self.new.path ≡ self.old.path }
     {
@@ -87,8 +100,24 @@ impl Recorder {
     /// The notebook of all that it was told.
     pub fn notebook(&self) -> &Notebook
         ensures value { result.now ≡ self.now.pages.notebook }
-        ensures distinct { are_distinct (ids result.now.cells) ≡ true }
+        ensures document { IsDocument result.now }
+        ensures shallow { depth (notebook_form result.now) ≤ max_depth }
     {
         &self.pages.notebook
+    }
+
+    /// Puts the text of its notebook on the shelf, as the file at its path. Refused as that put is, and with `Memory`
+    /// where there is none for the text; then nothing has changed on the shelf. The recorder is the same after any
+    /// refusal, so a later call saves what this one would have.
+    ///
+    /// What is saved reads back: it is this notebook, with neighbouring streams joined.
+    pub fn save<S: Shelf>(&self, shelf: &mut S) -> Result<(), ShelfRefusal>
+        ensures answer { Tells (S.contents shelf.old) (S.contents shelf.new) (Saves self.now result) }
+        ensures cause { HasCause (S.faults shelf.old) (S.faults shelf.new) result }
+        ensures reads_back { OnOk result (notebook_at (notebook_text self.now.pages.notebook)
+            ≡ Ok (joined_notebook self.now.pages.notebook)) }
+    {
+        let text = write_notebook(self.alloc, &self.pages.notebook)?;
+        shelf.put(self.path.as_str(), ShelfItem::File(Bytes::from(text)))
     }
 }

@@ -10,9 +10,9 @@ use Rattle.ob_base.specs.declared.fault.Refused.TheVariants as refused
 use Rattle.ob_parse.specs.declared.tree.Cell.{Cell}
 use Rattle.ob_declare.specs.Rule.{answer}
 use Rattle.ob_declare.proofs.Exact.{found}
-use Rattle.ob_mean.specs.whole.Programs.{Command, body_meaning, world_before}
-use Rattle.ob_mean.specs.whole.Runs.{supply}
-use Rattle.ob_mean.specs.whole.Values.{Value}
+use Rattle.ob_mean.specs.Programs.{Command, body_meaning, world_before}
+use Rattle.ob_mean.specs.Runs.{supply}
+use Rattle.ob_mean.specs.Values.{Value}
 use Rattle.ob_session.specs.Session.{Session, Module, name_of, place_of, link_fault, with_module, installed, program_of}
 use Rattle.ob_session.specs.Cells as cells
 use Rattle.ob_session.specs.Cells.{Checked, OfModule, OfCommands, CommandName, checked_meaning, module_meaning, commands_by, all_ready, ran, unlinked}

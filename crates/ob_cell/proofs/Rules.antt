@@ -7,8 +7,8 @@ use Rattle.ob_base.specs.declared.fault.Refused.{Refused}
 use Rattle.ob_base.specs.declared.fault.Refused.TheVariants as refused
 use Rattle.ob_parse.specs.declared.tree.Cell.TheVariants as cells
 use Rattle.ob_parse.specs.declared.tree.Module as tree
-use Rattle.ob_mean.specs.declared.whole.face.Face.{Face}
-use Rattle.ob_mean.specs.whole.Values.{Value}
+use Rattle.ob_mean.specs.declared.face.Face.{Face}
+use Rattle.ob_mean.specs.Values.{Value}
 use Rattle.ob_declare.specs.Exports.{Modules as Loaded}
 use Rattle.ob_declare.specs.Rule.{answer, gives, breaks, FaultsOnly, ◌>>=◌}
 use Rattle.ob_declare.proofs.Exact.{only}

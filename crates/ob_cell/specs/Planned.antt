@@ -3,15 +3,15 @@ use Rattle.std.specs.Prelude.{◌≡◌, ℕ, List, map, option_map, Option, Som
 use Rattle.ob_base.specs.declared.fault.Refused.{Refused}
 use Rattle.ob_base.specs.declared.fault.Refused.TheVariants as refused
 use Rattle.ob_parse.specs.declared.tree.Cell.{Cell}
-use Rattle.ob_mean.specs.declared.whole.face.Face.{Face}
-use Rattle.ob_mean.specs.whole.WellFormed.{IsFaceOf, IsWellFormed}
+use Rattle.ob_mean.specs.declared.face.Face.{Face}
+use Rattle.ob_mean.specs.WellFormed.{IsFaceOf, IsWellFormed}
 use Rattle.ob_declare.specs.Rule.{answer, breaks}
 use Rattle.ob_fit.specs.Fitting.{face_of_interface}
 use Rattle.ob_types.specs.Solid.{ExportsSolid}
 use Rattle.ob_session.specs.Session.{Session, Module, Import, find_module, link_fault}
 use Rattle.ob_session.specs.Cells as cells
 use Rattle.ob_session.specs.Cells.{Checked, OfModule, OfCommands, CommandName, all_ready}
-use Rattle.ob_gen.specs.whole.Generated.{IsGenerated}
+use Rattle.ob_gen.specs.Generated.{IsGenerated}
 use Rattle.ob_cell.specs.Texts.{cell_rule}
 use Rattle.ob_linked.specs.Compiled.{AllFound}
 use Rattle.ob_link.specs.Looking.{fault_seen}

@@ -1,7 +1,7 @@
 //! The plan of a cell.
 
 ghost use Rattle.std.specs.Prelude.{IfOk, IfErr};
-ghost use Rattle.ob_mean.specs.whole.Values.{Value};
+ghost use Rattle.ob_mean.specs.Values.{Value};
 ghost use Rattle.ob_link.specs.Looking.{in_store};
 ghost use Rattle.ob_link.specs.Modules.{AllSolid, AllDistinct};
 ghost use Rattle.ob_cell.specs.Planned.{IsPlanned, IsStaticRefusal};

@@ -12,7 +12,7 @@ use ob_check::{Checked, Imported};
 use ob_compile::{compile, face_of, faces_of};
 use ob_declare::Imports;
 use ob_link::{KeyedImport, SessionModule};
-use ob_mean::whole::Face;
+use ob_mean::Face;
 use std::alloc::{AllocError, Global};
 
 /// The imports, with their keys.

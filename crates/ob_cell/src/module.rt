@@ -2,7 +2,7 @@
 
 ghost use Rattle.std.specs.Prelude.{IfOk, IfErr};
 ghost use Rattle.ob_parse.specs.declared.tree.Cell.TheVariants as cells;
-ghost use Rattle.ob_mean.specs.whole.Values.{Value};
+ghost use Rattle.ob_mean.specs.Values.{Value};
 ghost use Rattle.ob_link.specs.Looking.{in_store};
 ghost use Rattle.ob_link.specs.Modules.{AllSolid, AllDistinct};
 ghost use Rattle.ob_cell.specs.Planned.{IsPlanned, IsStaticRefusal};

@@ -1,9 +1,9 @@
 //! What a cell comes to before it runs.
 
 use ob_base::Items;
-use ob_code::whole::checked::Checked;
+use ob_code::checked::Checked;
 use ob_link::{Command, LinkFault, SessionModule};
-use ob_mean::whole::Face;
+use ob_mean::Face;
 
 /// A module that was compiled, ready to be loaded.
 #[derive(Drop)]

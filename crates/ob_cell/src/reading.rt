@@ -2,6 +2,7 @@
 
 ghost use Rattle.std.specs.Prelude.{◌≡◌, IfOk, IfErr};
 ghost use Rattle.jk_language.specs.Spoken.{IsRefusal};
+ghost use Rattle.jk_language.specs.Unread.{IsUnread};
 ghost use Rattle.ob_session.specs.Session.{Session};
 ghost use Rattle.ob_cell.specs.Codes.{code_number};
 ghost use Rattle.ob_cell.specs.Oberon.{spoken_oberon, IsTreeOf};
@@ -35,11 +36,13 @@ pub(crate) fn numbered(fault: ob_base::Fault) -> Fault
 ///
 /// # Errors
 ///
-/// A fault of 1 to 4 where the text has no tokens, and one of 5 to 7 where they have no tree: it has these in every session.
+/// A fault of 1 to 4 where the text has no tokens, and one of 5 to 7 where they have no tree: it has these in every session,
+/// and a text with a tree has none of them.
 /// And want of memory.
 pub fn parse(alloc: Global, text: &str) -> Result<Cell, Refused>
     ensures found { IfOk result (λ tree. IsTreeOf text.now tree) }
     ensures faults { IfErr result (λ refused. (session : Session) → IsRefusal spoken_oberon session text.now refused) }
+    ensures unread { IfErr result (λ refused. IsUnread spoken_oberon text.now refused) }
 {
     match parse_text(alloc, text) {
         Ok(cell) => Ok(cell),

@@ -3,7 +3,7 @@ use Rattle.std.proofs.Common.{◌≡◌, ◌⊎◌, ℤ, ◌<ℤ◌, ◌≤ℤ�
 use Rattle.std.specs.declared.cmp.Ordering.TheVariants.{Less, Equal, Greater}
 use Rattle.std.proofs.lemmas.Int.{ints}
 use Rattle.std.proofs.lemmas.Bool.Decides.{Decides-int_eq}
-use Rattle.ob_mean.specs.declared.whole.statement.LabelRange.{LabelRange}
+use Rattle.ob_mean.specs.declared.statement.LabelRange.{LabelRange}
 use Rattle.ob_check.specs.Labels.{are_apart, is_free}
 use Rattle.ob_check.specs.LabelIndex.{last_from, AreApart}
 

@@ -8,9 +8,9 @@ use Rattle.ob_types.specs.declared.structure.Basic.{Basic}
 use Rattle.ob_types.specs.declared.structure.ObType.{ObType}
 use Rattle.ob_types.specs.declared.structure.ObType.TheVariants.{Basic as OfBasic, Array', Open'}
 use Rattle.ob_types.specs.Types.{same, string_assignable}
-use Rattle.ob_mean.specs.declared.whole.expression.Designator.{Designator as Place}
-use Rattle.ob_mean.specs.declared.whole.statement.Action.{Action}
-use Rattle.ob_mean.specs.declared.whole.statement.Action.TheVariants as action
+use Rattle.ob_mean.specs.declared.expression.Designator.{Designator as Place}
+use Rattle.ob_mean.specs.declared.statement.Action.{Action}
+use Rattle.ob_mean.specs.declared.statement.Action.TheVariants as action
 use Rattle.ob_declare.specs.Imports.{Modules}
 use Rattle.ob_declare.specs.Rule.{Rule, Given, Breaks, Then, Needs}
 use Rattle.ob_declare.specs.declared.scope.Scope.{Scope}

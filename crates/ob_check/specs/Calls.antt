@@ -6,9 +6,9 @@ use Rattle.ob_parse.specs.declared.tree.Designator.{Designator, out-Designator}
 use Rattle.ob_parse.specs.declared.tree.Expr.{Expr}
 use Rattle.ob_types.specs.declared.exports.Formal.{Formal}
 use Rattle.ob_types.specs.declared.exports.Signature.{Signature}
-use Rattle.ob_mean.specs.declared.whole.expression.Callee.{Callee}
-use Rattle.ob_mean.specs.declared.whole.statement.Action.{Action}
-use Rattle.ob_mean.specs.declared.whole.statement.Action.TheVariants as action
+use Rattle.ob_mean.specs.declared.expression.Callee.{Callee}
+use Rattle.ob_mean.specs.declared.statement.Action.{Action}
+use Rattle.ob_mean.specs.declared.statement.Action.TheVariants as action
 use Rattle.ob_declare.specs.declared.scope.Scope.{Scope}
 use Rattle.ob_declare.specs.Imports.{Modules}
 use Rattle.ob_declare.specs.Rule.{Rule, Given, Breaks, Then, Needs}

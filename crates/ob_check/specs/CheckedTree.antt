@@ -1,7 +1,7 @@
 -- A checked module, as data.
 use Rattle.std.specs.Prelude.{List}
 use Rattle.ob_types.specs.InterfaceTree.{InterfaceTree}
-use Rattle.ob_mean.specs.declared.whole.module.TypedModule.{TypedModule}
+use Rattle.ob_mean.specs.declared.module.TypedModule.{TypedModule}
 use Rattle.ob_check.specs.declared.checked.Imported.{Imported}
 
 -- its typed tree, what it shows to others, and the modules that it imports, but for In and Out, in their order

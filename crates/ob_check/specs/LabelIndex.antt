@@ -2,7 +2,7 @@
 use Rattle.std.specs.Prelude.{◌≡◌, ℤ, ◌≤ℤ◌, List, [], ◌∷◌, true, Option, Some, None, if◌then◌else◌}
 use Rattle.std.specs.Ordering.{int_cmp, int_eq}
 use Rattle.std.specs.BTreeMap.{BTreeMap, get}
-use Rattle.ob_mean.specs.declared.whole.statement.LabelRange.{LabelRange}
+use Rattle.ob_mean.specs.declared.statement.LabelRange.{LabelRange}
 use Rattle.ob_check.specs.Labels.{is_free}
 
 -- the last label of the range that begins with a label

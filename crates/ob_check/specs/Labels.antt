@@ -13,7 +13,7 @@ use Rattle.ob_types.specs.declared.exports.Object.{Object}
 use Rattle.ob_types.specs.declared.exports.Object.TheVariants as object
 use Rattle.ob_types.specs.declared.structure.Basic.{Basic}
 use Rattle.ob_types.specs.declared.structure.Basic.TheVariants as basic
-use Rattle.ob_mean.specs.declared.whole.statement.LabelRange.{LabelRange as TypedRange}
+use Rattle.ob_mean.specs.declared.statement.LabelRange.{LabelRange as TypedRange}
 use Rattle.ob_declare.specs.declared.block.Entry.{Entry}
 use Rattle.ob_declare.specs.declared.block.Entry.TheVariants as entry
 use Rattle.ob_declare.specs.declared.predeclared.InputName.{InputName}

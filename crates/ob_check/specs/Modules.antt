@@ -3,10 +3,10 @@ use Rattle.std.specs.Prelude.{List, [], ◌∷◌, ◌++◌, Option, Some, None,
 use Rattle.ob_parse.specs.declared.tree.Declarations.{out-Declarations}
 use Rattle.ob_parse.specs.declared.tree.Module.{Module}
 use Rattle.ob_types.specs.InterfaceText.{interface_text}
-use Rattle.ob_mean.specs.declared.whole.module.ModuleVariable.{ModuleVariable}
-use Rattle.ob_mean.specs.declared.whole.module.ModuleVariable.TheVariants as variable
-use Rattle.ob_mean.specs.declared.whole.module.TypedProcedure.{TypedProcedure}
-use Rattle.ob_mean.specs.declared.whole.statement.TypedStatement.{TypedStatement}
+use Rattle.ob_mean.specs.declared.module.ModuleVariable.{ModuleVariable}
+use Rattle.ob_mean.specs.declared.module.ModuleVariable.TheVariants as variable
+use Rattle.ob_mean.specs.declared.module.TypedProcedure.{TypedProcedure}
+use Rattle.ob_mean.specs.declared.statement.TypedStatement.{TypedStatement}
 use Rattle.ob_declare.specs.declared.block.Declared.{Declared}
 use Rattle.ob_declare.specs.declared.block.Entry.{Entry}
 use Rattle.ob_declare.specs.declared.block.Entry.TheVariants as entry

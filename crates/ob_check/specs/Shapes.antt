@@ -8,10 +8,10 @@ use Rattle.ob_types.specs.declared.structure.ObType.{ObType, end_of-ObType, more
 use Rattle.ob_types.specs.declared.structure.ObType.TheBlock.{Row_of-Field, end_of-Field, more_of-Field}
 use Rattle.ob_types.specs.declared.structure.ObType.TheVariants.{Basic as OfBasic, Array', Open', Record}
 use Rattle.ob_types.specs.declared.structure.RecordType.{RecordType'}
-use Rattle.ob_mean.specs.declared.whole.module.Parameter.{Parameter}
-use Rattle.ob_mean.specs.declared.whole.module.Parameter.TheVariants as parameter
-use Rattle.ob_mean.specs.declared.whole.shape.Shape.{Shape}
-use Rattle.ob_mean.specs.declared.whole.shape.Shape.TheVariants as shape
+use Rattle.ob_mean.specs.declared.module.Parameter.{Parameter}
+use Rattle.ob_mean.specs.declared.module.Parameter.TheVariants as parameter
+use Rattle.ob_mean.specs.declared.shape.Shape.{Shape}
+use Rattle.ob_mean.specs.declared.shape.Shape.TheVariants as shape
 
 -- How a type is made of basic ones. An open array has no length of its own, and nothing is ever passed that has open arrays as
 -- elements: one element stands for them.

@@ -8,19 +8,19 @@ use Rattle.ob_types.specs.declared.exports.FormalKind.TheVariants as formal
 use Rattle.ob_types.specs.declared.structure.Basic.{Basic}
 use Rattle.ob_types.specs.declared.structure.Basic.TheVariants as basic
 use Rattle.ob_types.specs.declared.structure.ObType.TheVariants.{Basic as OfBasic, Open}
-use Rattle.ob_mean.specs.declared.whole.expression.Argument.{Argument}
-use Rattle.ob_mean.specs.declared.whole.expression.Argument.TheVariants as argument
-use Rattle.ob_mean.specs.declared.whole.expression.Designator.{Designator}
-use Rattle.ob_mean.specs.declared.whole.expression.TypedExpr.{TypedExpr}
-use Rattle.ob_mean.specs.declared.whole.expression.TypedExpr.TheVariants as typed
-use Rattle.ob_mean.specs.declared.whole.statement.Action.{Action}
-use Rattle.ob_mean.specs.declared.whole.statement.Action.TheVariants as action
-use Rattle.ob_mean.specs.declared.whole.statement.Adjustment.{Adjustment}
-use Rattle.ob_mean.specs.declared.whole.statement.Adjustment.TheVariants as adjustment
-use Rattle.ob_mean.specs.declared.whole.statement.InputCall.TheVariants as input
-use Rattle.ob_mean.specs.declared.whole.statement.OutputCall.TheVariants as output
-use Rattle.ob_mean.specs.declared.whole.statement.Reader.{Reader}
-use Rattle.ob_mean.specs.declared.whole.statement.Reader.TheVariants as reader
+use Rattle.ob_mean.specs.declared.expression.Argument.{Argument}
+use Rattle.ob_mean.specs.declared.expression.Argument.TheVariants as argument
+use Rattle.ob_mean.specs.declared.expression.Designator.{Designator}
+use Rattle.ob_mean.specs.declared.expression.TypedExpr.{TypedExpr}
+use Rattle.ob_mean.specs.declared.expression.TypedExpr.TheVariants as typed
+use Rattle.ob_mean.specs.declared.statement.Action.{Action}
+use Rattle.ob_mean.specs.declared.statement.Action.TheVariants as action
+use Rattle.ob_mean.specs.declared.statement.Adjustment.{Adjustment}
+use Rattle.ob_mean.specs.declared.statement.Adjustment.TheVariants as adjustment
+use Rattle.ob_mean.specs.declared.statement.InputCall.TheVariants as input
+use Rattle.ob_mean.specs.declared.statement.OutputCall.TheVariants as output
+use Rattle.ob_mean.specs.declared.statement.Reader.{Reader}
+use Rattle.ob_mean.specs.declared.statement.Reader.TheVariants as reader
 use Rattle.ob_declare.specs.Imports.{Modules}
 use Rattle.ob_declare.specs.Rule.{Rule, Given, Breaks, Then}
 use Rattle.ob_declare.specs.declared.scope.Scope.{Scope}
@@ -67,11 +67,15 @@ unfoldable pub value_passed : Argument → Rule TypedExpr
 value_passed (argument.Value e) = Given e
 value_passed a = Breaks code.Parameters
 
+-- what is done, where no actual parameter is left
+unfoldable pub none_left : Action → Variables → List Expr → Rule (Action × Variables)
+none_left a variables [] = Given (a, variables)
+none_left a variables (e ∷ es) = Breaks code.Parameters
+
 -- no parameters, in parentheses or without
 unfoldable pub without_actuals : Action → Variables → Option (List Expr) → Rule (Action × Variables)
 without_actuals a variables None = Given (a, variables)
-without_actuals a variables (Some []) = Given (a, variables)
-without_actuals a variables (Some (e ∷ es)) = Breaks code.Parameters
+without_actuals a variables (Some es) = none_left a variables es
 
 -- what stands in parentheses, which is one construct more
 unfoldable pub number_inside : Modules → Scope → ℕ → Variables → Expr → Rule (TypedExpr × Variables)
@@ -82,6 +86,7 @@ unfoldable pub truth_inside : Modules → Scope → ℕ → Variables → Expr �
 truth_inside ms s zero variables e = Breaks code.Size
 truth_inside ms s (suc n) variables e = truth_at ms s n variables e
 
+-- actual parameters are judged from left to right, and their number behind them
 module _ (ms : Modules) (s : Scope) (n : ℕ) where
   -- an actual parameter that is a place, and one that is a value
   unfoldable pub place_at : Variables → Formal → Expr → Rule (Designator × Variables)
@@ -93,7 +98,8 @@ module _ (ms : Modules) (s : Scope) (n : ℕ) where
   -- ---- In
 
   unfoldable pub read_call : Reader → Variables → Option (List Expr) → Rule (Action × Variables)
-  read_call r variables (Some (e ∷ [])) = Then (place_at variables (reader_formal r) e) (λ p. Given (action.Input (input.Read r p.0), p.1))
+  read_call r variables (Some (e ∷ es)) =
+      Then (place_at variables (reader_formal r) e) (λ p. none_left (action.Input (input.Read r p.0)) p.1 es)
   read_call r variables actuals = Breaks code.Parameters
 
   unfoldable pub in_call : InputName → Variables → Option (List Expr) → Rule (Action × Variables)
@@ -108,18 +114,23 @@ module _ (ms : Modules) (s : Scope) (n : ℕ) where
   -- ---- Out
 
   unfoldable pub out_char : Variables → Option (List Expr) → Rule (Action × Variables)
-  out_char variables (Some (e ∷ [])) = Then (scalar_at variables basic.Char e) (λ p. Given (action.Output (output.Char p.0), p.1))
+  out_char variables (Some (e ∷ es)) =
+      Then (scalar_at variables basic.Char e) (λ p. none_left (action.Output (output.Char p.0)) p.1 es)
   out_char variables actuals = Breaks code.Parameters
 
   unfoldable pub out_string : Variables → Option (List Expr) → Rule (Action × Variables)
-  out_string variables (Some (e ∷ [])) = Then (place_at variables text_value e) (λ p. Given (action.Output (output.String p.0), p.1))
+  out_string variables (Some (e ∷ es)) =
+      Then (place_at variables text_value e) (λ p. none_left (action.Output (output.String p.0)) p.1 es)
   out_string variables actuals = Breaks code.Parameters
 
   -- a number and a width
+  unfoldable pub out_width : TypedExpr → Variables → List Expr → Rule (Action × Variables)
+  out_width x variables [] = Breaks code.Parameters
+  out_width x variables (width ∷ es) =
+      Then (scalar_at variables basic.Integer width) (λ q. none_left (action.Output (output.Int x q.0)) q.1 es)
+
   unfoldable pub out_int : Variables → Option (List Expr) → Rule (Action × Variables)
-  out_int variables (Some (e ∷ width ∷ [])) =
-      Then (scalar_at variables basic.Integer e) (λ p.
-      Then (scalar_at p.1 basic.Integer width) (λ q. Given (action.Output (output.Int p.0 q.0), q.1)))
+  out_int variables (Some (e ∷ es)) = Then (scalar_at variables basic.Integer e) (λ p. out_width p.0 p.1 es)
   out_int variables actuals = Breaks code.Parameters
 
   unfoldable pub out_call : OutputName → Variables → Option (List Expr) → Rule (Action × Variables)
@@ -133,17 +144,19 @@ module _ (ms : Modules) (s : Scope) (n : ℕ) where
   -- ---- INC, DEC and ASSERT
 
   -- an INTEGER variable, and by how much it changes: by 1 where nothing is said
+  unfoldable pub adjusted_by : Adjustment → Designator → Variables → List Expr → Rule (Action × Variables)
+  adjusted_by a d variables [] = Given (action.Adjust a d (typed.Constant (pos 1)), variables)
+  adjusted_by a d variables (e ∷ es) =
+      Then (number_inside ms s n variables e) (λ q. none_left (action.Adjust a d q.0) q.1 es)
+
   unfoldable pub adjusted : Adjustment → Variables → Option (List Expr) → Rule (Action × Variables)
-  adjusted a variables (Some (v ∷ [])) =
-      Then (place_at variables (variable_formal basic.Integer) v) (λ p.
-      Given (action.Adjust a p.0 (typed.Constant (pos 1)), p.1))
-  adjusted a variables (Some (v ∷ e ∷ [])) =
-      Then (place_at variables (variable_formal basic.Integer) v) (λ p.
-      Then (number_inside ms s n p.1 e) (λ q. Given (action.Adjust a p.0 q.0, q.1)))
+  adjusted a variables (Some (v ∷ es)) =
+      Then (place_at variables (variable_formal basic.Integer) v) (λ p. adjusted_by a p.0 p.1 es)
   adjusted a variables actuals = Breaks code.Parameters
 
   unfoldable pub asserted : ℕ → Variables → Option (List Expr) → Rule (Action × Variables)
-  asserted line variables (Some (e ∷ [])) = Then (truth_inside ms s n variables e) (λ p. Given (action.Assert line p.0, p.1))
+  asserted line variables (Some (e ∷ es)) =
+      Then (truth_inside ms s n variables e) (λ p. none_left (action.Assert line p.0) p.1 es)
   asserted line variables actuals = Breaks code.Parameters
 
   unfoldable pub predeclared_call : ProperProcedure → ℕ → Variables → Option (List Expr) → Rule (Action × Variables)

@@ -8,7 +8,7 @@ use ob_base::{Code, Refused};
 use ob_declare::fault::fault;
 use ob_declare::{Imports, Scope};
 use ob_express::{Operand, Variables, assigned_value, expr, target};
-use ob_mean::whole::{Action, Designator as Place};
+use ob_mean::{Action, Designator as Place};
 use ob_parse::tree::{Designator, Expr};
 use ob_scan::Span;
 use ob_types::{Basic, ObType, same, string_assignable};

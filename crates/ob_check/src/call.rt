@@ -10,7 +10,7 @@ use ob_base::{Code, Items, Refused};
 use ob_declare::fault::fault;
 use ob_declare::{Imports, Scope};
 use ob_express::{Called, Variables, actuals as actual_list, procedure};
-use ob_mean::whole::{Action, Callee};
+use ob_mean::{Action, Callee};
 use ob_parse::tree::{Designator, Expr};
 use ob_scan::Span;
 use ob_types::{Formal, Signature};

@@ -10,7 +10,7 @@ use ob_declare::fault::fault;
 use ob_declare::predeclared::Predeclared;
 use ob_declare::{Entry, Imports, Scope, Standing, is_writable};
 use ob_express::{Variables, assigned_value};
-use ob_mean::whole::{ForHead as TypedHead, Variable};
+use ob_mean::{ForHead as TypedHead, Variable};
 use ob_parse::tree::{Expr, ForHead, Ident};
 use ob_scan::Span;
 use ob_types::{Basic, Constant, ObType};
@@ -115,7 +115,7 @@ fn step(
         Some(e) => {
             let e = e.get();
             let span = e.first_token();
-            let value = constant(alloc, imports, scope, levels, e, span)?;
+            let value = constant(alloc, imports, scope, levels, e)?;
             step_of(&value, span)
         }
     }

@@ -11,7 +11,7 @@ use ob_declare::predeclared::{
     InputName, OutputName, Predeclared, absent, input_named, output_named,
 };
 use ob_declare::{Entry, Imports, Scope};
-use ob_mean::whole::LabelRange as TypedRange;
+use ob_mean::LabelRange as TypedRange;
 use ob_parse::tree::{Ident, Label, LabelRange, Qualident};
 use ob_scan::Span;
 use ob_types::{Basic, Constant, Object};

@@ -3,7 +3,7 @@
 ghost use Rattle.std.specs.Prelude.{◌≡◌, ◌≤ℤ◌, int_lt, [], ◌∷◌, reverse, true, OnOk};
 ghost use Rattle.ob_check.specs.Labels as spec;
 
-use ob_mean::whole::LabelRange;
+use ob_mean::LabelRange;
 use std::alloc::{AllocError, Global};
 use std::collections::BTreeMap;
 use std::marker::Model;
@@ -18,7 +18,7 @@ pub struct Labels {
 
 impl Model for Labels {
     ghost use Rattle.std.specs.Prelude.{List, reverse};
-    ghost use Rattle.ob_mean.specs.declared.whole.statement.LabelRange.{LabelRange};
+    ghost use Rattle.ob_mean.specs.declared.statement.LabelRange.{LabelRange};
     ghost use Rattle.ob_check.specs.LabelIndex.{AreApart, IsIndex};
 
     ghost Value = { List LabelRange };

@@ -15,3 +15,4 @@ mod statement;
 
 pub use checked::{Checked, Imported};
 pub use module::check;
+pub use shapes::{parameters_of, shape_of};

@@ -17,7 +17,7 @@ use ob_declare::{
     exported_procedures, interface_of,
 };
 use ob_express::Variables;
-use ob_mean::whole::{ModuleVariable, TypedModule, TypedProcedure, TypedStatement};
+use ob_mean::{ModuleVariable, TypedModule, TypedProcedure, TypedStatement};
 use ob_parse::tree::Module;
 use std::alloc::{AllocError, Global};
 

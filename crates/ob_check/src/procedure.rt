@@ -13,7 +13,7 @@ use ob_declare::{
     Declared, Entered, Entry, Imports, Scope, Standing, declare_all, enter_procedure,
 };
 use ob_express::{Variables, assigned_value};
-use ob_mean::whole::{Shape, TypedExpr, TypedProcedure, TypedStatement};
+use ob_mean::{Shape, TypedExpr, TypedProcedure, TypedStatement};
 use ob_parse::tree::{Procedure, Returned};
 use ob_scan::Span;
 use ob_types::{Basic, Signature};

@@ -4,7 +4,7 @@ ghost use Rattle.std.specs.Prelude.{◌≡◌, IfOk};
 ghost use Rattle.ob_check.specs.Shapes as spec;
 
 use ob_base::{Boxed, Items};
-use ob_mean::whole::{Parameter, Shape};
+use ob_mean::{Parameter, Shape};
 use ob_types::{Field, Formal, FormalKind, ObType};
 use std::alloc::{AllocError, Global};
 

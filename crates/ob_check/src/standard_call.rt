@@ -9,9 +9,7 @@ use ob_declare::fault::{fault, open};
 use ob_declare::predeclared::{InputName, OutputName, ProperProcedure};
 use ob_declare::{Imports, Scope};
 use ob_express::{Variables, actual, number, truth};
-use ob_mean::whole::{
-    Action, Adjustment, Argument, Designator, InputCall, OutputCall, Reader, TypedExpr,
-};
+use ob_mean::{Action, Adjustment, Argument, Designator, InputCall, OutputCall, Reader, TypedExpr};
 use ob_parse::tree::Expr;
 use ob_scan::Span;
 use ob_types::{Basic, Formal, FormalKind, ObType};
@@ -91,22 +89,33 @@ fn value_passed(argument: Argument, span: Span) -> Result<TypedExpr, Refused>
     }
 }
 
+/// An action, where no actual parameter is left.
+#[tactic(auto, unfolding(crate::specs::StandardCalls::none_left))]
+fn none_left(
+    action: Action,
+    variables: Variables,
+    actuals: &[Expr],
+) -> Result<(Action, Variables), Refused>
+    ensures { Judges (spec.none_left action variables actuals.now) result }
+{
+    match actuals {
+        [] => Ok((action, variables)),
+        [e, ..] => Err(Refused::Fault(fault(Code::Parameters, e.first_token()))),
+    }
+}
+
 /// An action without parameters.
 #[tactic(auto, unfolding(crate::specs::StandardCalls::without_actuals))]
 fn without_actuals(
     action: Action,
     variables: Variables,
     actuals: &Option<Items<Expr>>,
-    span: Span,
 ) -> Result<(Action, Variables), Refused>
     ensures { Judges (spec.without_actuals action variables actuals.now) result }
 {
-    let Some(actuals) = actuals else {
-        return Ok((action, variables));
-    };
-    match actuals.as_slice() {
-        [] => Ok((action, variables)),
-        [_, ..] => Err(Refused::Fault(fault(Code::Parameters, span))),
+    match actuals {
+        None => Ok((action, variables)),
+        Some(actuals) => none_left(action, variables, actuals.as_slice()),
     }
 }
 
@@ -213,12 +222,16 @@ fn read_call(
         return Err(Refused::Fault(fault(Code::Parameters, span)));
     };
     match actuals.as_slice() {
-        [e] => {
+        [] => Err(Refused::Fault(fault(Code::Parameters, span))),
+        [e, behind @ ..] => {
             let formal = reader_formal(alloc, reader)?;
             let (place, variables) = place(alloc, imports, scope, levels, variables, &formal, e)?;
-            Ok((Action::Input(InputCall::Read(reader, place)), variables))
+            none_left(
+                Action::Input(InputCall::Read(reader, place)),
+                variables,
+                behind,
+            )
         }
-        _ => Err(Refused::Fault(fault(Code::Parameters, span))),
     }
 }
 
@@ -237,12 +250,7 @@ pub fn in_call(
     ensures { Judges (spec.in_call imports.now scope.now levels name variables actuals.now) result }
 {
     match name {
-        InputName::Open => without_actuals(
-            Action::Input(InputCall::Open),
-            variables,
-            actuals,
-            span,
-        ),
+        InputName::Open => without_actuals(Action::Input(InputCall::Open), variables, actuals),
         InputName::Char => {
             read_call(
                 alloc,
@@ -313,7 +321,8 @@ fn out_char(
         return Err(Refused::Fault(fault(Code::Parameters, span)));
     };
     match actuals.as_slice() {
-        [e] => {
+        [] => Err(Refused::Fault(fault(Code::Parameters, span))),
+        [e, behind @ ..] => {
             let (value, variables) = scalar(
                 alloc,
                 imports,
@@ -323,9 +332,8 @@ fn out_char(
                 Basic::Char,
                 e,
             )?;
-            Ok((Action::Output(OutputCall::Char(value)), variables))
+            none_left(Action::Output(OutputCall::Char(value)), variables, behind)
         }
-        _ => Err(Refused::Fault(fault(Code::Parameters, span))),
     }
 }
 
@@ -346,12 +354,47 @@ fn out_string(
         return Err(Refused::Fault(fault(Code::Parameters, span)));
     };
     match actuals.as_slice() {
-        [e] => {
+        [] => Err(Refused::Fault(fault(Code::Parameters, span))),
+        [e, behind @ ..] => {
             let formal = text_value(alloc)?;
             let (place, variables) = place(alloc, imports, scope, levels, variables, &formal, e)?;
-            Ok((Action::Output(OutputCall::String(place)), variables))
+            none_left(Action::Output(OutputCall::String(place)), variables, behind)
         }
-        _ => Err(Refused::Fault(fault(Code::Parameters, span))),
+    }
+}
+
+/// `Out.Int` behind the number.
+#[tactic(auto, unfolding(crate::specs::StandardCalls::out_width))]
+fn out_width(
+    alloc: Global,
+    imports: &Imports,
+    scope: &Scope,
+    levels: u32,
+    value: TypedExpr,
+    variables: Variables,
+    actuals: &[Expr],
+    span: Span,
+) -> Result<(Action, Variables), Refused>
+    ensures { Judges (spec.out_width imports.now scope.now levels value variables actuals.now) result }
+{
+    match actuals {
+        [] => Err(Refused::Fault(fault(Code::Parameters, span))),
+        [e, behind @ ..] => {
+            let (width, variables) = scalar(
+                alloc,
+                imports,
+                scope,
+                levels,
+                variables,
+                Basic::Integer,
+                e,
+            )?;
+            none_left(
+                Action::Output(OutputCall::Int(value, width)),
+                variables,
+                behind,
+            )
+        }
     }
 }
 
@@ -372,7 +415,8 @@ fn out_int(
         return Err(Refused::Fault(fault(Code::Parameters, span)));
     };
     match actuals.as_slice() {
-        [e, width] => {
+        [] => Err(Refused::Fault(fault(Code::Parameters, span))),
+        [e, behind @ ..] => {
             let (value, variables) = scalar(
                 alloc,
                 imports,
@@ -382,18 +426,10 @@ fn out_int(
                 Basic::Integer,
                 e,
             )?;
-            let (width, variables) = scalar(
-                alloc,
-                imports,
-                scope,
-                levels,
-                variables,
-                Basic::Integer,
-                width,
-            )?;
-            Ok((Action::Output(OutputCall::Int(value, width)), variables))
+            out_width(
+                alloc, imports, scope, levels, value, variables, behind, span,
+            )
         }
-        _ => Err(Refused::Fault(fault(Code::Parameters, span))),
     }
 }
 
@@ -412,17 +448,38 @@ pub fn out_call(
     ensures { Judges (spec.out_call imports.now scope.now levels name variables actuals.now) result }
 {
     match name {
-        OutputName::Open => without_actuals(
-            Action::Output(OutputCall::Open),
-            variables,
-            actuals,
-            span,
-        ),
+        OutputName::Open => without_actuals(Action::Output(OutputCall::Open), variables, actuals),
         OutputName::Char => out_char(alloc, imports, scope, levels, variables, actuals, span),
         OutputName::String => out_string(alloc, imports, scope, levels, variables, actuals, span),
         OutputName::Int => out_int(alloc, imports, scope, levels, variables, actuals, span),
-        OutputName::Ln => without_actuals(Action::Output(OutputCall::Ln), variables, actuals, span),
+        OutputName::Ln => without_actuals(Action::Output(OutputCall::Ln), variables, actuals),
         OutputName::Unknown => Err(Refused::Fault(fault(Code::NotExported, span))),
+    }
+}
+
+/// INC or DEC behind the variable.
+#[tactic(auto, unfolding(crate::specs::StandardCalls::adjusted_by))]
+fn adjusted_by(
+    alloc: Global,
+    imports: &Imports,
+    scope: &Scope,
+    levels: u32,
+    adjustment: Adjustment,
+    place: Designator,
+    variables: Variables,
+    actuals: &[Expr],
+) -> Result<(Action, Variables), Refused>
+    ensures { Judges (spec.adjusted_by imports.now scope.now levels adjustment place variables actuals.now) result }
+{
+    match actuals {
+        [] => {
+            let action = Action::Adjust(adjustment, place, TypedExpr::Constant(1));
+            Ok((action, variables))
+        }
+        [e, behind @ ..] => {
+            let (by, variables) = number_inside(alloc, imports, scope, levels, variables, e)?;
+            none_left(Action::Adjust(adjustment, place, by), variables, behind)
+        }
     }
 }
 
@@ -445,17 +502,13 @@ fn adjusted(
     };
     let formal = variable_formal(Basic::Integer);
     match actuals.as_slice() {
-        [v] => {
+        [] => Err(Refused::Fault(fault(Code::Parameters, span))),
+        [v, behind @ ..] => {
             let (place, variables) = place(alloc, imports, scope, levels, variables, &formal, v)?;
-            let action = Action::Adjust(adjustment, place, TypedExpr::Constant(1));
-            Ok((action, variables))
+            adjusted_by(
+                alloc, imports, scope, levels, adjustment, place, variables, behind,
+            )
         }
-        [v, e] => {
-            let (place, variables) = place(alloc, imports, scope, levels, variables, &formal, v)?;
-            let (by, variables) = number_inside(alloc, imports, scope, levels, variables, e)?;
-            Ok((Action::Adjust(adjustment, place, by), variables))
-        }
-        _ => Err(Refused::Fault(fault(Code::Parameters, span))),
     }
 }
 
@@ -476,11 +529,11 @@ fn asserted(
         return Err(Refused::Fault(fault(Code::Parameters, span)));
     };
     match actuals.as_slice() {
-        [e] => {
+        [] => Err(Refused::Fault(fault(Code::Parameters, span))),
+        [e, behind @ ..] => {
             let (condition, variables) = truth_inside(alloc, imports, scope, levels, variables, e)?;
-            Ok((Action::Assert(span.line, condition), variables))
+            none_left(Action::Assert(span.line, condition), variables, behind)
         }
-        _ => Err(Refused::Fault(fault(Code::Parameters, span))),
     }
 }
 

@@ -15,7 +15,7 @@ use ob_base::{Code, Items, Refused};
 use ob_declare::fault::{fault, open};
 use ob_declare::{Imports, Scope};
 use ob_express::{Variables, basic_value, guard};
-use ob_mean::whole::{
+use ob_mean::{
     Branch as TypedBranch, CaseArm, LabelRange as TypedRange, TypedExpr, TypedStatement,
 };
 use ob_parse::tree::{Branch, Case, Expr, ForHead, LabelRange, Statement};

@@ -1,8 +1,8 @@
 -- What the compiler of a checked module rests on.
 use Rattle.std.specs.Prelude.{◌≡◌, List, [], ◌∷◌, Some}
 use Rattle.ob_parse.specs.declared.tree.Module.{Module}
-use Rattle.ob_mean.specs.declared.whole.face.Face.{Face}
-use Rattle.ob_mean.specs.whole.WellFormed.{IsFaceOf}
+use Rattle.ob_mean.specs.declared.face.Face.{Face}
+use Rattle.ob_mean.specs.WellFormed.{IsFaceOf}
 use Rattle.ob_declare.specs.Exports.{Modules}
 use Rattle.ob_declare.specs.Imports.{added}
 use Rattle.ob_declare.specs.LoadedTree.{LoadedTree}

@@ -3,9 +3,9 @@
 ghost use Rattle.std.specs.Prelude.{◌≡◌, ◌++◌, IfOk};
 ghost use Rattle.ob_fit.specs.Fitting as spec;
 
-use crate::shapes::{parameters_of, shape_of};
 use ob_base::Items;
-use ob_mean::whole::{Face, Heading, Shape};
+use ob_check::{parameters_of, shape_of};
+use ob_mean::{Face, Heading, Shape};
 use ob_types::{Exported, Interface, Object, Signature};
 use std::alloc::{AllocError, Global};
 

@@ -7,7 +7,7 @@ use crate::face::face_of;
 use ob_base::Text;
 use ob_check::Imported;
 use ob_declare::{Imports, LoadedModule};
-use ob_mean::whole::Face;
+use ob_mean::Face;
 use std::alloc::{AllocError, Global};
 
 // The loaded module of a name.

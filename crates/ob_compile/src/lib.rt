@@ -7,12 +7,9 @@ mod imports;
 mod laws;
 mod module;
 mod room;
-mod same;
-mod shapes;
 
 pub use face::face_of;
 pub use imports::faces_of;
 pub use laws::{checked_law, load_law};
 pub use module::compile;
 pub use room::has_room;
-pub use same::same_face;

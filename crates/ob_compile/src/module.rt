@@ -1,14 +1,14 @@
 //! The code of a module over what is known of its imports.
 
 ghost use Rattle.std.specs.Prelude.{IfOk};
-ghost use Rattle.ob_mean.specs.whole.WellFormed.{IsWellFormed};
-ghost use Rattle.ob_gen.specs.whole.Generated.{IsGenerated};
+ghost use Rattle.ob_mean.specs.WellFormed.{IsWellFormed};
+ghost use Rattle.ob_gen.specs.Generated.{IsGenerated};
 ghost use Rattle.ob_fit.specs.Fitting.{IsFitting};
 
 use crate::room::has_room;
-use ob_code::whole::checked::Checked;
-use ob_gen::whole::generate;
-use ob_mean::whole::{Face, TypedModule};
+use ob_code::checked::Checked;
+use ob_gen::generate;
+use ob_mean::{Face, TypedModule};
 use std::alloc::{AllocError, Global};
 
 /// The code of a module whose tree fits what is known of its imports, as the static rules see to it. The tree is then well

@@ -1,12 +1,12 @@
 //! Whether the cells of variables have addresses.
 
 ghost use Rattle.std.specs.Prelude.{◌≡◌, ◌<◌, ◌+◌, ◌↔◌, min, length, IsTrue};
-ghost use Rattle.ob_mean.specs.whole.Values.{size};
-ghost use Rattle.ob_mean.specs.whole.Shapes.{at_least_one, zero_of, zeros, opening_value, opening_row};
-ghost use Rattle.ob_mean.specs.whole.WellFormed.{cell_limit, FacesFit};
+ghost use Rattle.ob_mean.specs.Values.{size};
+ghost use Rattle.ob_mean.specs.Shapes.{at_least_one, zero_of, zeros, opening_value, opening_row};
+ghost use Rattle.ob_mean.specs.WellFormed.{cell_limit, FacesFit};
 ghost use Rattle.ob_fit.specs.Fitting.{HasRoom, ProceduresHaveRoom};
 
-use ob_mean::whole::{Face, ModuleVariable, Shape, TypedModule, TypedProcedure};
+use ob_mean::{Face, ModuleVariable, Shape, TypedModule, TypedProcedure};
 
 // Cells have addresses below 2^31, and counts of them stop there.
 const CELL_LIMIT: u64 = 2147483648;

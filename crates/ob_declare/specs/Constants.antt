@@ -1,6 +1,6 @@
 -- Constants (Wirth, The Programming Language Oberon, Oberon-07): a literal, a declared constant, or operators and the
 -- functions ABS, ODD, LSL, ASR, ROR, ORD, CHR of constants. The number says how many more constructs may nest.
-use Rattle.std.specs.Prelude.{ℕ, zero, suc, List, [], ◌∷◌, Option, Some, None}
+use Rattle.std.specs.Prelude.{ℕ, zero, suc, List, [], ◌∷◌, Bool, true, false, Option, Some, None, is_some}
 use Rattle.ob_base.specs.declared.fault.Code.{Code}
 use Rattle.ob_base.specs.declared.fault.Code.TheVariants as code
 use Rattle.ob_scan.specs.declared.token.Span.{Span}
@@ -33,10 +33,10 @@ use Rattle.ob_declare.specs.declared.predeclared.Predeclared.TheVariants as pred
 use Rattle.ob_declare.specs.declared.scope.Scope.{Scope}
 use Rattle.ob_declare.specs.Exports.{Modules}
 use Rattle.ob_declare.specs.Imports.{exported_at}
-use Rattle.ob_declare.specs.Predeclared.{absent, input_named, output_named}
+use Rattle.ob_declare.specs.Predeclared.{absent, input_named, output_named, is_input, is_output}
 use Rattle.ob_declare.specs.Scope.{seen, outer}
-use Rattle.ob_declare.specs.Rule.{Rule, Given, Breaks, Then, Both, there, through}
-use Rattle.ob_declare.specs.Folding.{sum_of, product_of, sign_of, not_of, relation_of, related_of, one_of, two_of, folded_of, constant_of}
+use Rattle.ob_declare.specs.Rule.{Rule, Given, Breaks, Then, Needs, there, through}
+use Rattle.ob_declare.specs.Folding.{adds, multiplies, relates, sum_of, product_of, sign_of, not_of, relation_of, related_of, takes, is_shift, one_of, two_of, folded_of, constant_of}
 
 abbrev pub FactorLayer : Type 0
 FactorLayer = Factor-F Factor Selector AddedTerm Designator Expr NextFactor Related Simple Term
@@ -46,20 +46,21 @@ SelectorLayer = Selector-F Factor Selector AddedTerm Designator Expr NextFactor 
 
 -- ---- names
 
--- what is imported under a name
-unfoldable pub imported : Object → Rule Folded
-imported (object.Constant c) = Given (folded_of c)
-imported (object.Variable t) = Breaks code.NotConstant
-imported (object.TypeName t) = Breaks code.Types
-imported (object.Procedure s) = Breaks code.Types
+-- what is imported under a name, with selectors behind it: no part of a variable is constant
+unfoldable pub imported : Object → List Selector → Rule Folded
+imported (object.Constant c) [] = Given (folded_of c)
+imported (object.Constant c) (x ∷ xs) = Breaks code.Types
+imported (object.Variable t) xs = Breaks code.NotConstant
+imported (object.TypeName t) xs = Breaks code.Types
+imported (object.Procedure s) xs = Breaks code.Types
 
--- the selector behind the name of a loaded module
-abbrev pub member_layer : Modules → ℕ → SelectorLayer → Rule Folded
-member_layer ms place (Selector-F.Field f) = Then (there (exported_at ms place f.name) code.NotExported) (λ o. imported o)
-member_layer ms place (Selector-F.Index indexes) = Breaks code.Types
+-- the first selector behind the name of a loaded module, and those behind it
+abbrev pub member_layer : Modules → ℕ → SelectorLayer → List Selector → Rule Folded
+member_layer ms place (Selector-F.Field f) xs = Then (there (exported_at ms place f.name) code.NotExported) (λ o. imported o xs)
+member_layer ms place (Selector-F.Index indexes) xs = Breaks code.Types
 
-unfoldable pub member : Modules → ℕ → Selector → Rule Folded
-member ms place x = member_layer ms place (out-Selector x)
+unfoldable pub member : Modules → ℕ → Selector → List Selector → Rule Folded
+member ms place x xs = member_layer ms place (out-Selector x) xs
 
 -- In and Out export no constants
 abbrev pub no_input : InputName → Code
@@ -89,9 +90,9 @@ output_member x = output_layer (out-Selector x)
 unfoldable pub named : Modules → Entry → List Selector → Rule Folded
 named ms (entry.Constant c) [] = Given (folded_of c)
 named ms (entry.Variable t standing) selectors = Breaks code.NotConstant
-named ms (entry.Module number place) (x ∷ []) = member ms place x
-named ms entry.In (x ∷ []) = input_member x
-named ms entry.Out (x ∷ []) = output_member x
+named ms (entry.Module number place) (x ∷ xs) = member ms place x xs
+named ms entry.In (x ∷ xs) = input_member x
+named ms entry.Out (x ∷ xs) = output_member x
 named ms e selectors = Breaks code.Types
 
 unfoldable pub value_named : Modules → Scope → Designator → Rule Folded
@@ -107,22 +108,56 @@ function_called (predeclared.Function f) = Given f
 function_called (predeclared.Procedure p) = Breaks code.Parameters
 function_called p = Breaks (absent p)
 
+-- what is broken where something of another module is called: that it isn't there, or that no call of it is constant
+abbrev pub no_call : Bool → Code
+no_call true = code.NotConstant
+no_call false = code.NotExported
+
+abbrev pub calls_object : Modules → ℕ → SelectorLayer → Code
+calls_object ms place (Selector-F.Field f) = no_call (is_some (exported_at ms place f.name))
+calls_object ms place (Selector-F.Index indexes) = code.NotConstant
+
+abbrev pub calls_input : SelectorLayer → Code
+calls_input (Selector-F.Field f) = no_call (is_input (input_named f.name))
+calls_input (Selector-F.Index indexes) = code.NotConstant
+
+abbrev pub calls_output : SelectorLayer → Code
+calls_output (Selector-F.Field f) = no_call (is_output (output_named f.name))
+calls_output (Selector-F.Index indexes) = code.NotConstant
+
+-- what is broken where a declared name is called
+unfoldable pub entry_called : Modules → Entry → List Selector → Code
+entry_called ms (entry.Module number place) (x ∷ xs) = calls_object ms place (out-Selector x)
+entry_called ms entry.In (x ∷ xs) = calls_input (out-Selector x)
+entry_called ms entry.Out (x ∷ xs) = calls_output (out-Selector x)
+entry_called ms e selectors = code.NotConstant
+
 -- the function that a name stands for, where nothing declares it
-unfoldable pub function_found : Option Entry → List Selector → Predeclared → Rule Function
-function_found (Some e) selectors p = Breaks code.NotConstant
-function_found None [] p = function_called p
-function_found None (x ∷ xs) p = Breaks (absent p)
+unfoldable pub function_found : Modules → Option Entry → List Selector → Predeclared → Rule Function
+function_found ms (Some e) selectors p = Breaks (entry_called ms e selectors)
+function_found ms None [] p = function_called p
+function_found ms None (x ∷ xs) p = Breaks (absent p)
 
-abbrev pub function_of : Scope → Designator → Rule Function
-function_of s d =
-    function_found (seen s (out-Designator d).name.name) (out-Designator d).selectors (outer s (out-Designator d).name.name)
+abbrev pub function_of : Modules → Scope → Designator → Rule Function
+function_of ms s d =
+    function_found ms (seen s (out-Designator d).name.name) (out-Designator d).selectors (outer s (out-Designator d).name.name)
 
+-- the actual parameters of a function are judged from left to right, and their number behind them
 module _ (inner : Expr → Rule Folded) where
+  -- behind two values nothing may stand
+  unfoldable pub two_called : Function → Folded → Folded → List Expr → Rule Folded
+  two_called f v w [] = there (two_of f v w) code.Parameters
+  two_called f v w (c ∷ cs) = Breaks code.Parameters
+
+  -- behind the first value a shift takes another
+  unfoldable pub one_called : Function → Folded → List Expr → Rule Folded
+  one_called f v [] = there (one_of f v) code.Parameters
+  one_called f v (b ∷ bs) = Needs (is_shift f) code.Parameters (Then (inner b) (λ w. two_called f v w bs))
+
   unfoldable pub called : Function → List Expr → Rule Folded
   called function.Len actuals = Breaks code.NotConstant
-  called f (a ∷ []) = Then (inner a) (λ v. there (one_of f v) code.Parameters)
-  called f (a ∷ b ∷ []) = Then (Both (inner a) (inner b)) (λ p. there (two_of f p.0 p.1) code.Parameters)
-  called f actuals = Breaks code.Parameters
+  called f [] = Breaks code.Parameters
+  called f (a ∷ bs) = Then (inner a) (λ v. Needs (takes f v) code.Parameters (one_called f v bs))
 
 -- ---- expressions
 
@@ -137,17 +172,18 @@ module _ (inner : Expr → Rule Folded) (deeper : Factor → Rule Folded) (ms : 
   factor_layer (Factor-F.Text chars span) = Given (folded.Text chars)
   factor_layer (Factor-F.Truth b span) = Given (folded.Boolean (Some b))
   factor_layer (Factor-F.Value d) = value_named ms s d
-  factor_layer (Factor-F.Call d actuals) = Then (function_of s d) (λ f. called inner f actuals)
+  factor_layer (Factor-F.Call d actuals) = Then (function_of ms s d) (λ f. called inner f actuals)
   factor_layer (Factor-F.Parens span e) = inner e
   factor_layer (Factor-F.Not span f) = Then (deeper f) (λ v. there (not_of v) code.Types)
 
   unfoldable pub factor_rule : Factor → Rule Folded
   factor_rule f = factor_layer (out-Factor f)
 
-  -- one factor more
+  -- one factor more: what stands before the operator is judged before what stands behind it
   unfoldable pub next_factor : Folded → NextFactor → Rule Folded
   next_factor v x =
-      Then (factor_rule (out-NextFactor x).factor) (λ w. there (product_of (out-NextFactor x).operator v w) code.Types)
+      Needs (multiplies (out-NextFactor x).operator v) code.Types (
+      Then (factor_rule (out-NextFactor x).factor) (λ w. there (product_of (out-NextFactor x).operator v w) code.Types))
 
   unfoldable pub term_rule : Term → Rule Folded
   term_rule t = Then (factor_rule (out-Term t).first) (λ v. through next_factor v (out-Term t).others)
@@ -155,7 +191,8 @@ module _ (inner : Expr → Rule Folded) (deeper : Factor → Rule Folded) (ms : 
   -- one term more
   unfoldable pub added_term : Folded → AddedTerm → Rule Folded
   added_term v x =
-      Then (term_rule (out-AddedTerm x).term) (λ w. there (sum_of (out-AddedTerm x).operator v w) code.Types)
+      Needs (adds (out-AddedTerm x).operator v) code.Types (
+      Then (term_rule (out-AddedTerm x).term) (λ w. there (sum_of (out-AddedTerm x).operator v w) code.Types))
 
   unfoldable pub simple_rule : Simple → Rule Folded
   simple_rule x =
@@ -166,7 +203,8 @@ module _ (inner : Expr → Rule Folded) (deeper : Factor → Rule Folded) (ms : 
   unfoldable pub related : Folded → Option Related → Rule Folded
   related v None = Given v
   related v (Some r) =
-      Then (simple_rule (out-Related r).simple) (λ w. there (related_of (relation_of (out-Related r).relation) v w) code.Types)
+      Needs (relates (relation_of (out-Related r).relation) v) code.Types (
+      Then (simple_rule (out-Related r).simple) (λ w. there (related_of (relation_of (out-Related r).relation) v w) code.Types))
 
   unfoldable pub expr_rule : Expr → Rule Folded
   expr_rule e = Then (simple_rule (out-Expr e).left) (λ v. related v (out-Expr e).right)

@@ -1,6 +1,6 @@
 -- Declarations: the imports of a module, and the constants, types and variables of a module or a procedure (Wirth, The
 -- Programming Language Oberon, Oberon-07).
-use Rattle.std.specs.Prelude.{ℕ, ◌+◌, List, [], ◌∷◌, Bool, true, false, not, Option, Some, None, is_some, nat_le, nat_lt, slice_get, if◌then◌else◌}
+use Rattle.std.specs.Prelude.{ℕ, ◌+◌, List, [], ◌∷◌, ◌++◌, Bool, true, false, not, Option, Some, None, is_some, nat_le, nat_lt, slice_get, if◌then◌else◌}
 use Rattle.std.specs.Str.{bytes_eq}
 use Rattle.ob_base.specs.declared.fault.Code.TheVariants as code
 use Rattle.ob_parse.specs.declared.tree.ConstDeclaration.{ConstDeclaration}
@@ -13,6 +13,7 @@ use Rattle.ob_parse.specs.declared.tree.TypeDeclaration.{TypeDeclaration}
 use Rattle.ob_parse.specs.declared.tree.TypedNames.{TypedNames, out-TypedNames}
 use Rattle.ob_types.specs.declared.structure.ObType.{ObType}
 use Rattle.ob_types.specs.Types.{cells}
+use Rattle.ob_declare.specs.declared.block.Declared.{Declared}
 use Rattle.ob_declare.specs.declared.block.Entry.{Entry}
 use Rattle.ob_declare.specs.declared.block.Entry.TheVariants as entry
 use Rattle.ob_declare.specs.declared.block.Standing.TheVariants as standing
@@ -22,6 +23,7 @@ use Rattle.ob_declare.specs.declared.scope.Scope.{Scope}
 use Rattle.ob_declare.specs.Block.{find}
 use Rattle.ob_declare.specs.Exports.{Modules}
 use Rattle.ob_declare.specs.Imports.{module_place, reaches, standard_named}
+use Rattle.ob_declare.specs.Names.{is_among}
 use Rattle.ob_declare.specs.Rule.{Rule, Given, Breaks, Then, Needs, there, through}
 use Rattle.ob_declare.specs.Constants.{constant_at}
 use Rattle.ob_declare.specs.Scope.{opening, with_entry, naming}
@@ -54,6 +56,12 @@ max_count = 18446744073709551615
 abbrev pub one_more : ℕ → ℕ → Option ℕ
 one_more most n = if nat_lt n most then Some (n + 1) else None
 
+-- one name more, which neither the block has nor stands among those before it
+unfoldable pub new_name : List Declared → List (List ℕ) → List ℕ → Rule (List (List ℕ))
+new_name ds names name =
+    Needs (is_new (find ds name)) code.DeclaredTwice (
+    Needs (not (is_among names name)) code.DeclaredTwice (Given (names ++ name ∷ [])))
+
 -- ---- imports
 
 -- the name that the imported module has itself
@@ -66,32 +74,33 @@ unfoldable pub loaded_place : Modules → List ℕ → Option ℕ → Rule ℕ
 loaded_place ms self None = Breaks code.NotLoaded
 loaded_place ms self (Some place) = Needs (not (reaches (slice_get ms place) self)) code.ImportsItself (Given place)
 
--- one import more, of a name that is new
-unfoldable pub with_import : Scope → List ℕ → Entry → Rule Scope
-with_import s name e = Needs (is_new (find s.block name)) code.DeclaredTwice (Given (with_entry s name false e))
-
 -- the imported modules but for In and Out are numbered
 unfoldable pub with_module : Scope → List ℕ → ℕ → Rule Scope
 with_module s name place =
     Then (there (one_more max_count s.import_count) code.Size) (λ n.
-    with_import (record s { import_count = n }) name (entry.Module s.import_count place))
+    Given (with_entry (record s { import_count = n }) name false (entry.Module s.import_count place)))
 
 unfoldable pub other_module : Modules → Scope → List ℕ → List ℕ → Rule Scope
 other_module ms s name own = Then (loaded_place ms s.module_name (module_place ms own)) (λ place. with_module s name place)
 
 unfoldable pub imported_as : Modules → Scope → List ℕ → List ℕ → StandardName → Rule Scope
-imported_as ms s name own standard.In = with_import s name entry.In
-imported_as ms s name own standard.Out = with_import s name entry.Out
+imported_as ms s name own standard.In = Given (with_entry s name false entry.In)
+imported_as ms s name own standard.Out = Given (with_entry s name false entry.Out)
 imported_as ms s name own standard.System = Breaks code.LeftOut
 imported_as ms s name own standard.Other = other_module ms s name own
 
--- a module does not import itself, and no name is declared twice
+-- a module does not import itself
 unfoldable pub import_named : Modules → Scope → List ℕ → List ℕ → Rule Scope
 import_named ms s name own =
     Needs (not (bytes_eq own s.module_name)) code.ImportsItself (imported_as ms s name own (standard_named own))
 
+-- a module under a name that is new
+abbrev pub new_import : Modules → Scope → Import → Rule Scope
+new_import ms s i = import_named ms s i.name.name (own_name i.name i.module_name)
+
+-- no name is declared twice: the name here is judged before the module
 unfoldable pub import_rule : Modules → Scope → Import → Rule Scope
-import_rule ms s i = import_named ms s i.name.name (own_name i.name i.module_name)
+import_rule ms s i = Needs (is_new (find s.block i.name.name)) code.DeclaredTwice (new_import ms s i)
 
 -- ---- constants and types. The number says how many more constructs may nest
 
@@ -160,11 +169,18 @@ variable_rule t s name =
     Then (there (cells_behind (most_cells (is_empty s.around)) s.cells_taken t) code.Size) (λ taken.
     variable_in (is_empty s.around) (has_mark name) (record s { cells_taken = taken }) name.name.name t))
 
+abbrev pub variable_name : List Declared → List (List ℕ) → IdentDef → Rule (List (List ℕ))
+variable_name ds names x = new_name ds names x.name.name
+
 -- variables of one type
-unfoldable pub variables_rule : Modules → ℕ → Scope → TypedNames → Rule Scope
-variables_rule ms n s x =
+unfoldable pub typed_variables : Modules → ℕ → Scope → TypedNames → Rule Scope
+typed_variables ms n s x =
     Then (type_at ms s (naming s (first_name (out-TypedNames x).names)) n 0 (out-TypedNames x).of) (λ w.
     through (variable_rule w.of) s (out-TypedNames x).names)
+
+-- their names are judged before their type
+unfoldable pub variables_rule : Modules → ℕ → Scope → TypedNames → Rule Scope
+variables_rule ms n s x = Then (through (variable_name s.block) [] (out-TypedNames x).names) (λ names. typed_variables ms n s x)
 
 -- ---- the declarations of a module or a procedure but for the procedures in it
 

@@ -1,6 +1,6 @@
 -- What constants are worth: the operators and functions of constants, by the meaning of the same operators when they run.
 -- A value that isn't there stands for one whose evaluation would trap.
-use Rattle.std.specs.Prelude.{ℕ, ℤ, pos, Bool, true, false, not, List, [], ◌∷◌, Option, Some, None, option_map}
+use Rattle.std.specs.Prelude.{ℕ, ℤ, pos, Bool, true, false, not, List, [], ◌∷◌, Option, Some, None, is_some, option_map}
 use Rattle.std.specs.Ordering.{int_eq}
 use Rattle.ob_parse.specs.declared.tree.Sign.{Sign}
 use Rattle.ob_parse.specs.declared.tree.Sign.TheVariants as sign
@@ -10,14 +10,14 @@ use Rattle.ob_parse.specs.declared.tree.AddOperator.{AddOperator}
 use Rattle.ob_parse.specs.declared.tree.AddOperator.TheVariants as add
 use Rattle.ob_parse.specs.declared.tree.MulOperator.{MulOperator}
 use Rattle.ob_parse.specs.declared.tree.MulOperator.TheVariants as mul
-use Rattle.ob_mean.specs.declared.whole.operator.Operator.{Operator}
-use Rattle.ob_mean.specs.declared.whole.operator.Operator.TheVariants as operator
-use Rattle.ob_mean.specs.declared.whole.operator.UnaryOperator.{UnaryOperator}
-use Rattle.ob_mean.specs.declared.whole.operator.UnaryOperator.TheVariants as one
-use Rattle.ob_mean.specs.declared.whole.operator.Relation.{Relation as Related}
-use Rattle.ob_mean.specs.declared.whole.operator.Relation.TheVariants as relation
-use Rattle.ob_mean.specs.whole.Arithmetic.{Computed, Gives, Faults, apply, apply_one, numbers_relate, texts_relate, truth}
-use Rattle.ob_mean.specs.whole.Texts.{before_zero, natural}
+use Rattle.ob_mean.specs.declared.operator.Operator.{Operator}
+use Rattle.ob_mean.specs.declared.operator.Operator.TheVariants as operator
+use Rattle.ob_mean.specs.declared.operator.UnaryOperator.{UnaryOperator}
+use Rattle.ob_mean.specs.declared.operator.UnaryOperator.TheVariants as one
+use Rattle.ob_mean.specs.declared.operator.Relation.{Relation as Related}
+use Rattle.ob_mean.specs.declared.operator.Relation.TheVariants as relation
+use Rattle.ob_mean.specs.Arithmetic.{Computed, Gives, Faults, apply, apply_one, numbers_relate, texts_relate, truth}
+use Rattle.ob_mean.specs.Texts.{before_zero, natural}
 use Rattle.ob_types.specs.declared.exports.Constant.{Constant}
 use Rattle.ob_types.specs.declared.exports.Constant.TheVariants as constant
 use Rattle.ob_declare.specs.declared.folding.Folded.{Folded}
@@ -52,6 +52,34 @@ abbrev pub either : Option Bool → Option Bool → Option Bool
 either (Some true) y = Some true
 either (Some false) y = y
 either None y = None
+
+-- ---- what may stand before an operator
+
+abbrev pub is_number : Folded → Bool
+is_number (folded.Integer x) = true
+is_number _ = false
+
+abbrev pub is_truth : Folded → Bool
+is_truth (folded.Boolean x) = true
+is_truth _ = false
+
+abbrev pub adds : AddOperator → Folded → Bool
+adds add.Or v = is_truth v
+adds _ v = is_number v
+
+abbrev pub multiplies : MulOperator → Folded → Bool
+multiplies mul.And v = is_truth v
+multiplies _ v = is_number v
+
+-- truth values are equal or not
+abbrev pub is_equality : Related → Bool
+is_equality relation.Equal = true
+is_equality relation.NotEqual = true
+is_equality _ = false
+
+abbrev pub relates : Related → Folded → Bool
+relates r (folded.Boolean x) = is_equality r
+relates r _ = true
 
 -- ---- operators. None: the types don't fit
 
@@ -131,6 +159,19 @@ ordinal_of (folded.Char x) = Some (folded.Integer (option_map pos x))
 ordinal_of (folded.Boolean x) = Some (folded.Integer (option_map truth x))
 ordinal_of (folded.Text t) = character_of t
 ordinal_of (folded.Integer x) = None
+
+-- whether a function takes this value first: LEN takes a variable, which is no constant
+abbrev pub takes : Function → Folded → Bool
+takes function.Ord v = is_some (ordinal_of v)
+takes function.Len v = false
+takes _ v = is_number v
+
+-- whether a function takes a second value
+abbrev pub is_shift : Function → Bool
+is_shift function.Lsl = true
+is_shift function.Asr = true
+is_shift function.Ror = true
+is_shift _ = false
 
 -- a function of one value
 abbrev pub one_of : Function → Folded → Option Folded

@@ -14,6 +14,7 @@ use Rattle.ob_types.specs.declared.structure.Basic.{Basic}
 use Rattle.ob_types.specs.declared.structure.ObType.{ObType}
 use Rattle.ob_types.specs.declared.structure.ObType.TheVariants.{Basic as OfBasic, Open}
 use Rattle.ob_types.specs.Types.{is_admitted}
+use Rattle.ob_declare.specs.declared.block.Declared.{Declared}
 use Rattle.ob_declare.specs.declared.block.Entry.TheVariants as entry
 use Rattle.ob_declare.specs.declared.block.Standing.{Standing}
 use Rattle.ob_declare.specs.declared.block.Standing.TheVariants as standing
@@ -22,10 +23,10 @@ use Rattle.ob_declare.specs.declared.heading.Heading.{Heading}
 use Rattle.ob_declare.specs.declared.heading.Parameters.{Parameters}
 use Rattle.ob_declare.specs.declared.scope.Scope.{Scope}
 use Rattle.ob_declare.specs.Block.{find}
-use Rattle.ob_declare.specs.Declarations.{is_new, has_mark}
+use Rattle.ob_declare.specs.Declarations.{is_new, has_mark, new_name}
 use Rattle.ob_declare.specs.Exports.{Modules}
 use Rattle.ob_declare.specs.Rule.{Rule, Given, Breaks, Then, Needs, through}
-use Rattle.ob_declare.specs.Scope.{with_entry, entered}
+use Rattle.ob_declare.specs.Scope.{with_entry, in_heading, entered}
 use Rattle.ob_declare.specs.WrittenTypes.{type_named}
 
 -- ---- types of formal parameters
@@ -75,10 +76,20 @@ parameter_rule var t p name =
       block = p.block ++ record { name = name.name; exported = false; entry = entry.Variable t (standing_of var t (length p.block)) } ∷ [];
     }))
 
--- parameters of one type
+abbrev pub parameter_name : List Declared → List (List ℕ) → Ident → Rule (List (List ℕ))
+parameter_name ds names x = new_name ds names x.name
+
+-- parameters of this type
+abbrev pub parameters_of : ObType → Parameters → FormalSection → Rule Parameters
+parameters_of t p x = through (parameter_rule (is_some x.by_reference) t) p x.names
+
+-- parameters of one type: those before them are visible in it
+unfoldable pub typed_parameters : Modules → ℕ → Scope → Parameters → FormalSection → Rule Parameters
+typed_parameters ms n s p x = Then (formal_at ms (in_heading s p.block) n x.of) (λ t. parameters_of t p x)
+
+-- their names are judged before their type
 unfoldable pub section_rule : Modules → ℕ → Scope → Parameters → FormalSection → Rule Parameters
-section_rule ms n s p x =
-    Then (formal_at ms s n x.of) (λ t. through (parameter_rule (is_some x.by_reference) t) p x.names)
+section_rule ms n s p x = Then (through (parameter_name p.block) [] x.names) (λ names. typed_parameters ms n s p x)
 
 -- ---- results
 
@@ -96,10 +107,11 @@ result_rule ms s (Some q) = Then (type_named ms s q) (λ t. Then (basic_of t) (�
 abbrev pub heading_of : Parameters → Option Basic → Heading
 heading_of p result_type = record { signature = record { formals = p.formals; result = result_type }; block = p.block }
 
+-- all parameters are visible in the type of the result
 unfoldable pub formals_rule : Modules → ℕ → Scope → Formals → Rule Heading
 formals_rule ms n s f =
     Then (through (section_rule ms n s) no_parameters f.sections) (λ p.
-    Then (result_rule ms s f.result) (λ r. Given (heading_of p r)))
+    Then (result_rule ms (in_heading s p.block) f.result) (λ r. Given (heading_of p r)))
 
 unfoldable pub heading_rule : Modules → ℕ → Scope → Option Formals → Rule Heading
 heading_rule ms n s None = Given (heading_of no_parameters None)

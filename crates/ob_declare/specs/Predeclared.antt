@@ -98,3 +98,12 @@ output_named name =
     else (if bytes_eq name (codes "String") then output.String
     else (if bytes_eq name (codes "Int") then output.Int
     else (if bytes_eq name (codes "Ln") then output.Ln else output.Unknown))))
+
+-- whether a name is one of theirs
+abbrev pub is_input : InputName → Bool
+is_input input.Unknown = false
+is_input _ = true
+
+abbrev pub is_output : OutputName → Bool
+is_output output.Unknown = false
+is_output _ = true

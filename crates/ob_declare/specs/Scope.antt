@@ -1,8 +1,8 @@
 -- What is seen at a place of a module (Wirth, The Programming Language Oberon, Oberon-07): the declarations of the innermost
 -- block, and those of the blocks round it that nothing nearer hides.
 use Rattle.std.specs.Prelude.{ℕ, ◌+◌, List, [], ◌∷◌, ◌++◌, length, reverse, Bool, true, false, ◌&&◌, Option, Some, None, if◌then◌else◌}
-use Rattle.ob_mean.specs.declared.whole.expression.Variable.{Variable}
-use Rattle.ob_mean.specs.declared.whole.expression.Variable.TheVariants as variable
+use Rattle.ob_mean.specs.declared.expression.Variable.{Variable}
+use Rattle.ob_mean.specs.declared.expression.Variable.TheVariants as variable
 use Rattle.ob_types.specs.declared.structure.RecordName.{RecordName}
 use Rattle.ob_declare.specs.declared.block.Declared.{Declared}
 use Rattle.ob_declare.specs.declared.block.Entry.{Entry}
@@ -90,6 +90,10 @@ opening name = record {
 abbrev pub with_entry : Scope → List ℕ → Bool → Entry → Scope
 with_entry s name mark e =
     record s { block = s.block ++ record { name = name; exported = is_empty s.around && mark; entry = e } ∷ [] }
+
+-- in the heading of a procedure, behind these parameters: they stand in its own block
+unfoldable pub in_heading : Scope → List Declared → Scope
+in_heading s parameters = record s { block = parameters; around = s.block ∷ s.around }
 
 -- inside a procedure of a name, behind its parameters
 abbrev pub entered : Scope → List ℕ → List Declared → Scope

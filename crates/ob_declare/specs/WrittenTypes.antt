@@ -24,17 +24,13 @@ use Rattle.ob_declare.specs.declared.block.Entry.{Entry}
 use Rattle.ob_declare.specs.declared.block.Entry.TheVariants as entry
 use Rattle.ob_declare.specs.declared.written_type.Written.{Written}
 use Rattle.ob_declare.specs.declared.written_type.Fields.{Fields}
-use Rattle.ob_declare.specs.declared.predeclared.InputName.{InputName}
-use Rattle.ob_declare.specs.declared.predeclared.InputName.TheVariants as input
-use Rattle.ob_declare.specs.declared.predeclared.OutputName.{OutputName}
-use Rattle.ob_declare.specs.declared.predeclared.OutputName.TheVariants as output
 use Rattle.ob_declare.specs.declared.predeclared.Predeclared.{Predeclared}
 use Rattle.ob_declare.specs.declared.predeclared.Predeclared.TheVariants as predeclared
 use Rattle.ob_declare.specs.declared.scope.Scope.{Scope}
 use Rattle.ob_declare.specs.Exports.{Modules}
 use Rattle.ob_declare.specs.Imports.{exported_at}
 use Rattle.ob_declare.specs.Names.{is_among}
-use Rattle.ob_declare.specs.Predeclared.{absent, input_named, output_named}
+use Rattle.ob_declare.specs.Predeclared.{absent, input_named, output_named, is_input, is_output}
 use Rattle.ob_declare.specs.Scope.{seen, outer}
 use Rattle.ob_declare.specs.Rule.{Rule, Given, Breaks, Then, Needs, there, through}
 use Rattle.ob_declare.specs.Constants.{constant_at}
@@ -57,31 +53,24 @@ object_type o = Breaks code.Types
 
 -- a name of another module: In and Out export no type
 abbrev pub no_type : Bool → Code
-no_type true = code.NotExported
-no_type false = code.Types
-
-abbrev pub is_unknown_input : InputName → Bool
-is_unknown_input input.Unknown = true
-is_unknown_input _ = false
-
-abbrev pub is_unknown_output : OutputName → Bool
-is_unknown_output output.Unknown = true
-is_unknown_output _ = false
+no_type true = code.Types
+no_type false = code.NotExported
 
 unfoldable pub other_type : Modules → Option Entry → Predeclared → List ℕ → Rule ObType
 other_type ms (Some (entry.Module number place)) p name =
     Then (there (exported_at ms place name) code.NotExported) (λ o. object_type o)
-other_type ms (Some entry.In) p name = Breaks (no_type (is_unknown_input (input_named name)))
-other_type ms (Some entry.Out) p name = Breaks (no_type (is_unknown_output (output_named name)))
+other_type ms (Some entry.In) p name = Breaks (no_type (is_input (input_named name)))
+other_type ms (Some entry.Out) p name = Breaks (no_type (is_output (output_named name)))
 other_type ms (Some e) p name = Breaks code.Types
 other_type ms None p name = Breaks (absent p)
 
-abbrev pub qualified : Modules → Scope → Ident → Option Ident → Rule ObType
-qualified ms s first None = own_type (seen s first.name) (outer s first.name)
-qualified ms s first (Some second) = other_type ms (seen s first.name) (outer s first.name) second.name
+-- a name, by what its first part stands for
+unfoldable pub qualified : Modules → Option Entry → Predeclared → Option Ident → Rule ObType
+qualified ms e p None = own_type e p
+qualified ms e p (Some second) = other_type ms e p second.name
 
 unfoldable pub type_named : Modules → Scope → Qualident → Rule ObType
-type_named ms s q = qualified ms s q.first q.second
+type_named ms s q = qualified ms (seen s q.first.name) (outer s q.first.name) q.second
 
 -- ---- arrays
 

@@ -3,6 +3,7 @@
 ghost use Rattle.std.specs.Prelude.{◌≡◌, suc, option_copied, OnErr, IfErr, IfOk};
 ghost use Rattle.ob_base.specs.declared.fault.Code.TheVariants as code;
 ghost use Rattle.ob_parse.specs.declared.tree.Designator.{out-Designator};
+ghost use Rattle.ob_parse.specs.declared.tree.Selector.{out-Selector};
 ghost use Rattle.ob_declare.specs.Rule.{Judges, IsFault, there, through};
 ghost use Rattle.ob_declare.specs.Constants as spec;
 ghost use Rattle.ob_declare.specs.Folding as folding;
@@ -10,11 +11,13 @@ ghost use Rattle.ob_declare.specs.Folding as folding;
 use crate::block::Entry;
 use crate::fault::{fault, open};
 use crate::folding::{
-    Folded, constant_of, folded_of, not_of, one_of, product_of, related_of, sign_of, sum_of, two_of,
+    Folded, adds, constant_of, folded_of, is_shift, multiplies, not_of, one_of, product_of,
+    related_of, relates, sign_of, sum_of, takes, two_of,
 };
 use crate::imports::Imports;
 use crate::predeclared::{
-    Function, InputName, OutputName, Predeclared, absent, input_named, output_named,
+    Function, InputName, OutputName, Predeclared, absent, input_named, is_input, is_output,
+    output_named,
 };
 use crate::scope::Scope;
 use ob_base::{Code, Refused};
@@ -25,34 +28,41 @@ use ob_scan::Span;
 use ob_types::{Constant, Object};
 use std::alloc::Global;
 
-/// What is imported under a name.
+/// What is imported under a name, with selectors behind it.
 #[tactic(auto, unfolding(crate::specs::Constants::imported))]
-fn imported(alloc: Global, object: &Object, span: Span) -> Result<Folded, Refused>
-    ensures { Judges (spec.imported object.now) result }
+fn imported(
+    alloc: Global,
+    object: &Object,
+    behind: &[Selector],
+    span: Span,
+) -> Result<Folded, Refused>
+    ensures { Judges (spec.imported object.now behind.now) result }
 {
-    match object {
-        Object::Constant(constant) => Ok(folded_of(alloc, constant)?),
-        Object::Variable(_) => Err(Refused::Fault(fault(Code::NotConstant, span))),
-        Object::TypeName(_) | Object::Procedure(_) => {
+    match (object, behind) {
+        (Object::Constant(constant), []) => Ok(folded_of(alloc, constant)?),
+        (Object::Constant(_), [_, ..]) => Err(Refused::Fault(fault(Code::Types, span))),
+        (Object::Variable(_), _) => Err(Refused::Fault(fault(Code::NotConstant, span))),
+        (Object::TypeName(_) | Object::Procedure(_), _) => {
             Err(Refused::Fault(fault(Code::Types, span)))
         }
     }
 }
 
-/// The selector behind the name of a loaded module.
+/// The first selector behind the name of a loaded module, and those behind it.
 #[tactic(auto, unfolding(crate::specs::Constants::member))]
 fn member(
     alloc: Global,
     modules: &Imports,
     place: usize,
     selector: &Selector,
+    behind: &[Selector],
     span: Span,
 ) -> Result<Folded, Refused>
-    ensures { Judges (spec.member modules.now place selector.now) result }
+    ensures { Judges (spec.member modules.now place selector.now behind.now) result }
 {
     match selector {
         Selector::Field(field) => match modules.exported_at(place, &field.name) {
-            Some(object) => imported(alloc, object, field.span),
+            Some(object) => imported(alloc, object, behind, field.span),
             None => Err(Refused::Fault(fault(Code::NotExported, field.span))),
         },
         Selector::Index(_) => Err(Refused::Fault(fault(Code::Types, span))),
@@ -120,9 +130,11 @@ fn named(
     match (entry, selectors) {
         (Entry::Constant(constant), []) => Ok(folded_of(alloc, constant)?),
         (Entry::Variable(_, _), _) => Err(Refused::Fault(fault(Code::NotConstant, span))),
-        (Entry::Module(_, place), [selector]) => member(alloc, modules, *place, selector, span),
-        (Entry::In, [selector]) => input_member(selector, span),
-        (Entry::Out, [selector]) => output_member(selector, span),
+        (Entry::Module(_, place), [first, behind @ ..]) => {
+            member(alloc, modules, *place, first, behind, span)
+        }
+        (Entry::In, [first, ..]) => input_member(first, span),
+        (Entry::Out, [first, ..]) => output_member(first, span),
         _ => Err(Refused::Fault(fault(Code::Types, span))),
     }
 }
@@ -154,27 +166,91 @@ fn function_called(predeclared: Predeclared, span: Span) -> Result<Function, Ref
     }
 }
 
+/// What is broken where something of another module is called.
+fn no_call(exported: bool) -> Code
+    ensures { result ≡ spec.no_call exported }
+{
+    if exported {
+        Code::NotConstant
+    } else {
+        Code::NotExported
+    }
+}
+
+fn calls_object(modules: &Imports, place: usize, selector: &Selector) -> Code
+    ensures { result ≡ spec.calls_object modules.now place (out-Selector selector.now) }
+{
+    match selector {
+        Selector::Field(field) => no_call(modules.exported_at(place, &field.name).is_some()),
+        Selector::Index(_) => Code::NotConstant,
+    }
+}
+
+fn calls_input(selector: &Selector) -> Code
+    ensures { result ≡ spec.calls_input (out-Selector selector.now) }
+{
+    match selector {
+        Selector::Field(field) => no_call(is_input(input_named(&field.name))),
+        Selector::Index(_) => Code::NotConstant,
+    }
+}
+
+fn calls_output(selector: &Selector) -> Code
+    ensures { result ≡ spec.calls_output (out-Selector selector.now) }
+{
+    match selector {
+        Selector::Field(field) => no_call(is_output(output_named(&field.name))),
+        Selector::Index(_) => Code::NotConstant,
+    }
+}
+
+/// What is broken where a declared name is called.
+#[tactic(auto, unfolding(crate::specs::Constants::entry_called))]
+fn entry_called(modules: &Imports, entry: &Entry, selectors: &[Selector]) -> Code
+    ensures { result ≡ spec.entry_called modules.now entry.now selectors.now }
+{
+    match (entry, selectors) {
+        (Entry::Module(_, place), [first, ..]) => calls_object(modules, *place, first),
+        (Entry::In, [first, ..]) => calls_input(first),
+        (Entry::Out, [first, ..]) => calls_output(first),
+        _ => Code::NotConstant,
+    }
+}
+
+/// Where a fault of a name with selectors behind it stands: at the name that its module lacks, or else at the first token.
+fn place_of(code: Code, selectors: &[Selector], span: Span) -> Span {
+    match (code, selectors) {
+        (Code::NotExported, [Selector::Field(field), ..]) => field.span,
+        _ => span,
+    }
+}
+
 /// The function that a name stands for, where nothing declares it.
 #[tactic(auto, unfolding(crate::specs::Constants::function_found))]
 fn function_found(
+    modules: &Imports,
     entry: Option<&Entry>,
     selectors: &[Selector],
     predeclared: Predeclared,
     span: Span,
 ) -> Result<Function, Refused>
-    ensures { Judges (spec.function_found (option_copied entry.entry) selectors.now predeclared) result }
+    ensures { Judges (spec.function_found modules.now (option_copied entry.entry) selectors.now predeclared) result }
 {
     match (entry, selectors) {
-        (Some(_), _) => Err(Refused::Fault(fault(Code::NotConstant, span))),
+        (Some(entry), _) => {
+            let code = entry_called(modules, entry, selectors);
+            Err(Refused::Fault(fault(code, place_of(code, selectors, span))))
+        }
         (None, []) => function_called(predeclared, span),
         (None, [_, ..]) => Err(Refused::Fault(fault(absent(predeclared), span))),
     }
 }
 
-fn function_of(scope: &Scope, d: &Designator) -> Result<Function, Refused>
-    ensures { Judges (spec.function_of scope.now d.now) result }
+fn function_of(modules: &Imports, scope: &Scope, d: &Designator) -> Result<Function, Refused>
+    ensures { Judges (spec.function_of modules.now scope.now d.now) result }
 {
     function_found(
+        modules,
         scope.seen(&d.name.name),
         d.selectors.as_slice(),
         scope.outer(&d.name.name),
@@ -234,6 +310,9 @@ fn related(
     match right {
         None => Ok(left),
         Some(right) => {
+            if !relates(right.relation, &left) {
+                return Err(Refused::Fault(fault(Code::Types, right.span)));
+            }
             let other = simple(alloc, modules, scope, levels, &right.simple)?;
             fitting(
                 related_of(right.relation, &left, &other),
@@ -290,6 +369,9 @@ fn added_term(
 ) -> Result<Folded, Refused>
     ensures { Judges (spec.added_term (spec.inner_at modules.now scope.now levels) (spec.deeper_at modules.now scope.now levels) modules.now scope.now left x.now) result }
 {
+    if !adds(x.operator, &left) {
+        return Err(Refused::Fault(fault(Code::Types, x.span)));
+    }
     let right = term(alloc, modules, scope, levels, &x.term)?;
     fitting(sum_of(x.operator, &left, &right), Code::Types, x.span)
 }
@@ -339,6 +421,9 @@ fn next_factor(
 ) -> Result<Folded, Refused>
     ensures { Judges (spec.next_factor (spec.inner_at modules.now scope.now levels) (spec.deeper_at modules.now scope.now levels) modules.now scope.now left x.now) result }
 {
+    if !multiplies(x.operator, &left) {
+        return Err(Refused::Fault(fault(Code::Types, x.span)));
+    }
     let right = factor(alloc, modules, scope, levels, &x.factor)?;
     fitting(product_of(x.operator, &left, &right), Code::Types, x.span)
 }
@@ -360,7 +445,7 @@ fn factor(
         Factor::Truth(truth, _) => Ok(Folded::Boolean(Some(*truth))),
         Factor::Value(d) => value_named(alloc, modules, scope, d),
         Factor::Call(d, actuals) => {
-            let function = function_of(scope, d)?;
+            let function = function_of(modules, scope, d)?;
             called(
                 alloc,
                 modules,
@@ -379,6 +464,7 @@ fn factor(
     }
 }
 
+/// A call of a function. Its name stands at `span`.
 #[cycle(constant)]
 #[tactic(auto, unfolding(crate::specs::Constants::called))]
 fn called(
@@ -394,16 +480,50 @@ fn called(
 {
     match (function, actuals) {
         (Function::Len, _) => Err(Refused::Fault(fault(Code::NotConstant, span))),
-        (_, [one]) => {
+        (_, []) => Err(Refused::Fault(fault(Code::Parameters, span))),
+        (_, [one, behind @ ..]) => {
             let value = nested(alloc, modules, scope, levels, span, one)?;
-            fitting(one_of(function, &value), Code::Parameters, span)
+            if !takes(function, &value) {
+                return Err(Refused::Fault(fault(Code::Parameters, one.first_token())));
+            }
+            one_called(
+                alloc, modules, scope, levels, function, &value, behind, span,
+            )
         }
-        (_, [one, two]) => {
-            let left = nested(alloc, modules, scope, levels, span, one)?;
+    }
+}
+
+/// A call of a function, behind its first actual parameter.
+#[cycle(constant)]
+#[tactic(auto, unfolding(crate::specs::Constants::one_called, crate::specs::Constants::two_called))]
+fn one_called(
+    alloc: Global,
+    modules: &Imports,
+    scope: &Scope,
+    levels: u32,
+    function: Function,
+    left: &Folded,
+    actuals: &[Expr],
+    span: Span,
+) -> Result<Folded, Refused>
+    ensures { Judges (spec.one_called (spec.inner_at modules.now scope.now levels) function left.now actuals.now) result }
+{
+    match actuals {
+        [] => fitting(one_of(function, left), Code::Parameters, span),
+        [two, behind @ ..] => {
+            if !is_shift(function) {
+                return Err(Refused::Fault(fault(Code::Parameters, two.first_token())));
+            }
             let right = nested(alloc, modules, scope, levels, span, two)?;
-            fitting(two_of(function, &left, &right), Code::Parameters, span)
+            match behind {
+                [] => fitting(
+                    two_of(function, left, &right),
+                    Code::Parameters,
+                    two.first_token(),
+                ),
+                [three, ..] => Err(Refused::Fault(fault(Code::Parameters, three.first_token()))),
+            }
         }
-        _ => Err(Refused::Fault(fault(Code::Parameters, span))),
     }
 }
 
@@ -439,7 +559,7 @@ fn deeper(
     factor(alloc, modules, scope, inside, f)
 }
 
-/// The constant that an expression is, whose evaluation doesn't trap. The fault stands at `span` where it does.
+/// The constant that an expression is, whose evaluation doesn't trap. The fault stands at its first token where it does.
 #[tactic(auto, unfolding(crate::specs::Constants::constant_at))]
 pub fn constant(
     alloc: Global,
@@ -447,13 +567,12 @@ pub fn constant(
     scope: &Scope,
     levels: u32,
     e: &Expr,
-    span: Span,
 ) -> Result<Constant, Refused>
     ensures { Judges (spec.constant_at modules.now scope.now levels e.now) result }
 {
     let value = expr(alloc, modules, scope, levels, e)?;
     match constant_of(value) {
         Some(constant) => Ok(constant),
-        None => Err(Refused::Fault(fault(Code::NotConstant, span))),
+        None => Err(Refused::Fault(fault(Code::NotConstant, e.first_token()))),
     }
 }

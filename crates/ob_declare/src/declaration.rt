@@ -1,16 +1,18 @@
 //! Imports and declarations.
 
-ghost use Rattle.std.specs.Prelude.{◌≡◌, ◌≤◌, None, IfOk};
+ghost use Rattle.std.specs.Prelude.{◌≡◌, ◌≤◌, [], false, None, IfOk};
 ghost use Rattle.ob_base.specs.declared.fault.Code.TheVariants as code;
 ghost use Rattle.ob_declare.specs.Block.{find};
-ghost use Rattle.ob_declare.specs.Rule.{Judges, gives, AnswersTree, FaultsOnly, there, through};
+ghost use Rattle.ob_declare.specs.Scope.{with_entry};
+ghost use Rattle.ob_declare.specs.Rule.{Judges, Given, gives, AnswersTree, FaultsOnly, there, through};
 ghost use Rattle.ob_declare.specs.Declarations as spec;
 ghost use Rattle.ob_declare.specs.declared.scope.Scope.{Scope};
 
-use crate::block::{Entry, Standing};
+use crate::block::{Block, Entry, Standing};
 use crate::constant::constant;
 use crate::fault::fault;
 use crate::imports::{Imports, StandardName, standard_named};
+use crate::names::Names;
 use crate::scope::Scope;
 use crate::written_type::written_type;
 use ob_base::{Code, Refused, Text};
@@ -50,6 +52,27 @@ fn next_variable(n: u32, span: Span) -> Result<u32, Refused>
     }
 }
 
+/// One name more, which neither the block has nor these names.
+#[tactic(auto, unfolding(crate::specs::Declarations::new_name))]
+pub(crate) fn new_name(
+    alloc: Global,
+    block: &Block,
+    so_far: Names,
+    name: &Ident,
+) -> Result<Names, Refused>
+    ensures { Judges (spec.new_name block.now so_far name.now.name) result }
+{
+    let mut so_far = so_far;
+    if block.find(&name.name).is_some() {
+        return Err(Refused::Fault(fault(Code::DeclaredTwice, name.span)));
+    }
+    if so_far.contains(&name.name) {
+        return Err(Refused::Fault(fault(Code::DeclaredTwice, name.span)));
+    }
+    so_far.push(alloc, &name.name)?;
+    Ok(so_far)
+}
+
 /// The name that an imported module has itself.
 fn own_name(import: &Import) -> &Ident
     ensures { result.now.name ≡ spec.own_name import.now.name import.now.module_name }
@@ -82,14 +105,11 @@ fn loaded_place(
 }
 
 /// One import more, of a name that is new.
-#[tactic(auto, unfolding(crate::specs::Declarations::with_import))]
 fn with_import(alloc: Global, so_far: Scope, name: &Ident, entry: Entry) -> Result<Scope, Refused>
-    ensures { Judges (spec.with_import so_far name.now.name entry) result }
+    requires { find so_far.block name.now.name ≡ None }
+    ensures { Judges (Given (with_entry so_far name.now.name false entry)) result }
 {
     let mut so_far = so_far;
-    if so_far.block.find(&name.name).is_some() {
-        return Err(Refused::Fault(fault(Code::DeclaredTwice, name.span)));
-    }
     so_far.declare(alloc, &name.name, false, entry)?;
     Ok(so_far)
 }
@@ -97,6 +117,7 @@ fn with_import(alloc: Global, so_far: Scope, name: &Ident, entry: Entry) -> Resu
 /// One import more of a module that is loaded at a place.
 #[tactic(auto, unfolding(crate::specs::Declarations::with_module))]
 fn with_module(alloc: Global, so_far: Scope, name: &Ident, place: usize) -> Result<Scope, Refused>
+    requires { find so_far.block name.now.name ≡ None }
     ensures { Judges (spec.with_module so_far name.now.name place) result }
 {
     let mut so_far = so_far;
@@ -114,6 +135,7 @@ fn other_module(
     name: &Ident,
     own: &Ident,
 ) -> Result<Scope, Refused>
+    requires { find so_far.block name.now.name ≡ None }
     ensures { Judges (spec.other_module modules.now so_far name.now.name own.now.name) result }
 {
     let found = modules.place_of(&own.name);
@@ -131,6 +153,7 @@ fn imported_as(
     own: &Ident,
     standard: StandardName,
 ) -> Result<Scope, Refused>
+    requires { find so_far.block name.now.name ≡ None }
     ensures { Judges (spec.imported_as modules.now so_far name.now.name own.now.name standard) result }
 {
     match standard {
@@ -150,6 +173,7 @@ fn import_named(
     name: &Ident,
     own: &Ident,
 ) -> Result<Scope, Refused>
+    requires { find so_far.block name.now.name ≡ None }
     ensures { Judges (spec.import_named modules.now so_far name.now.name own.now.name) result }
 {
     if own.name.same(&so_far.module_name) {
@@ -157,6 +181,19 @@ fn import_named(
     }
     let standard = standard_named(&own.name);
     imported_as(alloc, modules, so_far, name, own, standard)
+}
+
+/// One import more, under a name that is new.
+fn new_import(
+    alloc: Global,
+    modules: &Imports,
+    so_far: Scope,
+    import: &Import,
+) -> Result<Scope, Refused>
+    requires { find so_far.block import.now.name.name ≡ None }
+    ensures { Judges (spec.new_import modules.now so_far import.now) result }
+{
+    import_named(alloc, modules, so_far, &import.name, own_name(import))
 }
 
 /// One import more.
@@ -169,7 +206,11 @@ fn import(
 ) -> Result<Scope, Refused>
     ensures { Judges (spec.import_rule modules.now so_far import.now) result }
 {
-    import_named(alloc, modules, so_far, &import.name, own_name(import))
+    let name = &import.name;
+    if so_far.block.find(&name.name).is_some() {
+        return Err(Refused::Fault(fault(Code::DeclaredTwice, name.span)));
+    }
+    new_import(alloc, modules, so_far, import)
 }
 
 fn imports(
@@ -201,7 +242,7 @@ fn new_constant(
 {
     let mut so_far = so_far;
     let name = &d.name.name;
-    let value = constant(alloc, modules, &so_far, nesting, d.value.get(), name.span)?;
+    let value = constant(alloc, modules, &so_far, nesting, d.value.get())?;
     let mark = d.name.mark.is_some();
     so_far.declare(alloc, &name.name, mark, Entry::Constant(value))?;
     Ok(so_far)
@@ -417,6 +458,17 @@ fn variables(alloc: Global, of: &ObType, first: Scope, names: &[IdentDef]) -> Re
     Ok(so_far)
 }
 
+/// The names of variables of one type, none of which the block has.
+fn variable_names(alloc: Global, block: &Block, list: &[IdentDef]) -> Result<Names, Refused>
+    ensures { Judges (through (spec.variable_name block.now) [] list.now) result }
+{
+    let mut so_far = Names::new(alloc);
+    for x in list {
+        so_far = new_name(alloc, block, so_far, &x.name)?;
+    }
+    Ok(so_far)
+}
+
 fn first_name(names: &[IdentDef]) -> &[u8]
     ensures { result.now ≡ spec.first_name names.now }
 {
@@ -424,6 +476,23 @@ fn first_name(names: &[IdentDef]) -> &[u8]
         [] => &[],
         [first, ..] => first.name.name.as_slice(),
     }
+}
+
+/// Variables of one type, whose names are new.
+#[tactic(auto, unfolding(crate::specs::Declarations::typed_variables))]
+fn typed_variables(
+    alloc: Global,
+    modules: &Imports,
+    nesting: u32,
+    so_far: Scope,
+    x: &TypedNames,
+) -> Result<Scope, Refused>
+    ensures { Judges (spec.typed_variables modules.now nesting so_far x.now) result }
+{
+    let list = x.names.as_slice();
+    let naming = so_far.naming(alloc, first_name(list))?;
+    let written = written_type(alloc, modules, &so_far, &naming, nesting, 0, x.of.get())?;
+    variables(alloc, &written.of, so_far, list)
 }
 
 /// Variables of one type.
@@ -437,10 +506,8 @@ fn typed_names(
 ) -> Result<Scope, Refused>
     ensures { Judges (spec.variables_rule modules.now nesting so_far x.now) result }
 {
-    let list = x.names.as_slice();
-    let naming = so_far.naming(alloc, first_name(list))?;
-    let written = written_type(alloc, modules, &so_far, &naming, nesting, 0, x.of.get())?;
-    variables(alloc, &written.of, so_far, list)
+    let _names = variable_names(alloc, &so_far.block, x.names.as_slice())?;
+    typed_variables(alloc, modules, nesting, so_far, x)
 }
 
 fn all_variables(

@@ -1,17 +1,15 @@
 //! What constants are worth.
 
 ghost use Rattle.std.specs.Prelude.{◌≡◌, IfOk, option_map, pos};
-ghost use Rattle.ob_mean.specs.whole.Arithmetic.{truth};
-ghost use Rattle.ob_mean.specs.whole.Texts.{natural};
-ghost use Rattle.ob_mean.specs.declared.whole.operator.UnaryOperator.TheVariants as one;
+ghost use Rattle.ob_mean.specs.Arithmetic.{truth};
+ghost use Rattle.ob_mean.specs.Texts.{natural};
+ghost use Rattle.ob_mean.specs.declared.operator.UnaryOperator.TheVariants as one;
 ghost use Rattle.ob_declare.specs.Folding as spec;
 
 use crate::predeclared::Function;
 use crate::texts::before_zero;
 use ob_base::Text;
-use ob_mean::whole::{
-    Operator, Relation, UnaryOperator, apply, apply_one, holds, texts_relate, truth,
-};
+use ob_mean::{Operator, Relation, UnaryOperator, apply, apply_one, holds, texts_relate, truth};
 use ob_parse::tree::{AddOperator, MulOperator, Relation as Written, Sign};
 use ob_types::Constant;
 use std::alloc::{AllocError, Global};
@@ -24,6 +22,63 @@ pub enum Folded {
     Char(Option<u8>),
     /// A string.
     Text(Text),
+}
+
+fn is_number(value: &Folded) -> bool
+    ensures { result ≡ spec.is_number value.now }
+{
+    match value {
+        Folded::Integer(_) => true,
+        _ => false,
+    }
+}
+
+fn is_truth(value: &Folded) -> bool
+    ensures { result ≡ spec.is_truth value.now }
+{
+    match value {
+        Folded::Boolean(_) => true,
+        _ => false,
+    }
+}
+
+/// Whether a value may stand before `+`, `-` or OR.
+pub fn adds(operator: AddOperator, left: &Folded) -> bool
+    ensures { result ≡ spec.adds operator left.now }
+{
+    match operator {
+        AddOperator::Or => is_truth(left),
+        _ => is_number(left),
+    }
+}
+
+/// Whether a value may stand before `*`, DIV, MOD or `&`.
+pub fn multiplies(operator: MulOperator, left: &Folded) -> bool
+    ensures { result ≡ spec.multiplies operator left.now }
+{
+    match operator {
+        MulOperator::And => is_truth(left),
+        _ => is_number(left),
+    }
+}
+
+fn is_equality(relation: Relation) -> bool
+    ensures { result ≡ spec.is_equality relation }
+{
+    match relation {
+        Relation::Equal | Relation::NotEqual => true,
+        _ => false,
+    }
+}
+
+/// Whether a value may stand before a relation.
+pub fn relates(relation: Written, left: &Folded) -> bool
+    ensures { result ≡ spec.relates (spec.relation_of relation) left.now }
+{
+    match left {
+        Folded::Boolean(_) => is_equality(relation_of(relation)),
+        _ => true,
+    }
 }
 
 fn applied(operator: Operator, left: Option<i32>, right: Option<i32>) -> Option<i32>
@@ -281,6 +336,27 @@ fn character_numbered(value: Option<i32>) -> Option<u8>
             }
         }
         None => None,
+    }
+}
+
+/// Whether a function takes this value first.
+pub fn takes(function: Function, value: &Folded) -> bool
+    ensures { result ≡ spec.takes function value.now }
+{
+    match function {
+        Function::Ord => ordinal_of(value).is_some(),
+        Function::Len => false,
+        _ => is_number(value),
+    }
+}
+
+/// Whether a function takes a second value.
+pub fn is_shift(function: Function) -> bool
+    ensures { result ≡ spec.is_shift function }
+{
+    match function {
+        Function::Lsl | Function::Asr | Function::Ror => true,
+        _ => false,
     }
 }
 

@@ -1,16 +1,19 @@
 //! Headings of procedures.
 
-ghost use Rattle.std.specs.Prelude.{◌≡◌, None, IfOk};
+ghost use Rattle.std.specs.Prelude.{◌≡◌, [], None, IfOk};
 ghost use Rattle.ob_declare.specs.Block.{find};
 ghost use Rattle.ob_parse.specs.declared.tree.Procedure.{out-Procedure};
 ghost use Rattle.ob_declare.specs.Rule.{Judges, through};
+ghost use Rattle.ob_declare.specs.Scope.{in_heading};
 ghost use Rattle.ob_declare.specs.Headings as spec;
 
 use crate::block::{Block, Entry, Standing};
+use crate::declaration::new_name;
 use crate::fault::{fault, open};
 use crate::imports::Imports;
+use crate::names::Names;
 use crate::scope::Scope;
-use crate::written_type::type_named;
+use crate::written_type::type_in_heading;
 use ob_base::{Boxed, Code, Items, Refused};
 use ob_parse::tree::{FormalSection, FormalType, Formals, Ident, Procedure, Qualident};
 use ob_scan::Span;
@@ -50,22 +53,31 @@ fn open_of(alloc: Global, element: ObType, span: Span) -> Result<ObType, Refused
     Ok(of)
 }
 
-/// The type of a formal parameter. `levels` says how many more constructs may nest.
+/// The type of a formal parameter behind these. `levels` says how many more constructs may nest.
 #[cycle(formal)]
 #[tactic(auto, unfolding(crate::specs::Headings::formal_at, crate::specs::Headings::formal_rule))]
 fn formal_type(
     alloc: Global,
     modules: &Imports,
     scope: &Scope,
+    parameters: &Block,
     levels: u32,
     of: &FormalType,
 ) -> Result<ObType, Refused>
-    ensures { Judges (spec.formal_at modules.now scope.now levels of.now) result }
+    ensures { Judges (spec.formal_at modules.now (in_heading scope.now parameters.now) levels of.now) result }
 {
     match of {
-        FormalType::Named(name) => type_named(alloc, modules, scope, name),
+        FormalType::Named(name) => type_in_heading(alloc, modules, scope, parameters, name),
         FormalType::Open(span, element) => {
-            let element = inner_formal(alloc, modules, scope, levels, *span, element.get())?;
+            let element = inner_formal(
+                alloc,
+                modules,
+                scope,
+                parameters,
+                levels,
+                *span,
+                element.get(),
+            )?;
             open_of(alloc, element, *span)
         }
     }
@@ -78,14 +90,15 @@ fn inner_formal(
     alloc: Global,
     modules: &Imports,
     scope: &Scope,
+    parameters: &Block,
     levels: u32,
     span: Span,
     of: &FormalType,
 ) -> Result<ObType, Refused>
-    ensures { Judges (spec.inner_formal modules.now scope.now levels of.now) result }
+    ensures { Judges (spec.inner_formal modules.now (in_heading scope.now parameters.now) levels of.now) result }
 {
     let inside = open(levels, span)?;
-    formal_type(alloc, modules, scope, inside, of)
+    formal_type(alloc, modules, scope, parameters, inside, of)
 }
 
 fn kind_of(by_reference: bool) -> FormalKind
@@ -151,6 +164,51 @@ fn all_parameters(
     Ok(so_far)
 }
 
+/// The names of parameters of one type, none of which stands in the heading before.
+fn parameter_names(alloc: Global, block: &Block, list: &[Ident]) -> Result<Names, Refused>
+    ensures { Judges (through (spec.parameter_name block.now) [] list.now) result }
+{
+    let mut so_far = Names::new(alloc);
+    for name in list {
+        so_far = new_name(alloc, block, so_far, name)?;
+    }
+    Ok(so_far)
+}
+
+/// Parameters of this type.
+fn parameters_of(
+    alloc: Global,
+    of: &ObType,
+    so_far: Parameters,
+    x: &FormalSection,
+) -> Result<Parameters, Refused>
+    ensures { Judges (spec.parameters_of of.now so_far x.now) result }
+{
+    all_parameters(
+        alloc,
+        x.by_reference.is_some(),
+        of,
+        so_far,
+        x.names.as_slice(),
+    )
+}
+
+/// Parameters of one type, whose names are new.
+#[tactic(auto, unfolding(crate::specs::Headings::typed_parameters))]
+fn typed_parameters(
+    alloc: Global,
+    modules: &Imports,
+    levels: u32,
+    scope: &Scope,
+    so_far: Parameters,
+    x: &FormalSection,
+) -> Result<Parameters, Refused>
+    ensures { Judges (spec.typed_parameters modules.now levels scope.now so_far x.now) result }
+{
+    let of = formal_type(alloc, modules, scope, &so_far.block, levels, x.of.get())?;
+    parameters_of(alloc, &of, so_far, x)
+}
+
 /// Parameters of one type.
 #[tactic(auto, unfolding(crate::specs::Headings::section_rule))]
 fn section(
@@ -163,14 +221,8 @@ fn section(
 ) -> Result<Parameters, Refused>
     ensures { Judges (spec.section_rule modules.now levels scope.now so_far x.now) result }
 {
-    let of = formal_type(alloc, modules, scope, levels, x.of.get())?;
-    all_parameters(
-        alloc,
-        x.by_reference.is_some(),
-        &of,
-        so_far,
-        x.names.as_slice(),
-    )
+    let _names = parameter_names(alloc, &so_far.block, x.names.as_slice())?;
+    typed_parameters(alloc, modules, levels, scope, so_far, x)
 }
 
 fn sections(
@@ -202,20 +254,21 @@ fn basic_of(of: &ObType, span: Span) -> Result<Basic, Refused>
     }
 }
 
-/// The type of the result, if there is one.
+/// The type of the result behind these parameters, if there is one.
 #[tactic(auto, unfolding(crate::specs::Headings::result_rule))]
 fn result_type(
     alloc: Global,
     modules: &Imports,
     scope: &Scope,
+    parameters: &Block,
     name: &Option<Qualident>,
 ) -> Result<Option<Basic>, Refused>
-    ensures { Judges (spec.result_rule modules.now scope.now name.now) result }
+    ensures { Judges (spec.result_rule modules.now (in_heading scope.now parameters.now) name.now) result }
 {
     match name {
         None => Ok(None),
         Some(name) => {
-            let of = type_named(alloc, modules, scope, name)?;
+            let of = type_in_heading(alloc, modules, scope, parameters, name)?;
             let basic = basic_of(&of, name.first.span)?;
             Ok(Some(basic))
         }
@@ -233,7 +286,7 @@ fn formals(
     ensures { Judges (spec.formals_rule modules.now levels scope.now formals.now) result }
 {
     let parameters = sections(alloc, modules, levels, scope, formals.sections.as_slice())?;
-    let result_type = result_type(alloc, modules, scope, &formals.result)?;
+    let result_type = result_type(alloc, modules, scope, &parameters.block, &formals.result)?;
     Ok(Heading {
         signature: Signature {
             formals: parameters.formals,

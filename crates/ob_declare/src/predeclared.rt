@@ -235,3 +235,23 @@ pub fn output_named(name: &Text) -> OutputName
         OutputName::Unknown
     }
 }
+
+/// Whether In exports it.
+pub fn is_input(name: InputName) -> bool
+    ensures { result ≡ spec.is_input name }
+{
+    match name {
+        InputName::Unknown => false,
+        _ => true,
+    }
+}
+
+/// Whether Out exports it.
+pub fn is_output(name: OutputName) -> bool
+    ensures { result ≡ spec.is_output name }
+{
+    match name {
+        OutputName::Unknown => false,
+        _ => true,
+    }
+}

@@ -1,6 +1,6 @@
 //! What is seen at a place of a module.
 
-ghost use Rattle.std.specs.Prelude.{◌≡◌, ◌+◌, reverse, None, Some, length, OnOk, IfOk, option_copied};
+ghost use Rattle.std.specs.Prelude.{◌≡◌, ◌+◌, ◌∷◌, reverse, None, Some, length, OnOk, IfOk, option_copied};
 ghost use Rattle.ob_declare.specs.Block.{find};
 ghost use Rattle.ob_declare.specs.Scope as spec;
 ghost use Rattle.ob_declare.specs.Stack.{is_empty};
@@ -9,7 +9,7 @@ use crate::block::{Block, Entry, Standing};
 use crate::predeclared::{Predeclared, predeclared_named};
 use crate::stack::Stack;
 use ob_base::{Items, Text};
-use ob_mean::whole::Variable;
+use ob_mean::Variable;
 use ob_types::RecordName;
 use std::alloc::{AllocError, Global};
 
@@ -129,6 +129,42 @@ impl Scope {
         match nearest(self.around.as_slice(), name) {
             Some(_) => Predeclared::Unknown,
             None => predeclared_named(name),
+        }
+    }
+
+    /// What a name stands for in a heading, behind these parameters.
+    #[tactic(auto, unfolding(crate::specs::Scope::seen, crate::specs::Scope::in_heading))]
+    pub(crate) fn seen_in_heading<'a>(
+        &'a self,
+        parameters: &'a Block,
+        name: &Text,
+    ) -> Option<&'a Entry>
+        ensures { option_copied result ≡ spec.seen (spec.in_heading self.now parameters.now) name.now }
+    {
+        match parameters.find(name) {
+            Some(entry) => Some(entry),
+            None => seen_inside(self.declared(name)),
+        }
+    }
+
+    /// What a name that stands for nothing in a heading is before any module.
+    #[tactic(auto, unfolding(crate::specs::Scope::outer, crate::specs::Scope::in_heading))]
+    pub(crate) fn outer_in_heading(&self, parameters: &Block, name: &Text) -> Predeclared
+        ensures { result ≡ spec.outer (spec.in_heading self.now parameters.now) name.now }
+    {
+        match self.declared(name) {
+            Some(_) => Predeclared::Unknown,
+            None => predeclared_named(name),
+        }
+    }
+
+    /// The nearest declaration of a name in the innermost block and those round it.
+    fn declared(&self, name: &Text) -> Option<&Entry>
+        ensures { option_copied result ≡ spec.nearest (self.now.block ∷ self.now.around) name.now }
+    {
+        match self.block.find(name) {
+            Some(entry) => Some(entry),
+            None => nearest(self.around.as_slice(), name),
         }
     }
 

@@ -1,7 +1,7 @@
 //! Strings as they are compared.
 
 ghost use Rattle.std.specs.Prelude.{◌≡◌};
-ghost use Rattle.ob_mean.specs.whole.Texts as spec;
+ghost use Rattle.ob_mean.specs.Texts as spec;
 
 /// The characters before the first 0X, or all of them.
 pub fn before_zero(text: &[u8]) -> &[u8]

@@ -2,14 +2,15 @@
 
 ghost use Rattle.std.specs.Prelude.{◌≡◌, ◌<◌, ◌++◌, [], length, map, reverse, option_copied, IfOk};
 ghost use Rattle.ob_declare.specs.Rule.{Judges, through};
+ghost use Rattle.ob_declare.specs.Scope.{in_heading};
 ghost use Rattle.ob_declare.specs.WrittenTypes as spec;
 
-use crate::block::Entry;
+use crate::block::{Block, Entry};
 use crate::constant::constant;
 use crate::fault::{fault, open};
 use crate::imports::Imports;
 use crate::names::Names;
-use crate::predeclared::{InputName, OutputName, Predeclared, absent, input_named, output_named};
+use crate::predeclared::{Predeclared, absent, input_named, is_input, is_output, output_named};
 use crate::scope::Scope;
 use ob_base::{Boxed, Code, Items, Refused};
 use ob_parse::tree::{Expr, Ident, IdentDef, Qualident, TypeExpr, TypedNames};
@@ -73,31 +74,14 @@ fn object_type(alloc: Global, object: &Object, span: Span) -> Result<ObType, Ref
     }
 }
 
-fn no_type(unknown: bool) -> Code
-    ensures { result ≡ spec.no_type unknown }
+/// What is broken where a name of In or Out has to stand for a type.
+fn no_type(exported: bool) -> Code
+    ensures { result ≡ spec.no_type exported }
 {
-    if unknown {
-        Code::NotExported
-    } else {
+    if exported {
         Code::Types
-    }
-}
-
-fn is_unknown_input(name: InputName) -> bool
-    ensures { result ≡ spec.is_unknown_input name }
-{
-    match name {
-        InputName::Unknown => true,
-        _ => false,
-    }
-}
-
-fn is_unknown_output(name: OutputName) -> bool
-    ensures { result ≡ spec.is_unknown_output name }
-{
-    match name {
-        OutputName::Unknown => true,
-        _ => false,
+    } else {
+        Code::NotExported
     }
 }
 
@@ -119,11 +103,11 @@ fn other_type(
             None => Err(Refused::Fault(fault(Code::NotExported, name.span))),
         },
         Some(Entry::In) => {
-            let code = no_type(is_unknown_input(input_named(&name.name)));
+            let code = no_type(is_input(input_named(&name.name)));
             Err(Refused::Fault(fault(code, name.span)))
         }
         Some(Entry::Out) => {
-            let code = no_type(is_unknown_output(output_named(&name.name)));
+            let code = no_type(is_output(output_named(&name.name)));
             Err(Refused::Fault(fault(code, name.span)))
         }
         Some(_) => Err(Refused::Fault(fault(Code::Types, first))),
@@ -131,10 +115,28 @@ fn other_type(
     }
 }
 
+/// The type that a name stands for, by what its first part stands for.
+#[tactic(auto, unfolding(crate::specs::WrittenTypes::qualified))]
+fn qualified(
+    alloc: Global,
+    modules: &Imports,
+    entry: Option<&Entry>,
+    predeclared: Predeclared,
+    name: &Qualident,
+) -> Result<ObType, Refused>
+    ensures { Judges (spec.qualified modules.now (option_copied entry.entry) predeclared name.now.second) result }
+{
+    let first = name.first.span;
+    match &name.second {
+        None => own_type(alloc, entry, predeclared, first),
+        Some(second) => other_type(alloc, modules, entry, predeclared, first, second),
+    }
+}
+
 /// The type that a name stands for. 10 and 21 where nothing declares it, 12 where it is no type's, 18 where its module doesn't
 /// export it.
 #[tactic(auto, unfolding(crate::specs::WrittenTypes::type_named))]
-pub fn type_named(
+fn type_named(
     alloc: Global,
     modules: &Imports,
     scope: &Scope,
@@ -142,23 +144,29 @@ pub fn type_named(
 ) -> Result<ObType, Refused>
     ensures { Judges (spec.type_named modules.now scope.now name.now) result }
 {
-    let first = &name.first;
-    match &name.second {
-        None => own_type(
-            alloc,
-            scope.seen(&first.name),
-            scope.outer(&first.name),
-            first.span,
-        ),
-        Some(second) => other_type(
-            alloc,
-            modules,
-            scope.seen(&first.name),
-            scope.outer(&first.name),
-            first.span,
-            second,
-        ),
-    }
+    let first = &name.first.name;
+    qualified(alloc, modules, scope.seen(first), scope.outer(first), name)
+}
+
+/// The type that a name stands for in a heading, behind these parameters. The codes are those of any name of a type.
+#[tactic(auto, unfolding(crate::specs::WrittenTypes::type_named))]
+pub(crate) fn type_in_heading(
+    alloc: Global,
+    modules: &Imports,
+    scope: &Scope,
+    parameters: &Block,
+    name: &Qualident,
+) -> Result<ObType, Refused>
+    ensures { Judges (spec.type_named modules.now (in_heading scope.now parameters.now) name.now) result }
+{
+    let first = &name.first.name;
+    qualified(
+        alloc,
+        modules,
+        scope.seen_in_heading(parameters, first),
+        scope.outer_in_heading(parameters, first),
+        name,
+    )
 }
 
 /// The length that a constant is.
@@ -188,12 +196,11 @@ fn inner_constant(
     scope: &Scope,
     nesting: u32,
     e: &Expr,
-    span: Span,
 ) -> Result<Constant, Refused>
     ensures { Judges (spec.inner_constant modules.now scope.now nesting e.now) result }
 {
-    let inside = open(nesting, span)?;
-    constant(alloc, modules, scope, inside, e, span)
+    let inside = open(nesting, e.first_token())?;
+    constant(alloc, modules, scope, inside, e)
 }
 
 /// One length more.
@@ -205,13 +212,12 @@ fn next_length(
     nesting: u32,
     so_far: Items<u32>,
     e: &Expr,
-    span: Span,
 ) -> Result<Items<u32>, Refused>
     ensures { Judges (spec.next_length (spec.inner_constant modules.now scope.now nesting) so_far e.now) result }
 {
     let mut so_far = so_far;
-    let value = inner_constant(alloc, modules, scope, nesting, e, span)?;
-    let length = length_of(&value, span)?;
+    let value = inner_constant(alloc, modules, scope, nesting, e)?;
+    let length = length_of(&value, e.first_token())?;
     so_far.push(length)?;
     Ok(so_far)
 }
@@ -222,13 +228,12 @@ fn lengths_of(
     scope: &Scope,
     nesting: u32,
     list: &[Expr],
-    span: Span,
 ) -> Result<Items<u32>, Refused>
     ensures { Judges (through (spec.next_length (spec.inner_constant modules.now scope.now nesting)) [] list.now) result }
 {
     let mut so_far = Items::new(alloc);
     for e in list {
-        so_far = next_length(alloc, modules, scope, nesting, so_far, e, span)?;
+        so_far = next_length(alloc, modules, scope, nesting, so_far, e)?;
     }
     Ok(so_far)
 }
@@ -344,7 +349,7 @@ pub fn written_type(
             Ok(Written { of, records })
         }
         TypeExpr::Array(span, lengths, element) => {
-            let lengths = lengths_of(alloc, modules, scope, nesting, lengths.as_slice(), *span)?;
+            let lengths = lengths_of(alloc, modules, scope, nesting, lengths.as_slice())?;
             let element = inner_type(
                 alloc,
                 modules,

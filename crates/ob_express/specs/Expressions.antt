@@ -1,6 +1,6 @@
 -- Expressions, variables that are written, and actual parameters (Wirth, The Programming Language Oberon, Oberon-07). The
 -- number says how many more constructs may nest. The variables of the module grow by the strings that are passed and compared, from left to right.
-use Rattle.std.specs.Prelude.{ℕ, zero, suc, List, [], ◌∷◌, ◌++◌, Option, Some, None, is_some}
+use Rattle.std.specs.Prelude.{ℕ, zero, suc, List, [], ◌∷◌, ◌++◌, Bool, Option, Some, None, is_some}
 use Rattle.ob_base.specs.declared.fault.Code.TheVariants as code
 use Rattle.ob_scan.specs.declared.token.Span.{Span}
 use Rattle.ob_parse.specs.declared.tree.Sign.{Sign}
@@ -21,24 +21,24 @@ use Rattle.ob_types.specs.declared.exports.FormalKind.TheVariants as kind
 use Rattle.ob_types.specs.declared.structure.Basic.{Basic}
 use Rattle.ob_types.specs.declared.structure.Basic.TheVariants as basic
 use Rattle.ob_types.specs.declared.structure.ObType.{ObType}
-use Rattle.ob_mean.specs.declared.whole.expression.Argument.{Argument}
-use Rattle.ob_mean.specs.declared.whole.expression.Callee.{Callee}
-use Rattle.ob_mean.specs.declared.whole.expression.Designator.TheVariants as designator
-use Rattle.ob_mean.specs.declared.whole.expression.TypedExpr.{TypedExpr}
-use Rattle.ob_mean.specs.declared.whole.expression.TypedExpr.TheVariants as typed
+use Rattle.ob_mean.specs.declared.expression.Argument.{Argument}
+use Rattle.ob_mean.specs.declared.expression.Callee.{Callee}
+use Rattle.ob_mean.specs.declared.expression.Designator.TheVariants as designator
+use Rattle.ob_mean.specs.declared.expression.TypedExpr.{TypedExpr}
+use Rattle.ob_mean.specs.declared.expression.TypedExpr.TheVariants as typed
 use Rattle.ob_declare.specs.declared.predeclared.Function.{Function}
 use Rattle.ob_declare.specs.declared.scope.Scope.{Scope}
 use Rattle.ob_declare.specs.Constants.{FactorLayer}
 use Rattle.ob_declare.specs.Imports.{Modules}
-use Rattle.ob_declare.specs.Rule.{Rule, Given, Breaks, Then, there, through}
+use Rattle.ob_declare.specs.Rule.{Rule, Given, Breaks, Then, Needs, there, through}
 use Rattle.ob_express.specs.declared.operand.Operand.{Operand}
 use Rattle.ob_express.specs.declared.operand.Operand.TheVariants as operand
 use Rattle.ob_express.specs.declared.joining.Joined.{Joined}
 use Rattle.ob_express.specs.declared.joining.Joined.TheVariants as joined
 use Rattle.ob_express.specs.Operands.{Variables, number_of, truth_of, value_for, truth_number, operand_of_constant, operand_of_variable}
-use Rattle.ob_express.specs.Joining.{add_joining, mul_joining, with_operand, sum_of, product_of, signed, negated}
-use Rattle.ob_express.specs.Relations.{relation_of, related}
-use Rattle.ob_express.specs.Functions.{one_of, two_of}
+use Rattle.ob_express.specs.Joining.{add_joining, mul_joining, may_join, with_operand, sum_of, product_of, signed, negated}
+use Rattle.ob_express.specs.Relations.{relation_of, may_relate, related}
+use Rattle.ob_express.specs.Functions.{takes, shift_of, one_of, two_of}
 use Rattle.ob_express.specs.Selecting.{Selected, selected, indexed}
 use Rattle.ob_express.specs.Named.{Meant, Callable, Writable}
 use Rattle.ob_express.specs.Named as meaning
@@ -97,14 +97,24 @@ module _ (inner : Variables → Expr → Rule Typed) (s : Scope) where
   target_rule ms vs d =
       Then (written_at ms s d) (λ w. through (selected inner s) (w.0, designator.Whole w.1, vs) w.2)
 
--- functions that are declared before any module, of one value and of two
+-- Functions that are declared before any module, of one value and of two. Their actual parameters are judged from left to
+-- right, and their number behind them.
 module _ (inner : Variables → Expr → Rule Typed) where
+  -- behind two values nothing may stand
+  unfoldable pub two_taken : Function → ℕ → Operand → Typed → List Expr → Rule Typed
+  two_taken f line v w [] = Then (two_of f line v w.0) (λ x. Given (x, w.1))
+  two_taken f line v w (c ∷ cs) = Breaks code.Parameters
+
+  -- behind the first value, which may be written as a variable alone, a shift takes another
+  unfoldable pub one_taken : Function → ℕ → Bool → Typed → List Expr → Rule Typed
+  one_taken f line alone v [] = Then (there (one_of f line alone v.0) code.Parameters) (λ x. Given (x, v.1))
+  one_taken f line alone v (b ∷ bs) =
+      Needs (is_some (shift_of f)) code.Parameters (Then (inner v.1 b) (λ w. two_taken f line v.0 w bs))
+
   unfoldable pub predeclared_rule : Function → ℕ → Variables → List Expr → Rule Typed
-  predeclared_rule f line vs (a ∷ []) =
-      Then (inner vs a) (λ v. Then (there (one_of f line (is_some (alone a)) v.0) code.Parameters) (λ x. Given (x, v.1)))
-  predeclared_rule f line vs (a ∷ b ∷ []) =
-      Then (inner vs a) (λ v. Then (inner v.1 b) (λ w. Then (two_of f line v.0 w.0) (λ x. Given (x, w.1))))
-  predeclared_rule f line vs es = Breaks code.Parameters
+  predeclared_rule f line vs [] = Breaks code.Parameters
+  predeclared_rule f line vs (a ∷ bs) =
+      Then (inner vs a) (λ v. Needs (takes f (is_some (alone a)) v.0) code.Parameters (one_taken f line (is_some (alone a)) v bs))
 
 -- what is passed so far, and the formal parameters that are left
 abbrev pub Passing : Type 0
@@ -156,11 +166,12 @@ module _ (inner : Variables → Expr → Rule Typed) (deeper : Variables → Fac
   unfoldable pub factor_rule : Variables → Factor → Rule Typed
   factor_rule vs f = factor_layer vs (out-Factor f)
 
-  -- one factor more
+  -- one factor more: what stands before the operator is judged before what stands behind it
   unfoldable pub next_factor : Joining → NextFactor → Rule Joining
   next_factor v x =
+      Needs (may_join (mul_joining (out-NextFactor x).operator) v.0) code.Types (
       Then (factor_rule v.1 (out-NextFactor x).factor) (λ w.
-      Then (with_operand (mul_joining (out-NextFactor x).operator) (out-NextFactor x).span.line v.0 w.0) (λ j. Given (j, w.1)))
+      Then (with_operand (mul_joining (out-NextFactor x).operator) (out-NextFactor x).span.line v.0 w.0) (λ j. Given (j, w.1))))
 
   unfoldable pub term_rule : Variables → Term → Rule Typed
   term_rule vs t =
@@ -170,8 +181,9 @@ module _ (inner : Variables → Expr → Rule Typed) (deeper : Variables → Fac
   -- one term more
   unfoldable pub added_term : Joining → AddedTerm → Rule Joining
   added_term v x =
+      Needs (may_join (add_joining (out-AddedTerm x).operator) v.0) code.Types (
       Then (term_rule v.1 (out-AddedTerm x).term) (λ w.
-      Then (with_operand (add_joining (out-AddedTerm x).operator) (out-AddedTerm x).span.line v.0 w.0) (λ j. Given (j, w.1)))
+      Then (with_operand (add_joining (out-AddedTerm x).operator) (out-AddedTerm x).span.line v.0 w.0) (λ j. Given (j, w.1))))
 
   unfoldable pub simple_rule : Variables → Simple → Rule Typed
   simple_rule vs x =
@@ -183,8 +195,9 @@ module _ (inner : Variables → Expr → Rule Typed) (deeper : Variables → Fac
   unfoldable pub related_rule : Typed → Option Related → Rule Typed
   related_rule v None = Given v
   related_rule v (Some r) =
+      Needs (may_relate (relation_of (out-Related r).relation) v.0) code.Types (
       Then (simple_rule v.1 (out-Related r).simple) (λ w.
-      related (relation_of (out-Related r).relation) (out-Related r).span.line w.1 v.0 w.0)
+      related (relation_of (out-Related r).relation) (out-Related r).span.line w.1 v.0 w.0))
 
   unfoldable pub expr_rule : Variables → Expr → Rule Typed
   expr_rule vs e = Then (simple_rule vs (out-Expr e).left) (λ v. related_rule v (out-Expr e).right)
@@ -242,6 +255,9 @@ indexed_at ms s n = indexed (inner_at ms s n)
 
 abbrev pub meant_at : Modules → Scope → ℕ → Meant → Variables → Rule Typed
 meant_at ms s n = meant_rule (inner_at ms s n) s
+
+abbrev pub one_taken_at : Modules → Scope → ℕ → Function → ℕ → Bool → Typed → List Expr → Rule Typed
+one_taken_at ms s n = one_taken (inner_at ms s n)
 
 abbrev pub predeclared_at : Modules → Scope → ℕ → Function → ℕ → Variables → List Expr → Rule Typed
 predeclared_at ms s n = predeclared_rule (inner_at ms s n)

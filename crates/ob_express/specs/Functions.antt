@@ -1,16 +1,16 @@
 -- The functions that are declared before any module (Wirth, The Programming Language Oberon, Oberon-07).
-use Rattle.std.specs.Prelude.{ℕ, [], ◌∷◌, Bool, true, false, Option, Some, None, option_map, if◌then◌else◌}
+use Rattle.std.specs.Prelude.{ℕ, [], ◌∷◌, Bool, true, false, Option, Some, None, is_some, option_map, if◌then◌else◌}
 use Rattle.ob_base.specs.declared.fault.Code.TheVariants as code
 use Rattle.ob_types.specs.declared.structure.Basic.{Basic}
 use Rattle.ob_types.specs.declared.structure.Basic.TheVariants as basic
 use Rattle.ob_types.specs.declared.structure.ObType.{ObType, out-ObType}
 use Rattle.ob_types.specs.declared.structure.ObType.TheOpen.{ObType-F}
-use Rattle.ob_mean.specs.declared.whole.expression.TypedExpr.{TypedExpr}
-use Rattle.ob_mean.specs.declared.whole.expression.TypedExpr.TheVariants as typed
-use Rattle.ob_mean.specs.declared.whole.operator.Operator.{Operator}
-use Rattle.ob_mean.specs.declared.whole.operator.Operator.TheVariants as operator
-use Rattle.ob_mean.specs.declared.whole.operator.UnaryOperator.{UnaryOperator}
-use Rattle.ob_mean.specs.declared.whole.operator.UnaryOperator.TheVariants as one
+use Rattle.ob_mean.specs.declared.expression.TypedExpr.{TypedExpr}
+use Rattle.ob_mean.specs.declared.expression.TypedExpr.TheVariants as typed
+use Rattle.ob_mean.specs.declared.operator.Operator.{Operator}
+use Rattle.ob_mean.specs.declared.operator.Operator.TheVariants as operator
+use Rattle.ob_mean.specs.declared.operator.UnaryOperator.{UnaryOperator}
+use Rattle.ob_mean.specs.declared.operator.UnaryOperator.TheVariants as one
 use Rattle.ob_declare.specs.declared.predeclared.Function.{Function}
 use Rattle.ob_declare.specs.declared.predeclared.Function.TheVariants as function
 use Rattle.ob_declare.specs.Rule.{Rule, Given, Then, there}
@@ -47,6 +47,17 @@ length_of true (operand.Place t d) = if is_array t then Some (operand.Value basi
 
 abbrev pub unary : Basic → UnaryOperator → ℕ → Option TypedExpr → Option Operand
 unary b op line x = option_map (λ y. operand.Value b (typed.Unary op line y)) x
+
+-- whether a function takes this value first, and whether that is written as a variable alone
+abbrev pub takes : Function → Bool → Operand → Bool
+takes function.Ord alone v = is_some (ordinal_of v)
+takes function.Len alone v = is_some (length_of alone v)
+takes function.Abs alone v = is_some (number_of v)
+takes function.Odd alone v = is_some (number_of v)
+takes function.Chr alone v = is_some (number_of v)
+takes function.Lsl alone v = is_some (number_of v)
+takes function.Asr alone v = is_some (number_of v)
+takes function.Ror alone v = is_some (number_of v)
 
 -- A function of one value, and whether that is written as a variable alone. A trap names the line of the function's name.
 abbrev pub one_of : Function → ℕ → Bool → Operand → Option Operand

@@ -1,6 +1,6 @@
 -- Signs, sums and products (Wirth, The Programming Language Oberon, Oberon-07). Operands that operators of one kind join
 -- stand in one list: a tree is no deeper for a longer sum.
-use Rattle.std.specs.Prelude.{ℕ, [], ◌∷◌, ◌++◌, Option, Some, None}
+use Rattle.std.specs.Prelude.{ℕ, [], ◌∷◌, ◌++◌, Bool, true, false, Option, Some, None, is_some}
 use Rattle.ob_base.specs.declared.fault.Code.TheVariants as code
 use Rattle.ob_scan.specs.declared.token.Span.{Span}
 use Rattle.ob_parse.specs.declared.tree.Sign.{Sign}
@@ -10,12 +10,12 @@ use Rattle.ob_parse.specs.declared.tree.AddOperator.TheVariants as add
 use Rattle.ob_parse.specs.declared.tree.MulOperator.{MulOperator}
 use Rattle.ob_parse.specs.declared.tree.MulOperator.TheVariants as mul
 use Rattle.ob_types.specs.declared.structure.Basic.TheVariants as basic
-use Rattle.ob_mean.specs.declared.whole.expression.Operation.{Operation}
-use Rattle.ob_mean.specs.declared.whole.expression.TypedExpr.{TypedExpr}
-use Rattle.ob_mean.specs.declared.whole.expression.TypedExpr.TheVariants as typed
-use Rattle.ob_mean.specs.declared.whole.operator.Operator.{Operator}
-use Rattle.ob_mean.specs.declared.whole.operator.Operator.TheVariants as operator
-use Rattle.ob_mean.specs.declared.whole.operator.UnaryOperator.TheVariants as one
+use Rattle.ob_mean.specs.declared.expression.Operation.{Operation}
+use Rattle.ob_mean.specs.declared.expression.TypedExpr.{TypedExpr}
+use Rattle.ob_mean.specs.declared.expression.TypedExpr.TheVariants as typed
+use Rattle.ob_mean.specs.declared.operator.Operator.{Operator}
+use Rattle.ob_mean.specs.declared.operator.Operator.TheVariants as operator
+use Rattle.ob_mean.specs.declared.operator.UnaryOperator.TheVariants as one
 use Rattle.ob_declare.specs.Rule.{Rule, Given, Breaks, Then, there}
 use Rattle.ob_express.specs.declared.operand.Operand.{Operand}
 use Rattle.ob_express.specs.declared.operand.Operand.TheVariants as operand
@@ -40,6 +40,15 @@ mul_joining mul.And = joining.Truths
 -- an operator, the line that its trap names, and its second operand
 abbrev pub operation : Operator → ℕ → TypedExpr → Operation
 operation op line y = record { operator = op; line = line; operand = y }
+
+-- whether what is joined so far may stand before an operator
+abbrev pub may_join : Joining → Joined → Bool
+may_join (joining.Numbers op) (joined.One v) = is_some (number_of v)
+may_join (joining.Numbers op) (joined.Numbers x steps) = true
+may_join (joining.Numbers op) (joined.Truths xs) = false
+may_join joining.Truths (joined.One v) = is_some (truth_of v)
+may_join joining.Truths (joined.Numbers x steps) = false
+may_join joining.Truths (joined.Truths xs) = true
 
 -- one number more
 unfoldable pub with_number : Operator → ℕ → Joined → TypedExpr → Rule Joined

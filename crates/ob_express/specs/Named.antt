@@ -4,8 +4,8 @@ use Rattle.ob_parse.specs.declared.tree.Selector.{Selector}
 use Rattle.ob_types.specs.declared.exports.Constant.{Constant as Value}
 use Rattle.ob_types.specs.declared.exports.Signature.{Signature}
 use Rattle.ob_types.specs.declared.structure.ObType.{ObType}
-use Rattle.ob_mean.specs.declared.whole.expression.Callee.{Callee}
-use Rattle.ob_mean.specs.declared.whole.expression.Variable.{Variable as Numbered}
+use Rattle.ob_mean.specs.declared.expression.Callee.{Callee}
+use Rattle.ob_mean.specs.declared.expression.Variable.{Variable as Numbered}
 use Rattle.ob_declare.specs.declared.predeclared.Function.{Function as Computing}
 use Rattle.ob_declare.specs.declared.predeclared.InputName.{InputName}
 use Rattle.ob_declare.specs.declared.predeclared.OutputName.{OutputName}

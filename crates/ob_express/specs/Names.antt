@@ -8,8 +8,8 @@ use Rattle.ob_parse.specs.declared.tree.Selector.{Selector, out-Selector}
 use Rattle.ob_parse.specs.declared.tree.Factor.TheOpen.{Selector-F}
 use Rattle.ob_types.specs.declared.exports.Object.{Object}
 use Rattle.ob_types.specs.declared.exports.Object.TheVariants as object
-use Rattle.ob_mean.specs.declared.whole.expression.Callee.TheVariants as callee
-use Rattle.ob_mean.specs.declared.whole.expression.Variable.TheVariants as variable
+use Rattle.ob_mean.specs.declared.expression.Callee.TheVariants as callee
+use Rattle.ob_mean.specs.declared.expression.Variable.TheVariants as variable
 use Rattle.ob_declare.specs.declared.block.Entry.{Entry}
 use Rattle.ob_declare.specs.declared.block.Entry.TheVariants as entry
 use Rattle.ob_declare.specs.declared.predeclared.InputName.{InputName}
@@ -21,7 +21,7 @@ use Rattle.ob_declare.specs.declared.predeclared.Predeclared.TheVariants as pred
 use Rattle.ob_declare.specs.declared.scope.Scope.{Scope}
 use Rattle.ob_declare.specs.Constants.{SelectorLayer}
 use Rattle.ob_declare.specs.Imports.{Modules, exported_at, variable_number, procedure_number}
-use Rattle.ob_declare.specs.Predeclared.{absent, input_named, output_named}
+use Rattle.ob_declare.specs.Predeclared.{absent, input_named, output_named, is_input, is_output}
 use Rattle.ob_declare.specs.Rule.{Rule, Given, Breaks, Then, Needs, there}
 use Rattle.ob_declare.specs.Scope.{seen, outer, variable_of, is_writable}
 use Rattle.ob_express.specs.Named.{Meant, Callable, Writable}
@@ -103,14 +103,6 @@ abbrev pub unwritten : Bool → Code
 unwritten true = code.ReadOnly
 unwritten false = code.NotExported
 
-abbrev pub is_input : InputName → Bool
-is_input input.Unknown = false
-is_input _ = true
-
-abbrev pub is_output : OutputName → Bool
-is_output output.Unknown = false
-is_output _ = true
-
 abbrev pub is_object : Option Object → Bool
 is_object None = false
 is_object (Some o) = true
@@ -162,50 +154,55 @@ predeclared_called (predeclared.Function f) [] = Given (meaning.Function f)
 predeclared_called (predeclared.Procedure p) [] = Given (meaning.Proper p)
 predeclared_called p xs = Breaks (absent p)
 
+-- what stands behind a procedure is no part of it
+abbrev pub whole : Callable → List Selector → Rule Callable
+whole c [] = Given c
+whole c (x ∷ xs) = Breaks code.Types
+
 -- In.Done is no procedure
-unfoldable pub input_called : InputName → Rule Callable
-input_called input.Unknown = Breaks code.NotExported
-input_called input.Done = Breaks code.Types
-input_called i = Given (meaning.Input i)
+unfoldable pub input_called : InputName → List Selector → Rule Callable
+input_called input.Unknown xs = Breaks code.NotExported
+input_called input.Done xs = Breaks code.Types
+input_called i xs = whole (meaning.Input i) xs
 
-unfoldable pub output_called : OutputName → Rule Callable
-output_called output.Unknown = Breaks code.NotExported
-output_called o = Given (meaning.Output o)
+unfoldable pub output_called : OutputName → List Selector → Rule Callable
+output_called output.Unknown xs = Breaks code.NotExported
+output_called o xs = whole (meaning.Output o) xs
 
-unfoldable pub object_called : ℕ → ℕ → Object → Rule Callable
-object_called i number (object.Procedure p) = Given (meaning.Procedure p (callee.OfImport i number))
-object_called i number (object.Constant c) = Breaks code.Types
-object_called i number (object.Variable t) = Breaks code.Types
-object_called i number (object.TypeName t) = Breaks code.Types
+unfoldable pub object_called : ℕ → ℕ → Object → List Selector → Rule Callable
+object_called i number (object.Procedure p) xs = whole (meaning.Procedure p (callee.OfImport i number)) xs
+object_called i number (object.Constant c) xs = Breaks code.Types
+object_called i number (object.Variable t) xs = Breaks code.Types
+object_called i number (object.TypeName t) xs = Breaks code.Types
 
-abbrev pub member_called_layer : Modules → ℕ → ℕ → SelectorLayer → Rule Callable
-member_called_layer ms i place (Selector-F.Field f) =
-    Then (there (exported_at ms place f.name) code.NotExported) (λ o. object_called i (procedure_number ms place f.name) o)
-member_called_layer ms i place (Selector-F.Index es) = Breaks code.Types
+abbrev pub member_called_layer : Modules → ℕ → ℕ → SelectorLayer → List Selector → Rule Callable
+member_called_layer ms i place (Selector-F.Field f) xs =
+    Then (there (exported_at ms place f.name) code.NotExported) (λ o. object_called i (procedure_number ms place f.name) o xs)
+member_called_layer ms i place (Selector-F.Index es) xs = Breaks code.Types
 
-unfoldable pub member_called : Modules → ℕ → ℕ → Selector → Rule Callable
-member_called ms i place x = member_called_layer ms i place (out-Selector x)
+unfoldable pub member_called : Modules → ℕ → ℕ → Selector → List Selector → Rule Callable
+member_called ms i place x xs = member_called_layer ms i place (out-Selector x) xs
 
-abbrev pub input_call_layer : SelectorLayer → Rule Callable
-input_call_layer (Selector-F.Field f) = input_called (input_named f.name)
-input_call_layer (Selector-F.Index es) = Breaks code.Types
+abbrev pub input_call_layer : SelectorLayer → List Selector → Rule Callable
+input_call_layer (Selector-F.Field f) xs = input_called (input_named f.name) xs
+input_call_layer (Selector-F.Index es) xs = Breaks code.Types
 
-abbrev pub output_call_layer : SelectorLayer → Rule Callable
-output_call_layer (Selector-F.Field f) = output_called (output_named f.name)
-output_call_layer (Selector-F.Index es) = Breaks code.Types
+abbrev pub output_call_layer : SelectorLayer → List Selector → Rule Callable
+output_call_layer (Selector-F.Field f) xs = output_called (output_named f.name) xs
+output_call_layer (Selector-F.Index es) xs = Breaks code.Types
 
-unfoldable pub input_call : Selector → Rule Callable
-input_call x = input_call_layer (out-Selector x)
+unfoldable pub input_call : Selector → List Selector → Rule Callable
+input_call x xs = input_call_layer (out-Selector x) xs
 
-unfoldable pub output_call : Selector → Rule Callable
-output_call x = output_call_layer (out-Selector x)
+unfoldable pub output_call : Selector → List Selector → Rule Callable
+output_call x xs = output_call_layer (out-Selector x) xs
 
 -- what is no procedure is not called
 unfoldable pub entry_called : Modules → Entry → List Selector → Rule Callable
 entry_called ms (entry.Procedure p n) [] = Given (meaning.Procedure p (callee.OfModule n))
-entry_called ms (entry.Module i place) (x ∷ []) = member_called ms i place x
-entry_called ms entry.In (x ∷ []) = input_call x
-entry_called ms entry.Out (x ∷ []) = output_call x
+entry_called ms (entry.Module i place) (x ∷ xs) = member_called ms i place x xs
+entry_called ms entry.In (x ∷ xs) = input_call x xs
+entry_called ms entry.Out (x ∷ xs) = output_call x xs
 entry_called ms e xs = Breaks code.Types
 
 unfoldable pub name_called : Modules → Option Entry → Predeclared → List Selector → Rule Callable

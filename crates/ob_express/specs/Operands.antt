@@ -10,14 +10,14 @@ use Rattle.ob_types.specs.declared.structure.RecordType.{RecordType}
 use Rattle.ob_types.specs.declared.structure.ObType.{ObType, out-ObType}
 use Rattle.ob_types.specs.declared.structure.ObType.TheOpen.{ObType-F}
 use Rattle.ob_types.specs.Types.{is_char}
-use Rattle.ob_mean.specs.declared.whole.expression.Designator.{Designator}
-use Rattle.ob_mean.specs.declared.whole.expression.Designator.TheVariants as designator
-use Rattle.ob_mean.specs.declared.whole.expression.TypedExpr.{TypedExpr}
-use Rattle.ob_mean.specs.declared.whole.expression.TypedExpr.TheVariants as typed
-use Rattle.ob_mean.specs.declared.whole.expression.Variable.TheVariants as variable
-use Rattle.ob_mean.specs.declared.whole.module.ModuleVariable.{ModuleVariable}
-use Rattle.ob_mean.specs.declared.whole.module.ModuleVariable.TheVariants as module_variable
-use Rattle.ob_mean.specs.declared.whole.operator.UnaryOperator.TheVariants as one
+use Rattle.ob_mean.specs.declared.expression.Designator.{Designator}
+use Rattle.ob_mean.specs.declared.expression.Designator.TheVariants as designator
+use Rattle.ob_mean.specs.declared.expression.TypedExpr.{TypedExpr}
+use Rattle.ob_mean.specs.declared.expression.TypedExpr.TheVariants as typed
+use Rattle.ob_mean.specs.declared.expression.Variable.TheVariants as variable
+use Rattle.ob_mean.specs.declared.module.ModuleVariable.{ModuleVariable}
+use Rattle.ob_mean.specs.declared.module.ModuleVariable.TheVariants as module_variable
+use Rattle.ob_mean.specs.declared.operator.UnaryOperator.TheVariants as one
 use Rattle.ob_declare.specs.Rule.{Rule, Given, Breaks, Needs}
 use Rattle.ob_express.specs.declared.operand.Operand.{Operand}
 use Rattle.ob_express.specs.declared.operand.Operand.TheVariants as operand

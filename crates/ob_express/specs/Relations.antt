@@ -6,15 +6,15 @@ use Rattle.ob_parse.specs.declared.tree.Relation.{Relation as Written}
 use Rattle.ob_parse.specs.declared.tree.Relation.TheVariants as written
 use Rattle.ob_types.specs.declared.structure.Basic.{Basic}
 use Rattle.ob_types.specs.declared.structure.Basic.TheVariants as basic
-use Rattle.ob_mean.specs.declared.whole.expression.TypedExpr.{TypedExpr}
-use Rattle.ob_mean.specs.declared.whole.expression.TypedExpr.TheVariants as typed
-use Rattle.ob_mean.specs.declared.whole.operator.Operator.TheVariants as operator
-use Rattle.ob_mean.specs.declared.whole.operator.Relation.{Relation}
-use Rattle.ob_mean.specs.declared.whole.operator.Relation.TheVariants as relation
+use Rattle.ob_mean.specs.declared.expression.TypedExpr.{TypedExpr}
+use Rattle.ob_mean.specs.declared.expression.TypedExpr.TheVariants as typed
+use Rattle.ob_mean.specs.declared.operator.Operator.TheVariants as operator
+use Rattle.ob_mean.specs.declared.operator.Relation.{Relation}
+use Rattle.ob_mean.specs.declared.operator.Relation.TheVariants as relation
 use Rattle.ob_declare.specs.Rule.{Rule, Given, Breaks, Then, Needs, there}
 use Rattle.ob_express.specs.declared.operand.Operand.{Operand}
 use Rattle.ob_express.specs.declared.operand.Operand.TheVariants as operand
-use Rattle.ob_express.specs.Operands.{Variables, character_of, text_place}
+use Rattle.ob_express.specs.Operands.{Variables, character_of, is_text, text_place}
 use Rattle.ob_express.specs.Joining.{operation}
 
 abbrev pub relation_of : Written → Relation
@@ -57,6 +57,19 @@ are_related r basic.Integer c = is_number c
 are_related r basic.Byte c = is_number c
 are_related r basic.Char c = is_character c
 are_related r basic.Boolean c = is_truth c && is_equality r
+
+-- whether a value of a type may stand before a relation
+abbrev pub may_relate_basic : Relation → Basic → Bool
+may_relate_basic r basic.Boolean = is_equality r
+may_relate_basic r basic.Integer = true
+may_relate_basic r basic.Byte = true
+may_relate_basic r basic.Char = true
+
+-- whether an operand may
+abbrev pub may_relate : Relation → Operand → Bool
+may_relate r (operand.Value b x) = may_relate_basic r b
+may_relate r (operand.Text t) = true
+may_relate r (operand.Place t d) = is_text t
 
 -- whether a relation of two values holds
 abbrev pub compared : Relation → ℕ → TypedExpr → TypedExpr → Operand

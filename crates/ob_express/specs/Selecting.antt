@@ -12,8 +12,8 @@ use Rattle.ob_types.specs.declared.structure.Field.{Field}
 use Rattle.ob_types.specs.declared.structure.RecordType.{RecordType, out-RecordType}
 use Rattle.ob_types.specs.declared.structure.ObType.{ObType, out-ObType}
 use Rattle.ob_types.specs.declared.structure.ObType.TheOpen.{ObType-F}
-use Rattle.ob_mean.specs.declared.whole.expression.Designator.{Designator}
-use Rattle.ob_mean.specs.declared.whole.expression.Designator.TheVariants as designator
+use Rattle.ob_mean.specs.declared.expression.Designator.{Designator}
+use Rattle.ob_mean.specs.declared.expression.Designator.TheVariants as designator
 use Rattle.ob_declare.specs.declared.scope.Scope.{Scope}
 use Rattle.ob_declare.specs.Constants.{SelectorLayer}
 use Rattle.ob_declare.specs.Rule.{Rule, Given, Breaks, Then, Needs, there, through}

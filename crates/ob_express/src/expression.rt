@@ -8,9 +8,9 @@ ghost use Rattle.ob_express.specs.Named.{meant, callable};
 ghost use Rattle.ob_express.specs.Selecting as selecting;
 ghost use Rattle.ob_express.specs.Expressions as spec;
 
-use crate::functions::{one_of, two_of};
+use crate::functions::{one_of, shift_of, takes, two_of};
 use crate::joining::{
-    Joined, add_joining, mul_joining, negated, product_of, signed, sum_of, with_operand,
+    Joined, add_joining, may_join, mul_joining, negated, product_of, signed, sum_of, with_operand,
 };
 use crate::names::{Called, Named, procedure, read, written};
 use crate::operand::{
@@ -18,13 +18,13 @@ use crate::operand::{
     truth_of, value_for,
 };
 use crate::passing::{value_passed, variable_argument};
-use crate::relations::{related, relation_of};
+use crate::relations::{may_relate, related, relation_of};
 use crate::selecting::{element_of, field_of};
 use ob_base::{Boxed, Code, Items, Refused};
 use ob_declare::fault::{fault, open};
 use ob_declare::predeclared::Function;
 use ob_declare::{Imports, Scope};
-use ob_mean::whole::{Argument, Callee, Designator, TypedExpr};
+use ob_mean::{Argument, Callee, Designator, TypedExpr};
 use ob_parse::tree::{
     AddedTerm, Designator as Written, Expr, Factor, NextFactor, Related, Selector, Sign, Simple,
     Term,
@@ -122,6 +122,9 @@ fn relation(
     match right {
         None => Ok((left, variables)),
         Some(right) => {
+            if !may_relate(relation_of(right.relation), &left) {
+                return Err(Refused::Fault(fault(Code::Types, right.span)));
+            }
             let (other, variables) = simple(
                 alloc,
                 imports,
@@ -201,6 +204,9 @@ fn added_term(
 ) -> Result<(Joined, Variables), Refused>
     ensures { Judges (spec.added_term_at imports.now scope.now levels (left, variables) x.now) (result_map (λ p. (p.0, p.1)) result) }
 {
+    if !may_join(add_joining(x.operator), &left) {
+        return Err(Refused::Fault(fault(Code::Types, x.span)));
+    }
     let (right, variables) = term(alloc, imports, scope, levels, variables, &x.term)?;
     let all = with_operand(alloc, add_joining(x.operator), x.span, left, right)?;
     Ok((all, variables))
@@ -264,6 +270,9 @@ fn next_factor(
 ) -> Result<(Joined, Variables), Refused>
     ensures { Judges (spec.next_factor_at imports.now scope.now levels (left, variables) x.now) (result_map (λ p. (p.0, p.1)) result) }
 {
+    if !may_join(mul_joining(x.operator), &left) {
+        return Err(Refused::Fault(fault(Code::Types, x.span)));
+    }
     let (right, variables) = factor(alloc, imports, scope, levels, variables, &x.factor)?;
     let all = with_operand(alloc, mul_joining(x.operator), x.span, left, right)?;
     Ok((all, variables))
@@ -542,18 +551,56 @@ fn predeclared_call(
     ensures { Judges (spec.predeclared_at imports.now scope.now levels function span.line variables actuals.now) result }
 {
     match actuals {
-        [one] => {
-            let (operand, variables) = nested(alloc, imports, scope, levels, span, variables, one)?;
-            let value = one_of(alloc, function, span, is_alone(one), operand)?;
+        [] => Err(Refused::Fault(fault(Code::Parameters, span))),
+        [one, behind @ ..] => {
+            let alone = is_alone(one);
+            let (value, variables) = nested(alloc, imports, scope, levels, span, variables, one)?;
+            if !takes(function, alone, &value) {
+                return Err(Refused::Fault(fault(Code::Parameters, one.first_token())));
+            }
+            one_taken(
+                alloc, imports, scope, levels, variables, function, alone, value, span, behind,
+            )
+        }
+    }
+}
+
+/// A call of a function that is declared before any module, behind its first actual parameter.
+#[cycle(expression)]
+#[tactic(auto, unfolding(crate::specs::Expressions::one_taken, crate::specs::Expressions::two_taken))]
+fn one_taken(
+    alloc: Global,
+    imports: &Imports,
+    scope: &Scope,
+    levels: u32,
+    variables: Variables,
+    function: Function,
+    alone: bool,
+    left: Operand,
+    span: Span,
+    actuals: &[Expr],
+) -> Result<(Operand, Variables), Refused>
+    ensures { Judges (spec.one_taken_at imports.now scope.now levels function span.line alone (left, variables) actuals.now) result }
+{
+    match actuals {
+        [] => {
+            let value = one_of(alloc, function, span, alone, left)?;
             Ok((value, variables))
         }
-        [one, two] => {
-            let (left, variables) = nested(alloc, imports, scope, levels, span, variables, one)?;
+        [two, behind @ ..] => {
+            let second = two.first_token();
+            if shift_of(function).is_none() {
+                return Err(Refused::Fault(fault(Code::Parameters, second)));
+            }
             let (right, variables) = nested(alloc, imports, scope, levels, span, variables, two)?;
-            let value = two_of(alloc, function, span, left, right)?;
-            Ok((value, variables))
+            match behind {
+                [] => {
+                    let value = two_of(alloc, function, span, left, right, second)?;
+                    Ok((value, variables))
+                }
+                [three, ..] => Err(Refused::Fault(fault(Code::Parameters, three.first_token()))),
+            }
         }
-        _ => Err(Refused::Fault(fault(Code::Parameters, span))),
     }
 }
 
@@ -622,7 +669,7 @@ fn next_passed<'a>(
     ensures { Judges (spec.next_passed_at imports.now scope.now levels (so_far, variables, formals.now) e.now) (result_map (λ p. (p.0, p.1, p.2.now)) result) }
 {
     match formals {
-        [] => Err(Refused::Fault(fault(Code::Parameters, span))),
+        [] => Err(Refused::Fault(fault(Code::Parameters, e.first_token()))),
         [formal, left @ ..] => {
             let (argument, variables) = actual(
                 alloc, imports, scope, levels, variables, formal, span, e,

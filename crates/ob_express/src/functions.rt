@@ -1,15 +1,16 @@
 //! The functions that are declared before any module.
 
-ghost use Rattle.std.specs.Prelude.{◌≡◌};
+ghost use Rattle.std.specs.Prelude.{◌≡◌, is_some};
 ghost use Rattle.ob_base.specs.declared.fault.Code.TheVariants as code;
 ghost use Rattle.ob_declare.specs.Rule.{Judges, there};
+ghost use Rattle.ob_express.specs.Operands.{only_character};
 ghost use Rattle.ob_express.specs.Functions as spec;
 
-use crate::operand::{Operand, fitting, number_of, only_character};
+use crate::operand::{Operand, fitting, is_number, number_of, only_character};
 use ob_base::{Boxed, Code, Items, Refused};
 use ob_declare::fault::fault;
 use ob_declare::predeclared::Function;
-use ob_mean::whole::{Operation, Operator, TypedExpr, UnaryOperator};
+use ob_mean::{Operation, Operator, TypedExpr, UnaryOperator};
 use ob_scan::Span;
 use ob_types::{Basic, ObType};
 use std::alloc::Global;
@@ -48,6 +49,50 @@ fn length_of(alone: bool, operand: Operand) -> Option<Operand>
     }
 }
 
+fn is_ordinal(operand: &Operand) -> bool
+    ensures { result ≡ is_some (spec.ordinal_of operand.now) }
+{
+    match operand {
+        Operand::Value(Basic::Char | Basic::Boolean, _) => true,
+        Operand::Text(text) => is_one(text.as_slice()),
+        _ => false,
+    }
+}
+
+fn is_one(text: &[u8]) -> bool
+    ensures { result ≡ is_some (only_character text.now) }
+{
+    match text {
+        [_] => true,
+        _ => false,
+    }
+}
+
+fn has_length(alone: bool, operand: &Operand) -> bool
+    ensures { result ≡ is_some (spec.length_of alone operand.now) }
+{
+    match (alone, operand) {
+        (true, Operand::Place(of, _)) => is_array(of),
+        _ => false,
+    }
+}
+
+/// Whether a function takes this value first, and whether that is written as a variable alone.
+pub fn takes(function: Function, alone: bool, operand: &Operand) -> bool
+    ensures { result ≡ spec.takes function alone operand.now }
+{
+    match function {
+        Function::Ord => is_ordinal(operand),
+        Function::Len => has_length(alone, operand),
+        Function::Abs
+        | Function::Odd
+        | Function::Chr
+        | Function::Lsl
+        | Function::Asr
+        | Function::Ror => is_number(operand),
+    }
+}
+
 fn unary(
     alloc: Global,
     basic: Basic,
@@ -66,7 +111,8 @@ fn unary(
     }
 }
 
-/// A function of one value, and whether that is written as a variable alone. The function's name stands at `span`.
+/// A function of one value, and whether that is written as a variable alone. The function's name stands at `span`, where too
+/// few values are a fault.
 pub fn one_of(
     alloc: Global,
     function: Function,
@@ -100,7 +146,8 @@ pub fn one_of(
     }
 }
 
-fn shift_of(function: Function) -> Option<Operator>
+/// What a shift computes.
+pub fn shift_of(function: Function) -> Option<Operator>
     ensures { result ≡ spec.shift_of function }
 {
     match function {
@@ -111,7 +158,7 @@ fn shift_of(function: Function) -> Option<Operator>
     }
 }
 
-/// A function of two values. Its name stands at `span`.
+/// A function of two values. Its name stands at `span`, and the second value at `second`.
 #[tactic(auto, unfolding(crate::specs::Functions::two_of))]
 pub fn two_of(
     alloc: Global,
@@ -119,12 +166,13 @@ pub fn two_of(
     span: Span,
     left: Operand,
     right: Operand,
+    second: Span,
 ) -> Result<Operand, Refused>
     ensures { Judges (spec.two_of function span.line left right) result }
 {
     let operator = fitting(shift_of(function), Code::Parameters, span)?;
     let left = fitting(number_of(left), Code::Parameters, span)?;
-    let right = fitting(number_of(right), Code::Parameters, span)?;
+    let right = fitting(number_of(right), Code::Parameters, second)?;
     let mut steps = Items::new(alloc);
     steps.push(Operation {
         operator,

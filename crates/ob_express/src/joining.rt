@@ -4,10 +4,10 @@ ghost use Rattle.std.specs.Prelude.{◌≡◌};
 ghost use Rattle.ob_declare.specs.Rule.{Judges, Given};
 ghost use Rattle.ob_express.specs.Joining as spec;
 
-use crate::operand::{Operand, fitting, number_of, truth_of};
+use crate::operand::{Operand, fitting, is_number, is_truth, number_of, truth_of};
 use ob_base::{Boxed, Code, Items, Refused};
 use ob_declare::fault::fault;
-use ob_mean::whole::{Operation, Operator, TypedExpr, UnaryOperator};
+use ob_mean::{Operation, Operator, TypedExpr, UnaryOperator};
 use ob_parse::tree::{AddOperator, MulOperator, Sign};
 use ob_scan::Span;
 use ob_types::Basic;
@@ -47,6 +47,20 @@ pub fn mul_joining(operator: MulOperator) -> Joining
         MulOperator::Div => Joining::Numbers(Operator::Quotient),
         MulOperator::Mod => Joining::Numbers(Operator::Remainder),
         MulOperator::And => Joining::Truths,
+    }
+}
+
+/// Whether what is joined so far may stand before an operator.
+pub fn may_join(joining: Joining, left: &Joined) -> bool
+    ensures { result ≡ spec.may_join joining left.now }
+{
+    match (joining, left) {
+        (Joining::Numbers(_), Joined::One(operand)) => is_number(operand),
+        (Joining::Numbers(_), Joined::Numbers(_, _)) => true,
+        (Joining::Numbers(_), Joined::Truths(_)) => false,
+        (Joining::Truths, Joined::One(operand)) => is_truth(operand),
+        (Joining::Truths, Joined::Numbers(_, _)) => false,
+        (Joining::Truths, Joined::Truths(_)) => true,
     }
 }
 

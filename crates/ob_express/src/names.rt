@@ -13,7 +13,7 @@ use ob_declare::predeclared::{
     output_named,
 };
 use ob_declare::{Entry, Imports, Scope, is_writable};
-use ob_mean::whole::{Callee, Variable};
+use ob_mean::{Callee, Variable};
 use ob_parse::tree::{Designator, Selector};
 use ob_scan::Span;
 use ob_types::{Constant, ObType, Object, Signature};
@@ -242,6 +242,16 @@ fn refuse<'a>(code: Code, span: Span) -> Result<Target<'a>, Refused>
     Err(Refused::Fault(fault(code, span)))
 }
 
+/// A name of another module: the fault stands at the name that it lacks, or else at the first token.
+fn refuse_member<'a>(code: Code, selector: &Selector, span: Span) -> Result<Target<'a>, Refused>
+    ensures { Judges (Breaks code) (result_map writable result) }
+{
+    match (code, selector) {
+        (Code::NotExported, Selector::Field(field)) => refuse(code, field.span),
+        _ => refuse(code, span),
+    }
+}
+
 #[tactic(auto, unfolding(crate::specs::Names::entry_written))]
 fn entry_written<'a>(
     imports: &'a Imports,
@@ -263,9 +273,11 @@ fn entry_written<'a>(
                 behind: selectors,
             })
         }
-        (Entry::In, [x, ..]) => refuse(input_written(x), span),
-        (Entry::Out, [x, ..]) => refuse(output_written(x), span),
-        (Entry::Module(_, place), [x, ..]) => refuse(object_written(imports, *place, x), span),
+        (Entry::In, [x, ..]) => refuse_member(input_written(x), x, span),
+        (Entry::Out, [x, ..]) => refuse_member(output_written(x), x, span),
+        (Entry::Module(_, place), [x, ..]) => {
+            refuse_member(object_written(imports, *place, x), x, span)
+        }
         (Entry::Constant(_), _)
         | (Entry::TypeName(_), _)
         | (Entry::Procedure(_, _), _)
@@ -306,27 +318,37 @@ fn predeclared_called<'a>(
 }
 
 #[tactic(auto, unfolding(crate::specs::Names::input_called, crate::specs::Names::input_call))]
-fn input_call<'a>(selector: &Selector, span: Span) -> Result<Called<'a>, Refused>
-    ensures { Judges (spec.input_call selector.now) (result_map callable result) }
+fn input_call<'a>(
+    selector: &Selector,
+    behind: &[Selector],
+    span: Span,
+) -> Result<Called<'a>, Refused>
+    ensures { Judges (spec.input_call selector.now behind.now) (result_map callable result) }
 {
     match selector {
-        Selector::Field(field) => match input_named(&field.name) {
-            InputName::Unknown => Err(Refused::Fault(fault(Code::NotExported, field.span))),
-            InputName::Done => Err(Refused::Fault(fault(Code::Types, field.span))),
-            name => Ok(Called::Input(name)),
+        Selector::Field(field) => match (input_named(&field.name), behind) {
+            (InputName::Unknown, _) => Err(Refused::Fault(fault(Code::NotExported, field.span))),
+            (InputName::Done, _) => Err(Refused::Fault(fault(Code::Types, field.span))),
+            (name, []) => Ok(Called::Input(name)),
+            (_, [_, ..]) => Err(Refused::Fault(fault(Code::Types, field.span))),
         },
         Selector::Index(_) => Err(Refused::Fault(fault(Code::Types, span))),
     }
 }
 
 #[tactic(auto, unfolding(crate::specs::Names::output_called, crate::specs::Names::output_call))]
-fn output_call<'a>(selector: &Selector, span: Span) -> Result<Called<'a>, Refused>
-    ensures { Judges (spec.output_call selector.now) (result_map callable result) }
+fn output_call<'a>(
+    selector: &Selector,
+    behind: &[Selector],
+    span: Span,
+) -> Result<Called<'a>, Refused>
+    ensures { Judges (spec.output_call selector.now behind.now) (result_map callable result) }
 {
     match selector {
-        Selector::Field(field) => match output_named(&field.name) {
-            OutputName::Unknown => Err(Refused::Fault(fault(Code::NotExported, field.span))),
-            name => Ok(Called::Output(name)),
+        Selector::Field(field) => match (output_named(&field.name), behind) {
+            (OutputName::Unknown, _) => Err(Refused::Fault(fault(Code::NotExported, field.span))),
+            (name, []) => Ok(Called::Output(name)),
+            (_, [_, ..]) => Err(Refused::Fault(fault(Code::Types, field.span))),
         },
         Selector::Index(_) => Err(Refused::Fault(fault(Code::Types, span))),
     }
@@ -337,17 +359,19 @@ fn object_called<'a>(
     import: usize,
     number: usize,
     object: &'a Object,
+    behind: &[Selector],
     span: Span,
 ) -> Result<Called<'a>, Refused>
-    ensures { Judges (spec.object_called import number object.now) (result_map callable result) }
+    ensures { Judges (spec.object_called import number object.now behind.now) (result_map callable result) }
 {
-    match object {
-        Object::Procedure(signature) => {
+    match (object, behind) {
+        (Object::Procedure(signature), []) => {
             Ok(Called::Procedure(signature, Callee::OfImport(import, number)))
         }
-        Object::Constant(_) | Object::Variable(_) | Object::TypeName(_) => {
-            Err(Refused::Fault(fault(Code::Types, span)))
-        }
+        (Object::Procedure(_), [_, ..])
+        | (Object::Constant(_), _)
+        | (Object::Variable(_), _)
+        | (Object::TypeName(_), _) => Err(Refused::Fault(fault(Code::Types, span))),
     }
 }
 
@@ -357,15 +381,16 @@ fn member_called<'a>(
     import: usize,
     place: usize,
     selector: &Selector,
+    behind: &[Selector],
     span: Span,
 ) -> Result<Called<'a>, Refused>
-    ensures { Judges (spec.member_called imports.now import place selector.now) (result_map callable result) }
+    ensures { Judges (spec.member_called imports.now import place selector.now behind.now) (result_map callable result) }
 {
     match selector {
         Selector::Field(field) => match imports.exported_at(place, &field.name) {
             Some(object) => {
                 let number = imports.procedure_number(place, &field.name);
-                object_called(import, number, object, field.span)
+                object_called(import, number, object, behind, field.span)
             }
             None => Err(Refused::Fault(fault(Code::NotExported, field.span))),
         },
@@ -386,11 +411,11 @@ fn entry_called<'a>(
         (Entry::Procedure(signature, number), []) => {
             Ok(Called::Procedure(signature, Callee::OfModule(*number)))
         }
-        (Entry::Module(import, place), [selector]) => {
-            member_called(imports, *import, *place, selector, span)
+        (Entry::Module(import, place), [selector, behind @ ..]) => {
+            member_called(imports, *import, *place, selector, behind, span)
         }
-        (Entry::In, [selector]) => input_call(selector, span),
-        (Entry::Out, [selector]) => output_call(selector, span),
+        (Entry::In, [selector, behind @ ..]) => input_call(selector, behind, span),
+        (Entry::Out, [selector, behind @ ..]) => output_call(selector, behind, span),
         _ => Err(Refused::Fault(fault(Code::Types, span))),
     }
 }

@@ -1,6 +1,6 @@
 //! Operands.
 
-ghost use Rattle.std.specs.Prelude.{◌≡◌, ◌+◌, length};
+ghost use Rattle.std.specs.Prelude.{◌≡◌, ◌+◌, length, is_some};
 ghost use Rattle.ob_base.specs.declared.fault.Code.TheVariants as code;
 ghost use Rattle.ob_types.specs.Types.{is_char};
 ghost use Rattle.ob_declare.specs.Rule.{Judges, Given, there};
@@ -8,7 +8,7 @@ ghost use Rattle.ob_express.specs.Operands as spec;
 
 use ob_base::{Boxed, Code, Items, Refused, Text};
 use ob_declare::fault::fault;
-use ob_mean::whole::{Designator, ModuleVariable, TypedExpr, UnaryOperator, Variable};
+use ob_mean::{Designator, ModuleVariable, TypedExpr, UnaryOperator, Variable};
 use ob_scan::Span;
 use ob_types::{Basic, Constant, ObType};
 use std::alloc::Global;
@@ -44,6 +44,26 @@ pub fn truth_of(operand: Operand) -> Option<TypedExpr>
     match operand {
         Operand::Value(Basic::Boolean, value) => Some(value),
         _ => None,
+    }
+}
+
+/// Whether an operand is a number.
+pub fn is_number(operand: &Operand) -> bool
+    ensures { result ≡ is_some (spec.number_of operand.now) }
+{
+    match operand {
+        Operand::Value(Basic::Integer | Basic::Byte, _) => true,
+        _ => false,
+    }
+}
+
+/// Whether an operand is a truth value.
+pub fn is_truth(operand: &Operand) -> bool
+    ensures { result ≡ is_some (spec.truth_of operand.now) }
+{
+    match operand {
+        Operand::Value(Basic::Boolean, _) => true,
+        _ => false,
     }
 }
 
@@ -161,7 +181,8 @@ pub fn is_char(of: &ObType) -> bool
     }
 }
 
-fn is_text(of: &ObType) -> bool
+/// Whether a type is an array of CHAR, open or not.
+pub fn is_text(of: &ObType) -> bool
     ensures { result ≡ spec.is_text of.now }
 {
     match of {

@@ -3,14 +3,14 @@
 ghost use Rattle.std.specs.Prelude.{◌≡◌, ◌+◌, length};
 ghost use Rattle.ob_base.specs.declared.fault.Code.TheVariants as code;
 ghost use Rattle.ob_declare.specs.Rule.{Judges, Given, there};
-ghost use Rattle.ob_mean.specs.declared.whole.expression.Argument.TheVariants as argument;
+ghost use Rattle.ob_mean.specs.declared.expression.Argument.TheVariants as argument;
 ghost use Rattle.ob_express.specs.Operands.{next_text, with_text};
 ghost use Rattle.ob_express.specs.Passing as spec;
 
 use crate::operand::{Operand, Variables, fitting, hidden, hidden_with_end, is_char, value_for};
 use ob_base::{Code, Refused, Text};
 use ob_declare::fault::fault;
-use ob_mean::whole::{Argument, Designator};
+use ob_mean::{Argument, Designator};
 use ob_scan::Span;
 use ob_types::{ObType, same};
 use std::alloc::Global;

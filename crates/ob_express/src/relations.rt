@@ -4,10 +4,10 @@ ghost use Rattle.std.specs.Prelude.{◌≡◌};
 ghost use Rattle.ob_declare.specs.Rule.{Judges, Given};
 ghost use Rattle.ob_express.specs.Relations as spec;
 
-use crate::operand::{Operand, Variables, character_of, fitting, text_place};
+use crate::operand::{Operand, Variables, character_of, fitting, is_text, text_place};
 use ob_base::{Boxed, Code, Items, Refused};
 use ob_declare::fault::fault;
-use ob_mean::whole::{Operation, Operator, Relation, TypedExpr};
+use ob_mean::{Operation, Operator, Relation, TypedExpr};
 use ob_parse::tree::Relation as Written;
 use ob_scan::Span;
 use ob_types::Basic;
@@ -69,6 +69,26 @@ fn are_related(relation: Relation, left: Basic, right: Basic) -> bool
         Basic::Integer | Basic::Byte => is_number(right),
         Basic::Char => is_character(right),
         Basic::Boolean => is_truth(right) && is_equality(relation),
+    }
+}
+
+fn may_relate_basic(relation: Relation, left: Basic) -> bool
+    ensures { result ≡ spec.may_relate_basic relation left }
+{
+    match left {
+        Basic::Boolean => is_equality(relation),
+        Basic::Integer | Basic::Byte | Basic::Char => true,
+    }
+}
+
+/// Whether an operand may stand before a relation.
+pub fn may_relate(relation: Relation, left: &Operand) -> bool
+    ensures { result ≡ spec.may_relate relation left.now }
+{
+    match left {
+        Operand::Value(basic, _) => may_relate_basic(relation, *basic),
+        Operand::Text(_) => true,
+        Operand::Place(of, _) => is_text(of),
     }
 }
 

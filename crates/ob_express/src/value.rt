@@ -8,7 +8,7 @@ use crate::expression::{all_passed, expr, target_part};
 use crate::operand::{Operand, Variables, fitting, number_of, truth_of, value_for};
 use ob_base::{Code, Items, Refused};
 use ob_declare::{Imports, Scope};
-use ob_mean::whole::{Argument, Designator, TypedExpr};
+use ob_mean::{Argument, Designator, TypedExpr};
 use ob_parse::tree::{Designator as Written, Expr};
 use ob_scan::Span;
 use ob_types::{Basic, Formal, ObType};

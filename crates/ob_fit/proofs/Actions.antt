@@ -14,22 +14,22 @@ use Rattle.ob_types.specs.declared.structure.ObType.TheVariants.{Basic as OfBasi
 use Rattle.ob_types.specs.declared.structure.ObType.TheBlock as block
 use Rattle.ob_types.specs.Types.{is_char, string_assignable}
 use Rattle.ob_types.proofs.SameType.{same_true}
-use Rattle.ob_mean.specs.declared.whole.expression.Argument.{Argument}
-use Rattle.ob_mean.specs.declared.whole.expression.Argument.TheVariants as argument
-use Rattle.ob_mean.specs.declared.whole.expression.Callee.{Callee}
-use Rattle.ob_mean.specs.declared.whole.expression.Designator.{Designator}
-use Rattle.ob_mean.specs.declared.whole.expression.TypedExpr.{TypedExpr}
-use Rattle.ob_mean.specs.declared.whole.module.Parameter.TheVariants as parameter
-use Rattle.ob_mean.specs.declared.whole.shape.Shape.TheVariants as shape
-use Rattle.ob_mean.specs.declared.whole.statement.Action.{Action}
-use Rattle.ob_mean.specs.declared.whole.statement.Action.TheVariants as action
-use Rattle.ob_mean.specs.declared.whole.statement.Adjustment.{Adjustment}
-use Rattle.ob_mean.specs.declared.whole.statement.Adjustment.TheVariants as adjustment
-use Rattle.ob_mean.specs.declared.whole.statement.InputCall.TheVariants as incoming
-use Rattle.ob_mean.specs.declared.whole.statement.OutputCall.TheVariants as outgoing
-use Rattle.ob_mean.specs.declared.whole.statement.Reader.{Reader}
-use Rattle.ob_mean.specs.declared.whole.statement.Reader.TheVariants as reader
-use Rattle.ob_mean.specs.whole.WellFormed.{Names, Of, ExprFits, IndexesFit, IsPassed, IsBasic, IsText, IsRead, ActionFits, object_of, called}
+use Rattle.ob_mean.specs.declared.expression.Argument.{Argument}
+use Rattle.ob_mean.specs.declared.expression.Argument.TheVariants as argument
+use Rattle.ob_mean.specs.declared.expression.Callee.{Callee}
+use Rattle.ob_mean.specs.declared.expression.Designator.{Designator}
+use Rattle.ob_mean.specs.declared.expression.TypedExpr.{TypedExpr}
+use Rattle.ob_mean.specs.declared.module.Parameter.TheVariants as parameter
+use Rattle.ob_mean.specs.declared.shape.Shape.TheVariants as shape
+use Rattle.ob_mean.specs.declared.statement.Action.{Action}
+use Rattle.ob_mean.specs.declared.statement.Action.TheVariants as action
+use Rattle.ob_mean.specs.declared.statement.Adjustment.{Adjustment}
+use Rattle.ob_mean.specs.declared.statement.Adjustment.TheVariants as adjustment
+use Rattle.ob_mean.specs.declared.statement.InputCall.TheVariants as incoming
+use Rattle.ob_mean.specs.declared.statement.OutputCall.TheVariants as outgoing
+use Rattle.ob_mean.specs.declared.statement.Reader.{Reader}
+use Rattle.ob_mean.specs.declared.statement.Reader.TheVariants as reader
+use Rattle.ob_mean.specs.WellFormed.{Names, Of, ExprFits, IndexesFit, IsPassed, IsBasic, IsText, IsRead, ActionFits, object_of, called}
 use Rattle.ob_declare.specs.declared.predeclared.InputName.{InputName}
 use Rattle.ob_declare.specs.declared.predeclared.InputName.TheVariants as in_name
 use Rattle.ob_declare.specs.declared.predeclared.OutputName.{OutputName}
@@ -46,7 +46,7 @@ use Rattle.ob_express.specs.Named.{Callable}
 use Rattle.ob_express.specs.Named as meaning
 use Rattle.ob_check.specs.Assignments.{basic_of, is_open, is_left_out_copy, structured_assigned, assigned, assignment}
 use Rattle.ob_check.specs.Calls.{call_with, procedure_call, call_of, call}
-use Rattle.ob_check.specs.StandardCalls.{value_formal, variable_formal, reader_formal, place_passed, value_passed, without_actuals, number_inside, truth_inside, place_at, scalar_at, read_call, in_call, out_char, out_string, out_int, out_call, adjusted, asserted, predeclared_call}
+use Rattle.ob_check.specs.StandardCalls.{value_formal, variable_formal, reader_formal, place_passed, value_passed, none_left, without_actuals, number_inside, truth_inside, place_at, scalar_at, read_call, in_call, out_char, out_string, out_width, out_int, out_call, adjusted_by, adjusted, asserted, predeclared_call}
 use Rattle.ob_check.specs.Shapes.{shape_of, parameters_of}
 use Rattle.ob_check.proofs.ShapeForms.{parameter_open}
 use Rattle.ob_fit.specs.Fitting.{Suits, OperandFits, ScopeFits, StartsWith, heading_of}
@@ -176,20 +176,25 @@ module _ (ms : Modules) (names : Names) (s : Scope) (scope : ScopeFits ms names 
   reader_fits reader.String vs e p h t = text_at vs kind.Variable e p h t
   reader_fits reader.Name vs e p h t = text_at vs kind.Variable e p h t
 
+  -- what is done, where no actual parameter is left
+  none_left_fits : (a : Action) (vs : Variables) (es : List Expr) (p : Action × Variables) → gives (none_left a vs es) p → StartsWith names.variables p.1 → (ActionFits names a → ActionFits names p.0) × StartsWith names.variables vs
+  unfolding none_left
+  none_left_fits a vs [] p h t = (λ g. subst (λ y. ActionFits names y.0) h g, subst (λ y. StartsWith names.variables y.1) (sym h) t)
+  none_left_fits a vs (e ∷ es) p h t = absurd h
+
   without_fits : (a : Action) (vs : Variables) (es : Option (List Expr)) (p : Action × Variables) → ActionFits names a → gives (without_actuals a vs es) p → ActionIs names vs p
   unfolding without_actuals
   without_fits a vs None p g h = same_variables names vs a p h g
-  without_fits a vs (Some []) p g h = same_variables names vs a p h g
-  without_fits a vs (Some (e ∷ es)) p g h = absurd h
+  without_fits a vs (Some es) p g h = λ t. let k = none_left_fits a vs es p h t in (k.0 g, k.1)
 
   read_call_fits : (r : Reader) (vs : Variables) (es : Option (List Expr)) (p : Action × Variables) → gives (read_call ms s n r vs es) p → ActionIs names vs p
   unfolding read_call
-  read_call_fits r vs (Some (e ∷ [])) p h t =
-      let k = reader_fits r vs e h.0 h.1 (subst (λ y. StartsWith names.variables y.1) (sym h.2) t) in
-      (subst (λ y. ActionFits names y.0) h.2 k.0, k.1)
+  read_call_fits r vs (Some (e ∷ es)) p h t =
+      let l = none_left_fits (action.Input (incoming.Read r h.0.0)) h.0.1 es p h.2 t in
+      let k = reader_fits r vs e h.0 h.1 l.1 in
+      (l.0 k.0, k.1)
   read_call_fits r vs None p h t = absurd h
   read_call_fits r vs (Some []) p h t = absurd h
-  read_call_fits r vs (Some (e ∷ f ∷ es)) p h t = absurd h
 
   in_call_fits : (i : InputName) (vs : Variables) (es : Option (List Expr)) (p : Action × Variables) → gives (in_call ms s n i vs es) p → ActionIs names vs p
   unfolding in_call
@@ -205,33 +210,38 @@ module _ (ms : Modules) (names : Names) (s : Scope) (scope : ScopeFits ms names 
 
   out_char_fits : (vs : Variables) (es : Option (List Expr)) (p : Action × Variables) → gives (out_char ms s n vs es) p → ActionIs names vs p
   unfolding out_char
-  out_char_fits vs (Some (e ∷ [])) p h t =
-      let k = scalar_fits vs basic.Char e h.0 h.1 (subst (λ y. StartsWith names.variables y.1) (sym h.2) t) in
-      (subst (λ y. ActionFits names y.0) h.2 k.0, k.1)
+  out_char_fits vs (Some (e ∷ es)) p h t =
+      let l = none_left_fits (action.Output (outgoing.Char h.0.0)) h.0.1 es p h.2 t in
+      let k = scalar_fits vs basic.Char e h.0 h.1 l.1 in
+      (l.0 k.0, k.1)
   out_char_fits vs None p h t = absurd h
   out_char_fits vs (Some []) p h t = absurd h
-  out_char_fits vs (Some (e ∷ f ∷ es)) p h t = absurd h
 
   out_string_fits : (vs : Variables) (es : Option (List Expr)) (p : Action × Variables) → gives (out_string ms s n vs es) p → ActionIs names vs p
   unfolding out_string
-  out_string_fits vs (Some (e ∷ [])) p h t =
-      let k = text_at vs kind.Value e h.0 h.1 (subst (λ y. StartsWith names.variables y.1) (sym h.2) t) in
-      (subst (λ y. ActionFits names y.0) h.2 k.0, k.1)
+  out_string_fits vs (Some (e ∷ es)) p h t =
+      let l = none_left_fits (action.Output (outgoing.String h.0.0)) h.0.1 es p h.2 t in
+      let k = text_at vs kind.Value e h.0 h.1 l.1 in
+      (l.0 k.0, k.1)
   out_string_fits vs None p h t = absurd h
   out_string_fits vs (Some []) p h t = absurd h
-  out_string_fits vs (Some (e ∷ f ∷ es)) p h t = absurd h
+
+  width_fits : (x : TypedExpr) (vs : Variables) (es : List Expr) (p : Action × Variables) → gives (out_width ms s n x vs es) p → StartsWith names.variables p.1 → (ExprFits names x → ActionFits names p.0) × StartsWith names.variables vs
+  unfolding out_width
+  width_fits x vs [] p h t = absurd h
+  width_fits x vs (width ∷ es) p h t =
+      let l = none_left_fits (action.Output (outgoing.Int x h.0.0)) h.0.1 es p h.2 t in
+      let k = scalar_fits vs basic.Integer width h.0 h.1 l.1 in
+      (λ g. l.0 (g, k.0), k.1)
 
   out_int_fits : (vs : Variables) (es : Option (List Expr)) (p : Action × Variables) → gives (out_int ms s n vs es) p → ActionIs names vs p
   unfolding out_int
-  out_int_fits vs (Some (e ∷ width ∷ [])) p h t =
-      let q = h.2 in
-      let k = scalar_fits h.0.1 basic.Integer width q.0 q.1 (subst (λ y. StartsWith names.variables y.1) (sym q.2) t) in
+  out_int_fits vs (Some (e ∷ es)) p h t =
+      let k = width_fits h.0.0 h.0.1 es p h.2 t in
       let f = scalar_fits vs basic.Integer e h.0 h.1 k.1 in
-      (subst (λ y. ActionFits names y.0) q.2 (f.0, k.0), f.1)
+      (k.0 f.0, f.1)
   out_int_fits vs None p h t = absurd h
   out_int_fits vs (Some []) p h t = absurd h
-  out_int_fits vs (Some (e ∷ [])) p h t = absurd h
-  out_int_fits vs (Some (e ∷ f ∷ g ∷ es)) p h t = absurd h
 
   out_call_fits : (o : OutputName) (vs : Variables) (es : Option (List Expr)) (p : Action × Variables) → gives (out_call ms s n o vs es) p → ActionIs names vs p
   unfolding out_call
@@ -254,28 +264,31 @@ module _ (ms : Modules) (names : Names) (s : Scope) (scope : ScopeFits ms names 
   truth_inside_fits zero vs e p h = absurd h
   truth_inside_fits (suc m) vs e p h = truth_at_fits ms names s scope m vs e p h
 
+  adjusted_by_fits : (a : Adjustment) (d : Designator) (vs : Variables) (es : List Expr) (p : Action × Variables) → gives (adjusted_by ms s n a d vs es) p → StartsWith names.variables p.1 → (IndexesFit names d × IsBasic (object_of names d) → ActionFits names p.0) × StartsWith names.variables vs
+  unfolding adjusted_by
+  adjusted_by_fits a d vs [] p h t = (λ g. subst (λ y. ActionFits names y.0) h (g.0, g.1, tt), subst (λ y. StartsWith names.variables y.1) (sym h) t)
+  adjusted_by_fits a d vs (e ∷ es) p h t =
+      let l = none_left_fits (action.Adjust a d h.0.0) h.0.1 es p h.2 t in
+      let k = number_inside_fits n vs e h.0 h.1 l.1 in
+      (λ g. l.0 (g.0, g.1, k.0), k.1)
+
   adjusted_fits : (a : Adjustment) (vs : Variables) (es : Option (List Expr)) (p : Action × Variables) → gives (adjusted ms s n a vs es) p → ActionIs names vs p
   unfolding adjusted
-  adjusted_fits a vs (Some (v ∷ [])) p h t =
-      let k = basic_at vs basic.Integer v h.0 h.1 (subst (λ y. StartsWith names.variables y.1) (sym h.2) t) in
-      (subst (λ y. ActionFits names y.0) h.2 (k.0.0, k.0.1, tt), k.1)
-  adjusted_fits a vs (Some (v ∷ e ∷ [])) p h t =
-      let q = h.2 in
-      let k = number_inside_fits n h.0.1 e q.0 q.1 (subst (λ y. StartsWith names.variables y.1) (sym q.2) t) in
+  adjusted_fits a vs (Some (v ∷ es)) p h t =
+      let k = adjusted_by_fits a h.0.0 h.0.1 es p h.2 t in
       let f = basic_at vs basic.Integer v h.0 h.1 k.1 in
-      (subst (λ y. ActionFits names y.0) q.2 (f.0.0, f.0.1, k.0), f.1)
+      (k.0 f.0, f.1)
   adjusted_fits a vs None p h t = absurd h
   adjusted_fits a vs (Some []) p h t = absurd h
-  adjusted_fits a vs (Some (v ∷ e ∷ g ∷ es)) p h t = absurd h
 
   asserted_fits : (line : ℕ) (vs : Variables) (es : Option (List Expr)) (p : Action × Variables) → gives (asserted ms s n line vs es) p → ActionIs names vs p
   unfolding asserted
-  asserted_fits line vs (Some (e ∷ [])) p h t =
-      let k = truth_inside_fits n vs e h.0 h.1 (subst (λ y. StartsWith names.variables y.1) (sym h.2) t) in
-      (subst (λ y. ActionFits names y.0) h.2 k.0, k.1)
+  asserted_fits line vs (Some (e ∷ es)) p h t =
+      let l = none_left_fits (action.Assert line h.0.0) h.0.1 es p h.2 t in
+      let k = truth_inside_fits n vs e h.0 h.1 l.1 in
+      (l.0 k.0, k.1)
   asserted_fits line vs None p h t = absurd h
   asserted_fits line vs (Some []) p h t = absurd h
-  asserted_fits line vs (Some (e ∷ f ∷ es)) p h t = absurd h
 
   proper_fits : (q : ProperProcedure) (line : ℕ) (vs : Variables) (es : Option (List Expr)) (p : Action × Variables) → gives (predeclared_call ms s n q line vs es) p → ActionIs names vs p
   unfolding predeclared_call

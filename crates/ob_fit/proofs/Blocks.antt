@@ -9,13 +9,13 @@ use Rattle.ob_types.specs.declared.exports.Formal.{Formal}
 use Rattle.ob_types.specs.declared.structure.ObType.{ObType, end_of-ObType, more_of-ObType}
 use Rattle.ob_types.specs.declared.structure.ObType.TheVariants.{Basic as OfBasic, Array', Open', Record}
 use Rattle.ob_types.specs.declared.structure.ObType.TheBlock as block
-use Rattle.ob_mean.specs.declared.whole.expression.Variable.{Variable}
-use Rattle.ob_mean.specs.declared.whole.expression.Variable.TheVariants as variable
-use Rattle.ob_mean.specs.declared.whole.module.Parameter.{Parameter}
-use Rattle.ob_mean.specs.declared.whole.module.Parameter.TheVariants as parameter
-use Rattle.ob_mean.specs.declared.whole.shape.Shape.{Shape}
-use Rattle.ob_mean.specs.declared.whole.shape.Shape.TheVariants as shape
-use Rattle.ob_mean.specs.whole.WellFormed.{Names, Of, variable_object, module_object, own_object, value_object, named_object, shape_object, own_heading}
+use Rattle.ob_mean.specs.declared.expression.Variable.{Variable}
+use Rattle.ob_mean.specs.declared.expression.Variable.TheVariants as variable
+use Rattle.ob_mean.specs.declared.module.Parameter.{Parameter}
+use Rattle.ob_mean.specs.declared.module.Parameter.TheVariants as parameter
+use Rattle.ob_mean.specs.declared.shape.Shape.{Shape}
+use Rattle.ob_mean.specs.declared.shape.Shape.TheVariants as shape
+use Rattle.ob_mean.specs.WellFormed.{Names, Of, variable_object, module_object, own_object, value_object, named_object, shape_object, own_heading}
 use Rattle.ob_declare.specs.declared.block.Declared.{Declared}
 use Rattle.ob_declare.specs.declared.block.Entry.{Entry}
 use Rattle.ob_declare.specs.declared.block.Entry.TheVariants as entry
@@ -26,13 +26,13 @@ use Rattle.ob_declare.specs.declared.heading.Parameters.{Parameters}
 use Rattle.ob_declare.specs.declared.scope.Scope.{Scope}
 use Rattle.ob_declare.specs.Block.{find}
 use Rattle.ob_declare.specs.Exports.{Modules}
-use Rattle.ob_declare.specs.Headings.{kind_of, standing_of, no_parameters, parameter_rule, section_rule, formals_rule, heading_rule}
+use Rattle.ob_declare.specs.Headings.{kind_of, standing_of, no_parameters, parameter_rule, typed_parameters, section_rule, formals_rule, heading_rule}
 use Rattle.ob_declare.specs.Rule.{gives}
-use Rattle.ob_declare.specs.Scope.{seen, nearer, seen_inside, nearest, is_seen_inside}
+use Rattle.ob_declare.specs.Scope.{seen, nearer, seen_inside, nearest, is_seen_inside, in_heading}
 use Rattle.ob_check.specs.Procedures.{own_shape, own_shapes}
 use Rattle.ob_check.specs.Shapes.{shape_of, parameter_of, parameters_of}
 use Rattle.ob_fit.specs.Fitting.{Suits, EntryFits, ScopeFits, StartsWith, heading_of, loaded_face}
-use Rattle.ob_fit.proofs.Grows.{part}
+use Rattle.ob_fit.proofs.Grows.{part, same}
 use Rattle.ob_fit.proofs.Rules.{if_some, joined_none, joined_thrice, starts_reads, through_keeps}
 use Rattle.ob_types.specs.Solid.{IsSolid}
 use Rattle.ob_fit.specs.Solid.{EachSolid}
@@ -271,10 +271,20 @@ module _ (ms : Modules) (names : Names) (base : ℕ) where
       lower : (k : ℕ) → length (p.formals ++ f ∷ []) ≤ k → length p.block < k
       lower k l = let b = length_more p.formals f in let c = g.0 in omega arith
 
-  section_fits : (n : ℕ) (s : Scope) (p : Parameters) (x : FormalSection) (q : Parameters) → EachSolid ms → SeenSolid s → gives (section_rule ms n s p x) q → ParametersFit ms names base p → ParametersFit ms names base q
-  unfolding section_rule
-  section_fits n s p x q l scope h g =
-      through_keeps (ParametersFit ms names base) (parameter_rule (is_some x.by_reference) h.0) (λ a e b k c. parameter_fits (is_some x.by_reference) h.0 a e b (formal_solid ms l s scope n x.of h.0 h.1) k c) p x.names q h.2 g
+  -- what is seen in a heading behind these parameters
+  heading_solid : (s : Scope) (p : Parameters) → EachEntry SolidEntry s.block → EachBlock SolidEntry s.around → ParametersFit ms names base p → SeenSolid (in_heading s p.block)
+  unfolding in_heading
+  heading_solid s p here round g =
+      seen_solid (in_heading s p.block)
+      (each_map (EntryOf ms (within names (parameters_of p.formals) []) base) SolidEntry (λ e h. outer_solid ms names base e (outer_of ms names (parameters_of p.formals) [] base e h)) p.block
+      (g.2 (parameters_of p.formals) [] (same (parameters_of p.formals))))
+      (here, round)
+
+  section_fits : (n : ℕ) (s : Scope) (p : Parameters) (x : FormalSection) (q : Parameters) → EachSolid ms → EachEntry SolidEntry s.block → EachBlock SolidEntry s.around → gives (section_rule ms n s p x) q → ParametersFit ms names base p → ParametersFit ms names base q
+  unfolding section_rule typed_parameters
+  section_fits n s p x q l here round h g =
+      let t = h.2 in
+      through_keeps (ParametersFit ms names base) (parameter_rule (is_some x.by_reference) t.0) (λ a e b k c. parameter_fits (is_some x.by_reference) t.0 a e b (formal_solid ms l (in_heading s p.block) (heading_solid s p here round g) n x.of t.0 t.1) k c) p x.names q t.2 g
 
   -- the parameters of a heading
   abbrev pub of_heading : Heading → Parameters
@@ -283,9 +293,9 @@ module _ (ms : Modules) (names : Names) (base : ℕ) where
   none_fit : ParametersFit ms names base no_parameters
   none_fit = (refl, λ k l. refl, λ ps own s. tt)
 
-  pub heading_fits : (n : ℕ) (s : Scope) (o : Option Formals) (h : Heading) → EachSolid ms → SeenSolid s → gives (heading_rule ms n s o) h → ParametersFit ms names base (of_heading h)
+  pub heading_fits : (n : ℕ) (s : Scope) (o : Option Formals) (h : Heading) → EachSolid ms → EachEntry SolidEntry s.block → EachBlock SolidEntry s.around → gives (heading_rule ms n s o) h → ParametersFit ms names base (of_heading h)
   unfolding heading_rule formals_rule
-  heading_fits n s None h l scope k = subst (λ x. ParametersFit ms names base (of_heading x)) k none_fit
-  heading_fits n s (Some f) h l scope k =
+  heading_fits n s None h l here round k = subst (λ x. ParametersFit ms names base (of_heading x)) k none_fit
+  heading_fits n s (Some f) h l here round k =
       subst (λ x. ParametersFit ms names base (of_heading x)) (k.2).2
-      (through_keeps (ParametersFit ms names base) (section_rule ms n s) (λ a e b u c. section_fits n s a e b l scope u c) no_parameters f.sections k.0 k.1 none_fit)
+      (through_keeps (ParametersFit ms names base) (section_rule ms n s) (λ a e b u c. section_fits n s a e b l here round u c) no_parameters f.sections k.0 k.1 none_fit)

@@ -1,5 +1,5 @@
 -- What the rules of expressions, designators and actual parameters give fits.
-use Rattle.std.proofs.Common.{◌≡◌, inl, ℕ, zero, suc, ◌++◌, List, [], ◌∷◌, Option, Some, None, is_some, refl, sym, ap, ◌∙◌, subst}
+use Rattle.std.proofs.Common.{◌≡◌, inl, ℕ, zero, suc, ◌++◌, Bool, List, [], ◌∷◌, Option, Some, None, is_some, refl, sym, ap, ◌∙◌, subst}
 use Rattle.ob_base.specs.declared.fault.Code.TheVariants as code
 use Rattle.ob_parse.specs.declared.tree.Expr.{Expr, out-Expr}
 use Rattle.ob_parse.specs.declared.tree.Related.{Related, out-Related}
@@ -17,12 +17,12 @@ use Rattle.ob_types.specs.declared.exports.FormalKind.{FormalKind}
 use Rattle.ob_types.specs.declared.exports.FormalKind.TheVariants as kind
 use Rattle.ob_types.specs.declared.structure.Basic.{Basic}
 use Rattle.ob_types.specs.declared.structure.ObType.{ObType}
-use Rattle.ob_mean.specs.declared.whole.expression.Argument.{Argument}
-use Rattle.ob_mean.specs.declared.whole.expression.Callee.{Callee}
-use Rattle.ob_mean.specs.declared.whole.expression.Designator.TheVariants as designator
-use Rattle.ob_mean.specs.declared.whole.expression.TypedExpr.{TypedExpr}
-use Rattle.ob_mean.specs.declared.whole.module.Parameter.{Parameter}
-use Rattle.ob_mean.specs.whole.WellFormed.{Names, ExprFits, IndexesFit, ListPassed, object_of, called, shape_object}
+use Rattle.ob_mean.specs.declared.expression.Argument.{Argument}
+use Rattle.ob_mean.specs.declared.expression.Callee.{Callee}
+use Rattle.ob_mean.specs.declared.expression.Designator.TheVariants as designator
+use Rattle.ob_mean.specs.declared.expression.TypedExpr.{TypedExpr}
+use Rattle.ob_mean.specs.declared.module.Parameter.{Parameter}
+use Rattle.ob_mean.specs.WellFormed.{Names, ExprFits, IndexesFit, ListPassed, object_of, called, shape_object}
 use Rattle.ob_declare.specs.declared.predeclared.Function.{Function}
 use Rattle.ob_declare.specs.declared.scope.Scope.{Scope}
 use Rattle.ob_declare.specs.Constants.{FactorLayer, SelectorLayer}
@@ -38,7 +38,7 @@ use Rattle.ob_express.specs.Functions.{one_of}
 use Rattle.ob_express.specs.Selecting.{Selected, selected, indexed, selector_layer, element_of}
 use Rattle.ob_express.specs.Named.{Meant, Callable}
 use Rattle.ob_express.specs.Named as meaning
-use Rattle.ob_express.specs.Expressions.{Typed, Joining, Passing, alone, meant_rule, target_rule, predeclared_rule, one_passed, next_passed, none_left, all_passed, function_rule, call_rule, factor_layer, factor_rule, next_factor, term_rule, added_term, simple_rule, related_rule, expr_rule, variable_actual, value_actual, actual_rule, inner_at, deeper_at, passed_at, expr_at, target_at, actuals_at, is_value, value_at, value_for_at, guard_at, number_at, truth_at}
+use Rattle.ob_express.specs.Expressions.{Typed, Joining, Passing, alone, meant_rule, target_rule, two_taken, one_taken, predeclared_rule, one_passed, next_passed, none_left, all_passed, function_rule, call_rule, factor_layer, factor_rule, next_factor, term_rule, added_term, simple_rule, related_rule, expr_rule, variable_actual, value_actual, actual_rule, inner_at, deeper_at, passed_at, expr_at, target_at, actuals_at, is_value, value_at, value_for_at, guard_at, number_at, truth_at}
 use Rattle.ob_check.specs.Shapes.{parameters_of}
 use Rattle.ob_fit.specs.Fitting.{Suits, OperandFits, ScopeFits, StartsWith}
 use Rattle.ob_fit.proofs.Forms.{function_fits, element_fits, element_object, field_fits, field_object}
@@ -112,22 +112,29 @@ module _ (names : Names) (inner : Variables → Expr → Rule Typed) (fits : Inn
 
   -- ---- predeclared functions
 
+  two_taken_fits : (f : Function) (line : ℕ) (v : Operand) (w : Typed) (es : List Expr) (p : Typed) → gives (two_taken inner f line v w es) p → StartsWith names.variables p.1 → (OperandFits names v → OperandFits names w.0 → OperandFits names p.0) × StartsWith names.variables w.1
+  unfolding two_taken
+  two_taken_fits f line v w [] p h s =
+      (λ g k. subst (λ x. OperandFits names x.0) h.2 (two_fits names f line v w.0 h.0 h.1 g k), subst (λ x. StartsWith names.variables x.1) (sym h.2) s)
+  two_taken_fits f line v w (c ∷ cs) p h s = absurd h
+
+  one_taken_fits : (f : Function) (line : ℕ) (only : Bool) (v : Typed) (es : List Expr) (p : Typed) → gives (one_taken inner f line only v es) p → StartsWith names.variables p.1 → (OperandFits names v.0 → OperandFits names p.0) × StartsWith names.variables v.1
+  unfolding one_taken
+  one_taken_fits f line only v [] p h s =
+      (λ g. subst (λ x. OperandFits names x.0) h.2 (one_fits names f line only v.0 h.0 (there_is (one_of f line only v.0) code.Parameters h.0 h.1) g), subst (λ x. StartsWith names.variables x.1) (sym h.2) s)
+  one_taken_fits f line only v (b ∷ bs) p h s =
+      let w = h.1 in
+      let x = two_taken_fits f line v.0 w.0 bs p w.2 s in
+      let k = fits v.1 b w.0 w.1 x.1 in
+      (λ g. x.0 g k.0, k.1)
+
   predeclared_fits : (f : Function) (line : ℕ) (vs : Variables) (es : List Expr) (p : Typed) → gives (predeclared_rule inner f line vs es) p → TypedFits names vs p
   unfolding predeclared_rule
   predeclared_fits f line vs [] p h s = absurd h
-  predeclared_fits f line vs (a ∷ []) p h s =
-      let x = h.2 in
-      let q = subst (λ x. StartsWith names.variables x.1) (sym x.2) s in
-      let k = fits vs a h.0 h.1 q in
-      (subst (λ x. OperandFits names x.0) x.2 (one_fits names f line (is_some (alone a)) h.0.0 x.0 (there_is (one_of f line (is_some (alone a)) h.0.0) code.Parameters x.0 x.1) k.0), k.1)
-  predeclared_fits f line vs (a ∷ b ∷ []) p h s =
-      let w = h.2 in
-      let x = w.2 in
-      let q = subst (λ x. StartsWith names.variables x.1) (sym x.2) s in
-      let k = fits h.0.1 b w.0 w.1 q in
-      let g = fits vs a h.0 h.1 k.1 in
-      (subst (λ x. OperandFits names x.0) x.2 (two_fits names f line h.0.0 w.0.0 x.0 x.1 g.0 k.0), g.1)
-  predeclared_fits f line vs (a ∷ b ∷ c ∷ es) p h s = absurd h
+  predeclared_fits f line vs (a ∷ bs) p h s =
+      let x = one_taken_fits f line (is_some (alone a)) h.0 bs p (h.2).1 s in
+      let k = fits vs a h.0 h.1 x.1 in
+      (x.0 k.0, k.1)
 
 -- ---- actual parameters
 
@@ -203,7 +210,7 @@ module _ (ms : Modules) (names : Names) (s : Scope) (scope : ScopeFits ms names 
 
   next_factor_fits : (vs : Variables) (j : Joining) (x : NextFactor) (k : Joining) → gives (next_factor inner deeper passed ms s j x) k → JoiningFits vs j → JoiningFits vs k
   unfolding next_factor
-  next_factor_fits vs j x k h g = subst (JoiningFits vs) (h.2).2 (λ t.
+  next_factor_fits vs j x k needed g = let h = needed.1 in subst (JoiningFits vs) (h.2).2 (λ t.
       let a = factor_fits j.1 (out-NextFactor x).factor h.0 h.1 t in
       let b = g a.1 in
       (operand_joined names (mul_joining (out-NextFactor x).operator) (out-NextFactor x).span.line j.0 h.0.0 (h.2).0 (h.2).1 b.0 a.0, b.1))
@@ -219,7 +226,7 @@ module _ (ms : Modules) (names : Names) (s : Scope) (scope : ScopeFits ms names 
 
   added_term_fits : (vs : Variables) (j : Joining) (x : AddedTerm) (k : Joining) → gives (added_term inner deeper passed ms s j x) k → JoiningFits vs j → JoiningFits vs k
   unfolding added_term
-  added_term_fits vs j x k h g = subst (JoiningFits vs) (h.2).2 (λ t.
+  added_term_fits vs j x k needed g = let h = needed.1 in subst (JoiningFits vs) (h.2).2 (λ t.
       let a = term_fits j.1 (out-AddedTerm x).term h.0 h.1 t in
       let b = g a.1 in
       (operand_joined names (add_joining (out-AddedTerm x).operator) (out-AddedTerm x).span.line j.0 h.0.0 (h.2).0 (h.2).1 b.0 a.0, b.1))
@@ -237,7 +244,8 @@ module _ (ms : Modules) (names : Names) (s : Scope) (scope : ScopeFits ms names 
   relation_fits : (vs : Variables) (v : Typed) (r : Option Related) (p : Typed) → gives (related_rule inner deeper passed ms s v r) p → TypedFits names vs v → TypedFits names vs p
   unfolding related_rule
   relation_fits vs v None p h g t = subst (TypedFits names vs) h g t
-  relation_fits vs v (Some r) p h g t =
+  relation_fits vs v (Some r) p needed g t =
+      let h = needed.1 in
       let k = related_fits names (relation_of (out-Related r).relation) (out-Related r).span.line h.0.1 v.0 h.0.0 p h.2 t in
       let w = simple_fits v.1 (out-Related r).simple h.0 h.1 k.1 in
       let l = g w.1 in

@@ -1,9 +1,9 @@
 -- What fits and has room is well formed.
 use Rattle.std.proofs.Common.{List, [], ◌∷◌}
-use Rattle.ob_mean.specs.declared.whole.face.Face.{Face}
-use Rattle.ob_mean.specs.declared.whole.module.TypedModule.{TypedModule}
-use Rattle.ob_mean.specs.declared.whole.module.TypedProcedure.{TypedProcedure}
-use Rattle.ob_mean.specs.whole.WellFormed.{ProceduresFit}
+use Rattle.ob_mean.specs.declared.face.Face.{Face}
+use Rattle.ob_mean.specs.declared.module.TypedModule.{TypedModule}
+use Rattle.ob_mean.specs.declared.module.TypedProcedure.{TypedProcedure}
+use Rattle.ob_mean.specs.WellFormed.{ProceduresFit}
 use Rattle.ob_fit.specs.Fitting.{ProcedureBodiesFit, ProceduresHaveRoom, EachFittingForms}
 
 with_room : (faces : List Face) (m : TypedModule) (fs : List TypedProcedure) → ProcedureBodiesFit faces m fs → ProceduresHaveRoom fs → ProceduresFit faces m fs

@@ -1,30 +1,30 @@
 -- Trees fit if their parts and lists do.
 use Rattle.std.proofs.Common.{◌≡◌, ℕ, List, [], ◌∷◌, true, Some, refl, sym, ap, ◌∙◌, subst}
-use Rattle.ob_mean.specs.declared.whole.operator.UnaryOperator.{UnaryOperator}
-use Rattle.ob_mean.specs.declared.whole.expression.TypedExpr.{TypedExpr, Row_of-TypedExpr, end_of-TypedExpr, more_of-TypedExpr}
-use Rattle.ob_mean.specs.declared.whole.expression.TypedExpr.TheVariants.{Unary, Chain, Chain', Every, Every', Either, Either', Function, Function'}
-use Rattle.ob_mean.specs.declared.whole.expression.Designator.{Designator}
-use Rattle.ob_mean.specs.declared.whole.expression.Designator.TheVariants as designator
-use Rattle.ob_mean.specs.declared.whole.expression.Operation.{Operation}
-use Rattle.ob_mean.specs.declared.whole.expression.Argument.{Argument}
-use Rattle.ob_mean.specs.declared.whole.expression.Callee.{Callee}
-use Rattle.ob_mean.specs.declared.whole.expression.Argument.TheBlock.{Row_of-Argument, end_of-Argument, more_of-Argument, items-the_row-Argument, Row_of-Operation, end_of-Operation, more_of-Operation, items-the_row-TypedExpr, items-the_row-Operation, items_hidden-the_row-Operation-2, items_hidden-the_row-TypedExpr-3, items_hidden-the_row-Argument-4}
-use Rattle.ob_mean.specs.declared.whole.module.Parameter.{Parameter}
-use Rattle.ob_mean.specs.declared.whole.face.Heading.{Heading}
-use Rattle.ob_mean.specs.declared.whole.statement.Branch.{Branch}
-use Rattle.ob_mean.specs.declared.whole.statement.ForHead.{ForHead}
-use Rattle.ob_mean.specs.declared.whole.statement.CaseArm.{CaseArm}
-use Rattle.ob_mean.specs.declared.whole.statement.TypedStatement.{TypedStatement, Row_of-TypedStatement, end_of-TypedStatement, more_of-TypedStatement}
-use Rattle.ob_mean.specs.declared.whole.statement.TypedStatement.TheVariants.{If, If', Case, Case', While, While', Repeat, Repeat', For, For'}
-use Rattle.ob_mean.specs.declared.whole.statement.TypedStatement.TheBlock as block
-use Rattle.ob_mean.specs.declared.whole.statement.TypedStatement.TheBlock.{Row_of-Branch, end_of-Branch, more_of-Branch, Row_of-CaseArm, end_of-CaseArm, more_of-CaseArm, items-the_row-TypedStatement, items-the_row-Branch, items-the_row-CaseArm}
-use Rattle.ob_mean.specs.whole.WellFormed.{Names, ExprFits, ExprsFit, OperationsFit, IndexesFit, RowPassed, ListPassed, IsPassed, StatFits, StatsFit, BranchesFit, ArmsFit, ListFits, HeadFits, object_of, elements_in, field_in, shape_object, called}
+use Rattle.ob_mean.specs.declared.operator.UnaryOperator.{UnaryOperator}
+use Rattle.ob_mean.specs.declared.expression.TypedExpr.{TypedExpr, Row_of-TypedExpr, end_of-TypedExpr, more_of-TypedExpr}
+use Rattle.ob_mean.specs.declared.expression.TypedExpr.TheVariants.{Unary, Chain, Chain', Every, Every', Either, Either', Function, Function'}
+use Rattle.ob_mean.specs.declared.expression.Designator.{Designator}
+use Rattle.ob_mean.specs.declared.expression.Designator.TheVariants as designator
+use Rattle.ob_mean.specs.declared.expression.Operation.{Operation}
+use Rattle.ob_mean.specs.declared.expression.Argument.{Argument}
+use Rattle.ob_mean.specs.declared.expression.Callee.{Callee}
+use Rattle.ob_mean.specs.declared.expression.Argument.TheBlock.{Row_of-Argument, end_of-Argument, more_of-Argument, items-the_row-Argument, Row_of-Operation, end_of-Operation, more_of-Operation, items-the_row-TypedExpr, items-the_row-Operation, items_hidden-the_row-Operation-2, items_hidden-the_row-TypedExpr-3, items_hidden-the_row-Argument-4}
+use Rattle.ob_mean.specs.declared.module.Parameter.{Parameter}
+use Rattle.ob_mean.specs.declared.face.Heading.{Heading}
+use Rattle.ob_mean.specs.declared.statement.Branch.{Branch}
+use Rattle.ob_mean.specs.declared.statement.ForHead.{ForHead}
+use Rattle.ob_mean.specs.declared.statement.CaseArm.{CaseArm}
+use Rattle.ob_mean.specs.declared.statement.TypedStatement.{TypedStatement, Row_of-TypedStatement, end_of-TypedStatement, more_of-TypedStatement}
+use Rattle.ob_mean.specs.declared.statement.TypedStatement.TheVariants.{If, If', Case, Case', While, While', Repeat, Repeat', For, For'}
+use Rattle.ob_mean.specs.declared.statement.TypedStatement.TheBlock as block
+use Rattle.ob_mean.specs.declared.statement.TypedStatement.TheBlock.{Row_of-Branch, end_of-Branch, more_of-Branch, Row_of-CaseArm, end_of-CaseArm, more_of-CaseArm, items-the_row-TypedStatement, items-the_row-Branch, items-the_row-CaseArm}
+use Rattle.ob_mean.specs.WellFormed.{Names, ExprFits, ExprsFit, OperationsFit, IndexesFit, RowPassed, ListPassed, IsPassed, StatFits, StatsFit, BranchesFit, ArmsFit, ListFits, HeadFits, object_of, elements_in, field_in, shape_object, called}
 use Rattle.ob_fit.specs.Fitting.{ExprListFits, OperationListFits, BranchListFits, ArmListFits}
 
 -- ---- expressions
 
 pub unary_fits : (names : Names) (op : UnaryOperator) (line : ℕ) (a : TypedExpr) → ExprFits names a → ExprFits names (Unary op line a)
-unfolding Rattle.ob_mean.specs.declared.whole.expression.Argument.TheBlock.hidden-the_row-TypedExpr-1 denote.Hole.Carrier.hidden
+unfolding Rattle.ob_mean.specs.declared.expression.Argument.TheBlock.hidden-the_row-TypedExpr-1 denote.Hole.Carrier.hidden
 unary_fits names op line a h = h
 
 row_exprs : (names : Names) (k : _) (row : Row_of-TypedExpr k) → ExprsFit names row ≡ ExprListFits names (items-the_row-TypedExpr k row)
@@ -55,7 +55,7 @@ arguments_in (Function' f line k args) = (_, args)
 arguments_in _ = (_, end_of-Argument)
 
 pub chain_fits : (names : Names) (a : TypedExpr) (os : List Operation) → ExprFits names a → OperationListFits names os → ExprFits names (Chain a os)
-unfolding Rattle.ob_mean.specs.declared.whole.expression.Argument.TheBlock.hidden-the_row-TypedExpr-1 denote.Hole.Carrier.hidden
+unfolding Rattle.ob_mean.specs.declared.expression.Argument.TheBlock.hidden-the_row-TypedExpr-1 denote.Hole.Carrier.hidden
 chain_fits names a os h g =
     (h, subst (λ l. l) (sym (row_operations names (operations_in (Chain a os)).0 (operations_in (Chain a os)).1 ∙ ap (OperationListFits names) (items_hidden-the_row-Operation-2 os))) g)
 
@@ -74,19 +74,19 @@ function_fits names f line args g e t h =
 -- ---- designators
 
 pub element_fits : (names : Names) (d : Designator) (line : ℕ) (e : TypedExpr) → IndexesFit names d → ExprFits names e → IndexesFit names (designator.Element d line e)
-unfolding Rattle.ob_mean.specs.declared.whole.expression.Argument.TheBlock.hidden-the_row-TypedExpr-1 Rattle.ob_mean.specs.declared.whole.expression.Argument.TheBlock.hidden-the_row-Designator-0 denote.Hole.Carrier.hidden
+unfolding Rattle.ob_mean.specs.declared.expression.Argument.TheBlock.hidden-the_row-TypedExpr-1 Rattle.ob_mean.specs.declared.expression.Argument.TheBlock.hidden-the_row-Designator-0 denote.Hole.Carrier.hidden
 element_fits names d line e h g = (h, g)
 
 pub element_object : (names : Names) (d : Designator) (line : ℕ) (e : TypedExpr) → object_of names (designator.Element d line e) ≡ shape_object (elements_in (object_of names d))
-unfolding Rattle.ob_mean.specs.declared.whole.expression.Argument.TheBlock.hidden-the_row-TypedExpr-1 Rattle.ob_mean.specs.declared.whole.expression.Argument.TheBlock.hidden-the_row-Designator-0 denote.Hole.Carrier.hidden
+unfolding Rattle.ob_mean.specs.declared.expression.Argument.TheBlock.hidden-the_row-TypedExpr-1 Rattle.ob_mean.specs.declared.expression.Argument.TheBlock.hidden-the_row-Designator-0 denote.Hole.Carrier.hidden
 element_object names d line e = refl
 
 pub field_fits : (names : Names) (d : Designator) (i : ℕ) → IndexesFit names d → IndexesFit names (designator.Field d i)
-unfolding Rattle.ob_mean.specs.declared.whole.expression.Argument.TheBlock.hidden-the_row-Designator-0 denote.Hole.Carrier.hidden
+unfolding Rattle.ob_mean.specs.declared.expression.Argument.TheBlock.hidden-the_row-Designator-0 denote.Hole.Carrier.hidden
 field_fits names d i h = h
 
 pub field_object : (names : Names) (d : Designator) (i : ℕ) → object_of names (designator.Field d i) ≡ field_in (object_of names d) i
-unfolding Rattle.ob_mean.specs.declared.whole.expression.Argument.TheBlock.hidden-the_row-Designator-0 denote.Hole.Carrier.hidden
+unfolding Rattle.ob_mean.specs.declared.expression.Argument.TheBlock.hidden-the_row-Designator-0 denote.Hole.Carrier.hidden
 field_object names d i = refl
 
 -- ---- statements

@@ -1,5 +1,5 @@
 -- The variables of a module only grow: each rule adds strings behind those that there are.
-use Rattle.std.proofs.Common.{◌≡◌, ℕ, zero, suc, ◌++◌, Bool, List, [], ◌∷◌, Option, Some, None, refl, sym, ap, ◌∙◌, subst}
+use Rattle.std.proofs.Common.{◌≡◌, ℕ, zero, suc, ◌++◌, Bool, List, [], ◌∷◌, Option, Some, None, is_some, refl, sym, ap, ◌∙◌, subst}
 use Rattle.ob_parse.specs.declared.tree.Branch.{Branch, out-Branch}
 use Rattle.ob_parse.specs.declared.tree.Case.{Case, out-Case}
 use Rattle.ob_parse.specs.declared.tree.Expr.{Expr, out-Expr}
@@ -23,20 +23,20 @@ use Rattle.ob_types.specs.declared.structure.Basic.{Basic}
 use Rattle.ob_types.specs.declared.structure.ObType.{ObType, end_of-ObType, more_of-ObType, out-ObType}
 use Rattle.ob_types.specs.declared.structure.ObType.TheVariants.{Basic as OfBasic, Array', Open', Record}
 use Rattle.ob_types.specs.declared.structure.ObType.TheBlock as block
-use Rattle.ob_mean.specs.declared.whole.expression.Argument.{Argument}
-use Rattle.ob_mean.specs.declared.whole.expression.Callee.{Callee}
-use Rattle.ob_mean.specs.declared.whole.expression.Designator.{Designator}
-use Rattle.ob_mean.specs.declared.whole.expression.Designator.TheVariants as designator
-use Rattle.ob_mean.specs.declared.whole.expression.TypedExpr.{TypedExpr}
-use Rattle.ob_mean.specs.declared.whole.operator.Relation.{Relation}
-use Rattle.ob_mean.specs.declared.whole.statement.Action.{Action}
-use Rattle.ob_mean.specs.declared.whole.statement.Adjustment.{Adjustment}
-use Rattle.ob_mean.specs.declared.whole.statement.Adjustment.TheVariants as adjustment
-use Rattle.ob_mean.specs.declared.whole.statement.Reader.{Reader}
-use Rattle.ob_mean.specs.declared.whole.statement.Reader.TheVariants as reader
-use Rattle.ob_mean.specs.declared.whole.statement.Branch.{Branch as TypedBranch}
-use Rattle.ob_mean.specs.declared.whole.statement.ForHead.{ForHead as TypedHead}
-use Rattle.ob_mean.specs.declared.whole.statement.TypedStatement.{TypedStatement}
+use Rattle.ob_mean.specs.declared.expression.Argument.{Argument}
+use Rattle.ob_mean.specs.declared.expression.Callee.{Callee}
+use Rattle.ob_mean.specs.declared.expression.Designator.{Designator}
+use Rattle.ob_mean.specs.declared.expression.Designator.TheVariants as designator
+use Rattle.ob_mean.specs.declared.expression.TypedExpr.{TypedExpr}
+use Rattle.ob_mean.specs.declared.operator.Relation.{Relation}
+use Rattle.ob_mean.specs.declared.statement.Action.{Action}
+use Rattle.ob_mean.specs.declared.statement.Adjustment.{Adjustment}
+use Rattle.ob_mean.specs.declared.statement.Adjustment.TheVariants as adjustment
+use Rattle.ob_mean.specs.declared.statement.Reader.{Reader}
+use Rattle.ob_mean.specs.declared.statement.Reader.TheVariants as reader
+use Rattle.ob_mean.specs.declared.statement.Branch.{Branch as TypedBranch}
+use Rattle.ob_mean.specs.declared.statement.ForHead.{ForHead as TypedHead}
+use Rattle.ob_mean.specs.declared.statement.TypedStatement.{TypedStatement}
 use Rattle.ob_declare.specs.declared.predeclared.Function.{Function}
 use Rattle.ob_declare.specs.declared.predeclared.InputName.{InputName}
 use Rattle.ob_declare.specs.declared.predeclared.InputName.TheVariants as in_name
@@ -57,10 +57,10 @@ use Rattle.ob_express.specs.Passing.{variable_argument, fixed_text, text_passed,
 use Rattle.ob_express.specs.Selecting.{Selected, selected, indexed, selector_layer}
 use Rattle.ob_express.specs.Named.{Meant, Callable}
 use Rattle.ob_express.specs.Named as meaning
-use Rattle.ob_express.specs.Expressions.{Typed, Joining, Passing, alone, meant_rule, target_rule, predeclared_rule, one_passed, next_passed, none_left, all_passed, function_rule, call_rule, factor_layer, factor_rule, next_factor, term_rule, added_term, simple_rule, related_rule, expr_rule, variable_actual, value_actual, actual_rule, inner_at, deeper_at, passed_at, expr_at, target_at, actuals_at, value_at, value_for_at, guard_at, number_at, truth_at}
+use Rattle.ob_express.specs.Expressions.{Typed, Joining, Passing, alone, meant_rule, target_rule, two_taken, one_taken, predeclared_rule, one_passed, next_passed, none_left, all_passed, function_rule, call_rule, factor_layer, factor_rule, next_factor, term_rule, added_term, simple_rule, related_rule, expr_rule, variable_actual, value_actual, actual_rule, inner_at, deeper_at, passed_at, expr_at, target_at, actuals_at, value_at, value_for_at, guard_at, number_at, truth_at}
 use Rattle.ob_check.specs.Assignments.{basic_of, assigned, assignment}
 use Rattle.ob_check.specs.Calls.{call_with, procedure_call, call_of, call}
-use Rattle.ob_check.specs.StandardCalls.{without_actuals, number_inside, truth_inside, place_at, scalar_at, read_call, in_call, out_char, out_string, out_int, out_call, adjusted, asserted, predeclared_call}
+use Rattle.ob_check.specs.StandardCalls.{none_left as no_actual_left, without_actuals, number_inside, truth_inside, place_at, scalar_at, read_call, in_call, out_char, out_string, out_width, out_int, out_call, adjusted_by, adjusted, asserted, predeclared_call}
 use Rattle.ob_check.specs.Statements.{StatementLayer, for_head, optional, next_branch, branches, if_rule, while_rule, Arms, arm_of, case_of, next_case, arms_of, case_rule, repeat_rule, for_rule, statement_layer, statement_of, next_statement, statements_at}
 use Rattle.ob_fit.specs.Fitting.{StartsWith}
 use Rattle.ob_fit.proofs.Rules.{joined_none, joined_thrice, through_keeps}
@@ -175,13 +175,21 @@ module _ (inner : Variables → Expr → Rule Typed) (grows : Inner inner) where
   target_grows ms s vs d p h =
       through_keeps (λ q. StartsWith q.2 vs) (selected inner s) (λ a e b k c. selected_grows s vs a e b k c) (h.0.0, designator.Whole h.0.1, vs) h.0.2 p h.2 (same vs)
 
+  two_taken_grows : (f : Function) (line : ℕ) (v : Operand) (w : Typed) (es : List Expr) (p : Typed) → gives (two_taken inner f line v w es) p → StartsWith p.1 w.1
+  unfolding two_taken
+  two_taken_grows f line v w [] p h = from w.1 _ p h.2
+  two_taken_grows f line v w (c ∷ cs) p h = absurd h
+
+  one_taken_grows : (f : Function) (line : ℕ) (only : Bool) (v : Typed) (es : List Expr) (p : Typed) → gives (one_taken inner f line only v es) p → StartsWith p.1 v.1
+  unfolding one_taken
+  one_taken_grows f line only v [] p h = from v.1 _ p h.2
+  one_taken_grows f line only v (b ∷ bs) p h =
+      let w = h.1 in longer p.1 w.0.1 v.1 (two_taken_grows f line v.0 w.0 bs p w.2) (grows v.1 b w.0 w.1)
+
   predeclared_grows : (f : Function) (line : ℕ) (vs : Variables) (es : List Expr) (p : Typed) → gives (predeclared_rule inner f line vs es) p → StartsWith p.1 vs
   unfolding predeclared_rule
   predeclared_grows f line vs [] p h = absurd h
-  predeclared_grows f line vs (a ∷ []) p h = after vs _ _ p (h.2).2 (grows vs a h.0 h.1)
-  predeclared_grows f line vs (a ∷ b ∷ []) p h =
-      let w = h.2 in after vs _ _ p (w.2).2 (longer w.0.1 h.0.1 vs (grows h.0.1 b w.0 w.1) (grows vs a h.0 h.1))
-  predeclared_grows f line vs (a ∷ b ∷ c ∷ es) p h = absurd h
+  predeclared_grows f line vs (a ∷ bs) p h = longer p.1 h.0.1 vs (one_taken_grows f line (is_some (alone a)) h.0 bs p (h.2).1) (grows vs a h.0 h.1)
 
 module _ (passed : Formal → Variables → Expr → Rule (Argument × Variables)) (grows : Each passed) where
   one_grows : (vs : Variables) (so_far : List Argument) (at : Variables) (fs : List Formal) (e : Expr) (p : Passing) → gives (one_passed passed so_far at fs e) p → StartsWith at vs → StartsWith p.1 vs
@@ -229,7 +237,7 @@ module _ (ms : Modules) (s : Scope) (inner : Variables → Expr → Rule Typed) 
 
   next_factor_grows : (vs : Variables) (j : Joining) (x : NextFactor) (k : Joining) → gives (next_factor inner deeper passed ms s j x) k → StartsWith j.1 vs → StartsWith k.1 vs
   unfolding next_factor
-  next_factor_grows vs j x k h g = after vs _ _ k (h.2).2 (longer h.0.1 j.1 vs (factor_grows j.1 (out-NextFactor x).factor h.0 h.1) g)
+  next_factor_grows vs j x k needed g = let h = needed.1 in after vs _ _ k (h.2).2 (longer h.0.1 j.1 vs (factor_grows j.1 (out-NextFactor x).factor h.0 h.1) g)
 
   term_grows : (vs : Variables) (x : Term) (p : Typed) → gives (term_rule inner deeper passed ms s vs x) p → StartsWith p.1 vs
   unfolding term_rule
@@ -239,7 +247,7 @@ module _ (ms : Modules) (s : Scope) (inner : Variables → Expr → Rule Typed) 
 
   added_term_grows : (vs : Variables) (j : Joining) (x : AddedTerm) (k : Joining) → gives (added_term inner deeper passed ms s j x) k → StartsWith j.1 vs → StartsWith k.1 vs
   unfolding added_term
-  added_term_grows vs j x k h g = after vs _ _ k (h.2).2 (longer h.0.1 j.1 vs (term_grows j.1 (out-AddedTerm x).term h.0 h.1) g)
+  added_term_grows vs j x k needed g = let h = needed.1 in after vs _ _ k (h.2).2 (longer h.0.1 j.1 vs (term_grows j.1 (out-AddedTerm x).term h.0 h.1) g)
 
   simple_grows : (vs : Variables) (x : Simple) (p : Typed) → gives (simple_rule inner deeper passed ms s vs x) p → StartsWith p.1 vs
   unfolding simple_rule
@@ -251,7 +259,8 @@ module _ (ms : Modules) (s : Scope) (inner : Variables → Expr → Rule Typed) 
   relation_grows : (vs : Variables) (v : Typed) (r : Option Related) (p : Typed) → gives (related_rule inner deeper passed ms s v r) p → StartsWith v.1 vs → StartsWith p.1 vs
   unfolding related_rule
   relation_grows vs v None p h g = subst (λ q. StartsWith q.1 vs) h g
-  relation_grows vs v (Some r) p h g =
+  relation_grows vs v (Some r) p needed g =
+      let h = needed.1 in
       longer p.1 h.0.1 vs (related_grows (relation_of (out-Related r).relation) (out-Related r).span.line h.0.1 v.0 h.0.0 p h.2)
       (longer h.0.1 v.1 vs (simple_grows v.1 (out-Related r).simple h.0 h.1) g)
 
@@ -341,18 +350,21 @@ module _ (ms : Modules) (s : Scope) (n : ℕ) where
   unfolding scalar_at
   scalar_grows vs b e p h = after vs _ _ p (h.2).2 (passed_grows ms s n _ vs e h.0 h.1)
 
+  none_left_grows : (a : Action) (vs : Variables) (es : List Expr) (p : Action × Variables) → gives (no_actual_left a vs es) p → StartsWith p.1 vs
+  unfolding no_actual_left
+  none_left_grows a vs [] p h = from vs a p h
+  none_left_grows a vs (e ∷ es) p h = absurd h
+
   without_grows : (a : Action) (vs : Variables) (es : Option (List Expr)) (p : Action × Variables) → gives (without_actuals a vs es) p → StartsWith p.1 vs
   unfolding without_actuals
   without_grows a vs None p h = from vs a p h
-  without_grows a vs (Some []) p h = from vs a p h
-  without_grows a vs (Some (e ∷ es)) p h = absurd h
+  without_grows a vs (Some es) p h = none_left_grows a vs es p h
 
   read_grows : (r : Reader) (vs : Variables) (es : Option (List Expr)) (p : Action × Variables) → gives (read_call ms s n r vs es) p → StartsWith p.1 vs
   unfolding read_call
-  read_grows r vs (Some (e ∷ [])) p h = after vs _ _ p h.2 (place_at_grows vs _ e h.0 h.1)
+  read_grows r vs (Some (e ∷ es)) p h = longer p.1 h.0.1 vs (none_left_grows _ h.0.1 es p h.2) (place_at_grows vs _ e h.0 h.1)
   read_grows r vs None p h = absurd h
   read_grows r vs (Some []) p h = absurd h
-  read_grows r vs (Some (e ∷ f ∷ es)) p h = absurd h
 
   in_grows : (i : InputName) (vs : Variables) (es : Option (List Expr)) (p : Action × Variables) → gives (in_call ms s n i vs es) p → StartsWith p.1 vs
   unfolding in_call
@@ -366,26 +378,26 @@ module _ (ms : Modules) (s : Scope) (n : ℕ) where
 
   char_grows : (vs : Variables) (es : Option (List Expr)) (p : Action × Variables) → gives (out_char ms s n vs es) p → StartsWith p.1 vs
   unfolding out_char
-  char_grows vs (Some (e ∷ [])) p h = after vs _ _ p h.2 (scalar_grows vs _ e h.0 h.1)
+  char_grows vs (Some (e ∷ es)) p h = longer p.1 h.0.1 vs (none_left_grows _ h.0.1 es p h.2) (scalar_grows vs _ e h.0 h.1)
   char_grows vs None p h = absurd h
   char_grows vs (Some []) p h = absurd h
-  char_grows vs (Some (e ∷ f ∷ es)) p h = absurd h
 
   string_grows : (vs : Variables) (es : Option (List Expr)) (p : Action × Variables) → gives (out_string ms s n vs es) p → StartsWith p.1 vs
   unfolding out_string
-  string_grows vs (Some (e ∷ [])) p h = after vs _ _ p h.2 (place_at_grows vs _ e h.0 h.1)
+  string_grows vs (Some (e ∷ es)) p h = longer p.1 h.0.1 vs (none_left_grows _ h.0.1 es p h.2) (place_at_grows vs _ e h.0 h.1)
   string_grows vs None p h = absurd h
   string_grows vs (Some []) p h = absurd h
-  string_grows vs (Some (e ∷ f ∷ es)) p h = absurd h
+
+  width_grows : (x : TypedExpr) (vs : Variables) (es : List Expr) (p : Action × Variables) → gives (out_width ms s n x vs es) p → StartsWith p.1 vs
+  unfolding out_width
+  width_grows x vs [] p h = absurd h
+  width_grows x vs (width ∷ es) p h = longer p.1 h.0.1 vs (none_left_grows _ h.0.1 es p h.2) (scalar_grows vs _ width h.0 h.1)
 
   int_grows : (vs : Variables) (es : Option (List Expr)) (p : Action × Variables) → gives (out_int ms s n vs es) p → StartsWith p.1 vs
   unfolding out_int
-  int_grows vs (Some (e ∷ width ∷ [])) p h =
-      after vs _ _ p (h.2).2 (longer (h.2).0.1 h.0.1 vs (scalar_grows h.0.1 _ width (h.2).0 (h.2).1) (scalar_grows vs _ e h.0 h.1))
+  int_grows vs (Some (e ∷ es)) p h = longer p.1 h.0.1 vs (width_grows h.0.0 h.0.1 es p h.2) (scalar_grows vs _ e h.0 h.1)
   int_grows vs None p h = absurd h
   int_grows vs (Some []) p h = absurd h
-  int_grows vs (Some (e ∷ [])) p h = absurd h
-  int_grows vs (Some (e ∷ f ∷ g ∷ es)) p h = absurd h
 
   out_grows : (o : OutputName) (vs : Variables) (es : Option (List Expr)) (p : Action × Variables) → gives (out_call ms s n o vs es) p → StartsWith p.1 vs
   unfolding out_call
@@ -396,21 +408,22 @@ module _ (ms : Modules) (s : Scope) (n : ℕ) where
   out_grows out_name.Ln vs es p h = without_grows _ vs es p h
   out_grows out_name.Unknown vs es p h = absurd h
 
+  adjusted_by_grows : (a : Adjustment) (d : Designator) (vs : Variables) (es : List Expr) (p : Action × Variables) → gives (adjusted_by ms s n a d vs es) p → StartsWith p.1 vs
+  unfolding adjusted_by
+  adjusted_by_grows a d vs [] p h = from vs _ p h
+  adjusted_by_grows a d vs (e ∷ es) p h = longer p.1 h.0.1 vs (none_left_grows _ h.0.1 es p h.2) (number_grows ms s n vs e h.0 h.1)
+
   adjusted_grows : (a : Adjustment) (vs : Variables) (es : Option (List Expr)) (p : Action × Variables) → gives (adjusted ms s n a vs es) p → StartsWith p.1 vs
   unfolding adjusted
-  adjusted_grows a vs (Some (v ∷ [])) p h = after vs _ _ p h.2 (place_at_grows vs _ v h.0 h.1)
-  adjusted_grows a vs (Some (v ∷ e ∷ [])) p h =
-      after vs _ _ p (h.2).2 (longer (h.2).0.1 h.0.1 vs (number_grows ms s n h.0.1 e (h.2).0 (h.2).1) (place_at_grows vs _ v h.0 h.1))
+  adjusted_grows a vs (Some (v ∷ es)) p h = longer p.1 h.0.1 vs (adjusted_by_grows a h.0.0 h.0.1 es p h.2) (place_at_grows vs _ v h.0 h.1)
   adjusted_grows a vs None p h = absurd h
   adjusted_grows a vs (Some []) p h = absurd h
-  adjusted_grows a vs (Some (v ∷ e ∷ g ∷ es)) p h = absurd h
 
   asserted_grows : (line : ℕ) (vs : Variables) (es : Option (List Expr)) (p : Action × Variables) → gives (asserted ms s n line vs es) p → StartsWith p.1 vs
   unfolding asserted
-  asserted_grows line vs (Some (e ∷ [])) p h = after vs _ _ p h.2 (truth_grows ms s n vs e h.0 h.1)
+  asserted_grows line vs (Some (e ∷ es)) p h = longer p.1 h.0.1 vs (none_left_grows _ h.0.1 es p h.2) (truth_grows ms s n vs e h.0 h.1)
   asserted_grows line vs None p h = absurd h
   asserted_grows line vs (Some []) p h = absurd h
-  asserted_grows line vs (Some (e ∷ f ∷ es)) p h = absurd h
 
   proper_grows : (q : ProperProcedure) (line : ℕ) (vs : Variables) (es : Option (List Expr)) (p : Action × Variables) → gives (predeclared_call ms s n q line vs es) p → StartsWith p.1 vs
   unfolding predeclared_call

@@ -8,15 +8,15 @@ use Rattle.ob_parse.specs.declared.tree.TypeDeclaration.{TypeDeclaration}
 use Rattle.ob_parse.specs.declared.tree.TypedNames.{TypedNames, out-TypedNames}
 use Rattle.ob_parse.specs.declared.tree.IdentDef.{IdentDef}
 use Rattle.ob_types.specs.declared.structure.ObType.{ObType}
-use Rattle.ob_mean.specs.declared.whole.module.Parameter.{Parameter}
-use Rattle.ob_mean.specs.declared.whole.shape.Shape.{Shape}
-use Rattle.ob_mean.specs.whole.WellFormed.{Names, shape_object}
+use Rattle.ob_mean.specs.declared.module.Parameter.{Parameter}
+use Rattle.ob_mean.specs.declared.shape.Shape.{Shape}
+use Rattle.ob_mean.specs.WellFormed.{Names, shape_object}
 use Rattle.ob_declare.specs.declared.block.Declared.{Declared}
 use Rattle.ob_declare.specs.declared.block.Entry.{Entry}
 use Rattle.ob_declare.specs.declared.block.Entry.TheVariants as entry
 use Rattle.ob_declare.specs.declared.block.Standing.TheVariants as standing
 use Rattle.ob_declare.specs.declared.scope.Scope.{Scope}
-use Rattle.ob_declare.specs.Declarations.{one_more, max_count, has_mark, constant_rule, new_constant, type_rule, new_type, variable_in, local_variable, variable_rule, variables_rule, declarations_rule}
+use Rattle.ob_declare.specs.Declarations.{one_more, max_count, has_mark, constant_rule, new_constant, type_rule, new_type, variable_in, local_variable, variable_rule, typed_variables, variables_rule, declarations_rule}
 use Rattle.ob_declare.specs.Exports.{Modules}
 use Rattle.ob_declare.specs.Rule.{gives}
 use Rattle.ob_declare.specs.Scope.{with_entry}
@@ -112,9 +112,10 @@ module _ (ms : Modules) (names : Names) (base : ℕ) (ps : List Parameter) (encl
       (subst (λ b. gives (variable_in b (has_mark name) (record s { cells_taken = (h.1).0 }) name.name.name t) u) (ap is_empty g.0) (h.1).2) g
 
   variables_fit : (n : ℕ) (s : Scope) (x : TypedNames) (t : Scope) → gives (variables_rule ms n s x) t → InProcedure s → InProcedure t
-  unfolding variables_rule
+  unfolding variables_rule typed_variables
   variables_fit n s x t h g =
-      through_keeps InProcedure (variable_rule h.0.of) (λ a e b k c. variable_fits h.0.of (type_solid ms loaded s (solid_here s g) _ n 0 (out-TypedNames x).of h.0 h.1) a e b k c) s (out-TypedNames x).names t h.2 g
+      let w = h.2 in
+      through_keeps InProcedure (variable_rule w.0.of) (λ a e b k c. variable_fits w.0.of (type_solid ms loaded s (solid_here s g) _ n 0 (out-TypedNames x).of w.0 w.1) a e b k c) s (out-TypedNames x).names t w.2 g
 
   pub declarations_fit : (n : ℕ) (s : Scope) (x : Declarations) (t : Scope) → gives (declarations_rule ms n s x) t → InProcedure s → InProcedure t
   unfolding declarations_rule

@@ -12,12 +12,12 @@ use Rattle.ob_parse.specs.declared.tree.IdentDef.{IdentDef}
 use Rattle.ob_parse.specs.declared.tree.Import.{Import}
 use Rattle.ob_parse.specs.declared.tree.Module.{Module}
 use Rattle.ob_types.specs.declared.structure.ObType.{ObType}
-use Rattle.ob_mean.specs.declared.whole.face.Face.{Face}
-use Rattle.ob_mean.specs.declared.whole.module.ModuleVariable.{ModuleVariable}
-use Rattle.ob_mean.specs.declared.whole.module.ModuleVariable.TheVariants as module_variable
-use Rattle.ob_mean.specs.declared.whole.module.TypedModule.{TypedModule}
-use Rattle.ob_mean.specs.declared.whole.module.TypedProcedure.{TypedProcedure}
-use Rattle.ob_mean.specs.whole.WellFormed.{Names, AllBelow, module_object, own_heading, StartWith, AreHeadings, IsFaceOf}
+use Rattle.ob_mean.specs.declared.face.Face.{Face}
+use Rattle.ob_mean.specs.declared.module.ModuleVariable.{ModuleVariable}
+use Rattle.ob_mean.specs.declared.module.ModuleVariable.TheVariants as module_variable
+use Rattle.ob_mean.specs.declared.module.TypedModule.{TypedModule}
+use Rattle.ob_mean.specs.declared.module.TypedProcedure.{TypedProcedure}
+use Rattle.ob_mean.specs.WellFormed.{Names, AllBelow, module_object, own_heading, StartWith, AreHeadings, IsFaceOf}
 use Rattle.ob_declare.specs.declared.block.Declared.{Declared}
 use Rattle.ob_declare.specs.declared.block.Entry.{Entry}
 use Rattle.ob_declare.specs.declared.block.Entry.TheVariants as entry
@@ -26,7 +26,7 @@ use Rattle.ob_declare.specs.declared.imports.StandardName.{StandardName}
 use Rattle.ob_declare.specs.declared.imports.StandardName.TheVariants as standard
 use Rattle.ob_declare.specs.declared.scope.Scope.{Scope}
 use Rattle.ob_declare.specs.Declarations as declarations
-use Rattle.ob_declare.specs.Declarations.{one_more, max_count, max_variables, has_mark, own_name, loaded_place, with_import, with_module, other_module, imported_as, import_named, import_rule, constant_rule, new_constant, type_rule, new_type, variable_in, variable_rule, variables_rule, declarations_rule}
+use Rattle.ob_declare.specs.Declarations.{one_more, max_count, max_variables, has_mark, own_name, loaded_place, with_module, other_module, imported_as, import_named, import_rule, constant_rule, new_constant, type_rule, new_type, variable_in, variable_rule, typed_variables, variables_rule, declarations_rule}
 use Rattle.ob_declare.specs.Exports.{Modules, module_names}
 use Rattle.ob_declare.specs.Imports.{module_place, standard_named}
 use Rattle.ob_declare.specs.Interfaces.{exported_procedures, number_of, exported_of, object_of, exports_of}
@@ -42,8 +42,8 @@ use Rattle.ob_check.specs.Modules.{exported_variable, exported_variables, own_va
 use Rattle.ob_check.specs.Procedures.{Checking, counted, procedure_at}
 use Rattle.ob_check.specs.Shapes.{shape_of}
 use Rattle.ob_check.specs.Statements.{statements_at}
-use Rattle.ob_mean.specs.declared.whole.shape.Shape.{Shape}
-use Rattle.ob_mean.specs.declared.whole.face.Heading.{Heading}
+use Rattle.ob_mean.specs.declared.shape.Shape.{Shape}
+use Rattle.ob_mean.specs.declared.face.Heading.{Heading}
 use Rattle.ob_fit.specs.Fitting.{face_of_interface, variable_shape, variable_shapes, procedure_heading, procedure_headings, StartsWith, ScopeFits, heading_of, face_of_loaded, loaded_face, with_face, face_named, faces_of, ProcedureBodiesFit, IsFitting, EachCheckedFits}
 use Rattle.ob_types.specs.Solid.{IsSolid, ExportsSolid}
 use Rattle.ob_fit.specs.Solid.{EachSolid}
@@ -241,9 +241,10 @@ module _ (ms : Modules) (loaded : EachSolid ms) where
       (subst (λ b. gives (variable_in b (has_mark name) (record s { cells_taken = (h.1).0 }) name.name.name t) u) (ap is_empty g.0) (h.1).2) g
 
   variables_fit : (n : ℕ) (s : Scope) (x : TypedNames) (t : Scope) → gives (variables_rule ms n s x) t → InModule s → InModule t
-  unfolding variables_rule
+  unfolding variables_rule typed_variables
   variables_fit n s x t h g =
-      through_keeps InModule (variable_rule h.0.of) (λ a e b k c. variable_fits h.0.of (type_solid ms loaded s (solid_here s g) _ n 0 (out-TypedNames x).of h.0 h.1) a e b k c) s (out-TypedNames x).names t h.2 g
+      let w = h.2 in
+      through_keeps InModule (variable_rule w.0.of) (λ a e b k c. variable_fits w.0.of (type_solid ms loaded s (solid_here s g) _ n 0 (out-TypedNames x).of w.0 w.1) a e b k c) s (out-TypedNames x).names t w.2 g
 
   declarations_fit : (n : ℕ) (s : Scope) (x : Declarations) (t : Scope) → gives (declarations_rule ms n s x) t → InModule s → InModule t
   unfolding declarations_rule
@@ -260,8 +261,8 @@ module _ (ms : Modules) (loaded : EachSolid ms) where
   found_place self own (Some p) place h = ap Some h.1
 
   module_fits : (s : Scope) (name : List ℕ) (own : List ℕ) (place : ℕ) (t : Scope) → IsLoaded ms own place → gives (with_module s name place) t → InModule s → InModule t
-  unfolding with_module with_import
-  module_fits s name own place t l h g = subst InModule (h.2).1 (
+  unfolding with_module
+  module_fits s name own place t l h g = subst InModule h.2 (
     g.0,
     g.1,
     more s.exported_count s.own_count s.import_count s.block (record { name = name; exported = is_empty s.around && false; entry = entry.Module s.import_count place }) s.exported_count s.own_count h.0 g.2
@@ -274,14 +275,14 @@ module _ (ms : Modules) (loaded : EachSolid ms) where
       one_face = ap (λ o. faces_of ms (with_key o)) l.1 ∙ ap (λ o. with_face o ++ []) l.2
 
   import_as_fits : (s : Scope) (name own : List ℕ) (n : StandardName) (t : Scope) → gives (imported_as ms s name own n) t → InModule s → InModule t
-  unfolding imported_as with_import other_module module_place
-  import_as_fits s name own standard.In t h g = subst InModule h.1 (
+  unfolding imported_as other_module module_place
+  import_as_fits s name own standard.In t h g = subst InModule h (
     g.0,
     g.1,
     more s.exported_count s.own_count s.import_count s.block (record { name = name; exported = is_empty s.around && false; entry = entry.In }) s.exported_count s.own_count s.import_count g.2
         (none_more s.exported_count (exported_variables s.block) (g.2).0) (none_more s.own_count (own_variables s.block) (g.2).1) (none_more s.import_count (faces_of ms (all_imported ms s.block)) (g.2).2) (λ a b c d e f. tt) tt,
   )
-  import_as_fits s name own standard.Out t h g = subst InModule h.1 (
+  import_as_fits s name own standard.Out t h g = subst InModule h (
     g.0,
     g.1,
     more s.exported_count s.own_count s.import_count s.block (record { name = name; exported = is_empty s.around && false; entry = entry.Out }) s.exported_count s.own_count s.import_count g.2
@@ -293,7 +294,7 @@ module _ (ms : Modules) (loaded : EachSolid ms) where
 
   import_fits : (s : Scope) (i : Import) (t : Scope) → gives (import_rule ms s i) t → InModule s → InModule t
   unfolding import_rule import_named
-  import_fits s i t h g = import_as_fits s i.name.name (own_name i.name i.module_name) (standard_named (own_name i.name i.module_name)) t h.1 g
+  import_fits s i t h g = import_as_fits s i.name.name (own_name i.name i.module_name) (standard_named (own_name i.name i.module_name)) t (h.1).1 g
 
   opening_fits : (name : List ℕ) → InModule (opening name)
   opening_fits name = (refl, refl, (refl, refl, refl, (λ a b c d e f. tt), tt))

@@ -14,20 +14,20 @@ use Rattle.ob_types.specs.declared.structure.ObType.TheVariants.{Basic as OfBasi
 use Rattle.ob_types.specs.declared.structure.ObType.TheBlock as block
 use Rattle.ob_types.specs.Types.{same}
 use Rattle.ob_types.proofs.SameType.{same_true}
-use Rattle.ob_mean.specs.declared.whole.expression.TypedExpr.{TypedExpr}
-use Rattle.ob_mean.specs.declared.whole.expression.TypedExpr.TheVariants as typed
-use Rattle.ob_mean.specs.declared.whole.expression.Designator.{Designator}
-use Rattle.ob_mean.specs.declared.whole.expression.Argument.{Argument}
-use Rattle.ob_mean.specs.declared.whole.expression.Argument.TheVariants as argument
-use Rattle.ob_mean.specs.declared.whole.expression.Operation.{Operation}
-use Rattle.ob_mean.specs.declared.whole.module.ModuleVariable.TheVariants as module_variable
-use Rattle.ob_mean.specs.declared.whole.operator.Operator.{Operator}
-use Rattle.ob_mean.specs.declared.whole.operator.Relation.{Relation}
-use Rattle.ob_mean.specs.declared.whole.operator.UnaryOperator.{UnaryOperator}
-use Rattle.ob_mean.specs.declared.whole.operator.UnaryOperator.TheVariants as one
-use Rattle.ob_mean.specs.declared.whole.shape.Shape.{Shape}
-use Rattle.ob_mean.specs.declared.whole.shape.Shape.TheVariants as shape
-use Rattle.ob_mean.specs.whole.WellFormed.{Names, Of, ExprFits, IndexesFit, IsPassed, IsText, object_of, module_object, elements_in}
+use Rattle.ob_mean.specs.declared.expression.TypedExpr.{TypedExpr}
+use Rattle.ob_mean.specs.declared.expression.TypedExpr.TheVariants as typed
+use Rattle.ob_mean.specs.declared.expression.Designator.{Designator}
+use Rattle.ob_mean.specs.declared.expression.Argument.{Argument}
+use Rattle.ob_mean.specs.declared.expression.Argument.TheVariants as argument
+use Rattle.ob_mean.specs.declared.expression.Operation.{Operation}
+use Rattle.ob_mean.specs.declared.module.ModuleVariable.TheVariants as module_variable
+use Rattle.ob_mean.specs.declared.operator.Operator.{Operator}
+use Rattle.ob_mean.specs.declared.operator.Relation.{Relation}
+use Rattle.ob_mean.specs.declared.operator.UnaryOperator.{UnaryOperator}
+use Rattle.ob_mean.specs.declared.operator.UnaryOperator.TheVariants as one
+use Rattle.ob_mean.specs.declared.shape.Shape.{Shape}
+use Rattle.ob_mean.specs.declared.shape.Shape.TheVariants as shape
+use Rattle.ob_mean.specs.WellFormed.{Names, Of, ExprFits, IndexesFit, IsPassed, IsText, object_of, module_object, elements_in}
 use Rattle.ob_declare.specs.declared.predeclared.Function.{Function}
 use Rattle.ob_declare.specs.declared.predeclared.Function.TheVariants as function
 use Rattle.ob_declare.specs.Rule.{gives}
@@ -223,7 +223,7 @@ pub text_object : (names : Names) (vs : Variables) (t : List ℕ) (n : ℕ) → 
 text_object names vs t n h = ap module_object (starts_reads names.variables vs (module_variable.Text t n) h)
 
 array_elements : (n : ℕ) (s : Shape) → elements_in (Some (Of (shape.Array n s))) ≡ Some s
-unfolding Rattle.ob_mean.specs.declared.whole.shape.Shape.TheBlock.hidden-the_row-Shape-0 denote.Hole.Carrier.hidden
+unfolding Rattle.ob_mean.specs.declared.shape.Shape.TheBlock.hidden-the_row-Shape-0 denote.Hole.Carrier.hidden
 array_elements n s = refl
 
 pub place_fits : (names : Names) (vs : Variables) (v : Operand) (p : Designator × Variables) → gives (text_place vs v) p → StartsWith names.variables p.1 → (OperandFits names v → IndexesFit names p.0 × IsText (object_of names p.0)) × StartsWith names.variables vs

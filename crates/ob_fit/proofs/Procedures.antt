@@ -5,11 +5,11 @@ use Rattle.ob_parse.specs.declared.tree.Procedure.{Procedure, out-Procedure}
 use Rattle.ob_parse.specs.declared.tree.Returned.{Returned}
 use Rattle.ob_types.specs.declared.exports.Signature.{Signature}
 use Rattle.ob_types.specs.declared.structure.Basic.{Basic}
-use Rattle.ob_mean.specs.declared.whole.expression.TypedExpr.{TypedExpr}
-use Rattle.ob_mean.specs.declared.whole.module.Parameter.{Parameter}
-use Rattle.ob_mean.specs.declared.whole.module.TypedProcedure.{TypedProcedure}
-use Rattle.ob_mean.specs.declared.whole.shape.Shape.{Shape}
-use Rattle.ob_mean.specs.whole.WellFormed.{Names, ListFits, ResultFits, own_heading, is_there}
+use Rattle.ob_mean.specs.declared.expression.TypedExpr.{TypedExpr}
+use Rattle.ob_mean.specs.declared.module.Parameter.{Parameter}
+use Rattle.ob_mean.specs.declared.module.TypedProcedure.{TypedProcedure}
+use Rattle.ob_mean.specs.declared.shape.Shape.{Shape}
+use Rattle.ob_mean.specs.WellFormed.{Names, ListFits, ResultFits, own_heading, is_there}
 use Rattle.ob_declare.specs.declared.block.Declared.{Declared}
 use Rattle.ob_declare.specs.declared.block.Entry.{Entry}
 use Rattle.ob_declare.specs.declared.block.Entry.TheVariants as entry
@@ -28,7 +28,7 @@ use Rattle.ob_check.specs.Statements.{statements_at}
 use Rattle.ob_fit.specs.Fitting.{StartsWith, ScopeFits, heading_of}
 use Rattle.ob_fit.specs.Solid.{EachSolid}
 use Rattle.ob_fit.proofs.Solid.{SolidEntry}
-use Rattle.ob_fit.proofs.Blocks.{blocks_solid, seen_solid, outer_solid, ParametersFit, of_heading, EntryOf, OuterOf, EachEntry, EachBlock, within, outer_of, each_more, each_map, scope_fits, own_more, count_of, heading_fits, length_more}
+use Rattle.ob_fit.proofs.Blocks.{blocks_solid, outer_solid, ParametersFit, of_heading, EntryOf, OuterOf, EachEntry, EachBlock, within, outer_of, each_more, each_map, scope_fits, own_more, count_of, heading_fits, length_more}
 use Rattle.ob_fit.proofs.Expressions.{value_for_fits}
 use Rattle.ob_fit.proofs.Grows.{same, longer, one_longer, optional_grows, statements_grow, value_for_grows}
 use Rattle.ob_fit.proofs.Locals.{InProcedure, declarations_fit}
@@ -178,7 +178,7 @@ module _ (ms : Modules) (loaded : EachSolid ms) (names : Names) (base : ℕ) whe
 
       head : ParametersFit ms names base (of_heading ms names base hd)
       head = heading_fits ms names base n c.0 (out-Procedure p).formals hd loaded
-          (seen_solid c.0 (each_map Q SolidEntry (λ e x. outer_solid ms names base e (outer e x)) c.0.block g.3) (subst (EachBlock SolidEntry) (sym g.0) (blocks_solid ms names base around blocks))) hh
+          (each_map Q SolidEntry (λ e x. outer_solid ms names base e (outer e x)) c.0.block g.3) (subst (EachBlock SolidEntry) (sym g.0) (blocks_solid ms names base around blocks)) hh
 
       none_own : own_shapes (length ps) hd.block ≡ []
       none_own = (head).1 (length ps) (let a = count_of hd.signature.formals in omega arith)

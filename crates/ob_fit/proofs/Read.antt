@@ -10,7 +10,8 @@ use Rattle.ob_types.specs.declared.exports.Object.{Object}
 use Rattle.ob_types.specs.declared.exports.Object.TheVariants as object
 use Rattle.ob_types.specs.declared.exports.Signature.{Signature}
 use Rattle.ob_types.specs.declared.structure.ObType.{ObType}
-use Rattle.ob_mean.specs.whole.WellFormed.{Names, Of, called, variable_object, face_object, face_heading, shape_object}
+use Rattle.ob_mean.specs.declared.expression.Callee.TheVariants as callee
+use Rattle.ob_mean.specs.WellFormed.{Names, Of, called, variable_object, face_object, face_heading, shape_object}
 use Rattle.ob_declare.specs.declared.block.Entry.{Entry}
 use Rattle.ob_declare.specs.declared.block.Entry.TheVariants as entry
 use Rattle.ob_declare.specs.declared.predeclared.InputName.{InputName}
@@ -30,7 +31,7 @@ use Rattle.ob_declare.specs.Rule.{gives}
 use Rattle.ob_declare.specs.Scope.{seen, outer}
 use Rattle.ob_express.specs.Named.{Meant, Callable, Writable}
 use Rattle.ob_express.specs.Named as meaning
-use Rattle.ob_express.specs.Names.{input_read, output_read, object_read, member_read_layer, member_read, input_member_layer, output_member_layer, input_member, output_member, entry_read, read_at, no_variable, entry_written, written_at, predeclared_called, input_called, output_called, object_called, member_called_layer, member_called, input_call_layer, output_call_layer, input_call, output_call, entry_called, name_called, called_at}
+use Rattle.ob_express.specs.Names.{input_read, output_read, object_read, member_read_layer, member_read, input_member_layer, output_member_layer, input_member, output_member, entry_read, read_at, no_variable, entry_written, written_at, predeclared_called, whole, input_called, output_called, object_called, member_called_layer, member_called, input_call_layer, output_call_layer, input_call, output_call, entry_called, name_called, called_at}
 use Rattle.ob_check.specs.Shapes.{shape_of}
 use Rattle.ob_fit.specs.Fitting.{Suits, EntryFits, ScopeFits, loaded_face, heading_of, variable_shapes, procedure_headings}
 use Rattle.ob_types.specs.Solid.{IsSolid, ObjectSolid}
@@ -201,44 +202,48 @@ predeclared_fits names (predeclared.Function f) [] c h = subst (CallableFits nam
 predeclared_fits names (predeclared.Procedure f) [] c h = subst (CallableFits names) h tt
 predeclared_fits names p xs c h = absurd h
 
-input_called_fits : (names : Names) (i : InputName) (c : Callable) → gives (input_called i) c → CallableFits names c
+whole_fits : (names : Names) (c : Callable) (xs : List Selector) (d : Callable) → gives (whole c xs) d → CallableFits names c → CallableFits names d
+whole_fits names c [] d h g = subst (CallableFits names) h g
+whole_fits names c (x ∷ xs) d h g = absurd h
+
+input_called_fits : (names : Names) (i : InputName) (xs : List Selector) (c : Callable) → gives (input_called i xs) c → CallableFits names c
 unfolding input_called
-input_called_fits names input.Unknown c h = absurd h
-input_called_fits names input.Done c h = absurd h
-input_called_fits names i c h = subst (CallableFits names) h tt
+input_called_fits names input.Unknown xs c h = absurd h
+input_called_fits names input.Done xs c h = absurd h
+input_called_fits names i xs c h = whole_fits names (meaning.Input i) xs c h tt
 
-output_called_fits : (names : Names) (o : OutputName) (c : Callable) → gives (output_called o) c → CallableFits names c
+output_called_fits : (names : Names) (o : OutputName) (xs : List Selector) (c : Callable) → gives (output_called o xs) c → CallableFits names c
 unfolding output_called
-output_called_fits names output.Unknown c h = absurd h
-output_called_fits names o c h = subst (CallableFits names) h tt
+output_called_fits names output.Unknown xs c h = absurd h
+output_called_fits names o xs c h = whole_fits names (meaning.Output o) xs c h tt
 
-object_called_fits : (names : Names) (i number : ℕ) (o : Object) (c : Callable) → ((p : Signature) → o ≡ object.Procedure p → face_heading (slice_get names.faces i) number ≡ Some (heading_of p)) → gives (object_called i number o) c → CallableFits names c
+object_called_fits : (names : Names) (i number : ℕ) (o : Object) (xs : List Selector) (c : Callable) → ((p : Signature) → o ≡ object.Procedure p → face_heading (slice_get names.faces i) number ≡ Some (heading_of p)) → gives (object_called i number o xs) c → CallableFits names c
 unfolding object_called
-object_called_fits names i number (object.Procedure p) c g h = subst (CallableFits names) h (g p refl)
-object_called_fits names i number (object.Constant k) c g h = absurd h
-object_called_fits names i number (object.Variable t) c g h = absurd h
-object_called_fits names i number (object.TypeName t) c g h = absurd h
+object_called_fits names i number (object.Procedure p) xs c g h = whole_fits names (meaning.Procedure p (callee.OfImport i number)) xs c h (g p refl)
+object_called_fits names i number (object.Constant k) xs c g h = absurd h
+object_called_fits names i number (object.Variable t) xs c g h = absurd h
+object_called_fits names i number (object.TypeName t) xs c g h = absurd h
 
-member_called_fits : (ms : Modules) (names : Names) (i place : ℕ) (l : SelectorLayer) (c : Callable) → slice_get names.faces i ≡ loaded_face (slice_get ms place) → gives (member_called_layer ms i place l) c → CallableFits names c
-member_called_fits ms names i place (Selector-F.Field f) c e h =
-    object_called_fits names i (procedure_number ms place f.name) h.0 c
+member_called_fits : (ms : Modules) (names : Names) (i place : ℕ) (l : SelectorLayer) (xs : List Selector) (c : Callable) → slice_get names.faces i ≡ loaded_face (slice_get ms place) → gives (member_called_layer ms i place l xs) c → CallableFits names c
+member_called_fits ms names i place (Selector-F.Field f) xs c e h =
+    object_called_fits names i (procedure_number ms place f.name) h.0 xs c
     (λ p k. ap (λ o. face_heading o (procedure_number ms place f.name)) e ∙ imported_procedure ms place f.name p (there_is (exported_at ms place f.name) code.NotExported h.0 h.1 ∙ ap Some k)) h.2
-member_called_fits ms names i place (Selector-F.Index es) c e h = absurd h
+member_called_fits ms names i place (Selector-F.Index es) xs c e h = absurd h
 
-input_call_fits : (names : Names) (l : SelectorLayer) (c : Callable) → gives (input_call_layer l) c → CallableFits names c
-input_call_fits names (Selector-F.Field f) c h = input_called_fits names (input_named f.name) c h
-input_call_fits names (Selector-F.Index es) c h = absurd h
+input_call_fits : (names : Names) (l : SelectorLayer) (xs : List Selector) (c : Callable) → gives (input_call_layer l xs) c → CallableFits names c
+input_call_fits names (Selector-F.Field f) xs c h = input_called_fits names (input_named f.name) xs c h
+input_call_fits names (Selector-F.Index es) xs c h = absurd h
 
-output_call_fits : (names : Names) (l : SelectorLayer) (c : Callable) → gives (output_call_layer l) c → CallableFits names c
-output_call_fits names (Selector-F.Field f) c h = output_called_fits names (output_named f.name) c h
-output_call_fits names (Selector-F.Index es) c h = absurd h
+output_call_fits : (names : Names) (l : SelectorLayer) (xs : List Selector) (c : Callable) → gives (output_call_layer l xs) c → CallableFits names c
+output_call_fits names (Selector-F.Field f) xs c h = output_called_fits names (output_named f.name) xs c h
+output_call_fits names (Selector-F.Index es) xs c h = absurd h
 
 entry_called_fits : (ms : Modules) (names : Names) (s : Scope) (e : Entry) (xs : List Selector) (c : Callable) → EntryFits ms names s e → gives (entry_called ms e xs) c → CallableFits names c
 unfolding entry_called member_called input_call output_call
 entry_called_fits ms names s (entry.Procedure p n) [] c g h = subst (CallableFits names) h g
-entry_called_fits ms names s (entry.Module i place) (x ∷ []) c g h = member_called_fits ms names i place (out-Selector x) c g.0 h
-entry_called_fits ms names s entry.In (x ∷ []) c g h = input_call_fits names (out-Selector x) c h
-entry_called_fits ms names s entry.Out (x ∷ []) c g h = output_call_fits names (out-Selector x) c h
+entry_called_fits ms names s (entry.Module i place) (x ∷ xs) c g h = member_called_fits ms names i place (out-Selector x) xs c g.0 h
+entry_called_fits ms names s entry.In (x ∷ xs) c g h = input_call_fits names (out-Selector x) xs c h
+entry_called_fits ms names s entry.Out (x ∷ xs) c g h = output_call_fits names (out-Selector x) xs c h
 entry_called_fits ms names s e xs c g h = absurd h
 
 name_called_fits : (ms : Modules) (names : Names) (s : Scope) (o : Option Entry) (p : Predeclared) (xs : List Selector) (c : Callable) → ((e : Entry) → o ≡ Some e → EntryFits ms names s e) → gives (name_called ms o p xs) c → CallableFits names c

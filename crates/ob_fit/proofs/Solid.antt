@@ -25,10 +25,10 @@ use Rattle.ob_types.specs.declared.structure.ObType.TheBlock as block
 use Rattle.ob_types.specs.declared.structure.ObType.TheBlock.{Row_of-Field, end_of-Field, more_of-Field, items-the_row-Field, items_shown-the_row-Field-1}
 use Rattle.ob_types.specs.declared.structure.RecordName.{RecordName}
 use Rattle.ob_types.specs.declared.structure.RecordType.{RecordType, RecordType', out-RecordType, roll-RecordType, out-roll-RecordType}
-use Rattle.ob_mean.specs.declared.whole.shape.Shape.{Shape, Row_of-Shape, end_of-Shape, more_of-Shape, items-the_row-Shape, items_hidden-the_row-Shape-1}
-use Rattle.ob_mean.specs.declared.whole.shape.Shape.TheVariants as shape
-use Rattle.ob_mean.specs.whole.Shapes.{zero_of, zeros_in, zeros, at_least_one}
-use Rattle.ob_mean.specs.whole.Values.{Value, size, row}
+use Rattle.ob_mean.specs.declared.shape.Shape.{Shape, Row_of-Shape, end_of-Shape, more_of-Shape, items-the_row-Shape, items_hidden-the_row-Shape-1}
+use Rattle.ob_mean.specs.declared.shape.Shape.TheVariants as shape
+use Rattle.ob_mean.specs.Shapes.{zero_of, zeros_in, zeros, at_least_one}
+use Rattle.ob_mean.specs.Values.{Value, size, row}
 use Rattle.ob_declare.specs.declared.block.Entry.{Entry}
 use Rattle.ob_declare.specs.declared.block.Entry.TheVariants as entry
 use Rattle.ob_declare.specs.declared.predeclared.Predeclared.{Predeclared}
@@ -46,7 +46,7 @@ use Rattle.ob_declare.specs.WrittenTypes.{predeclared_type, own_type, object_typ
 use Rattle.ob_express.specs.Selecting.{element_of, field_from, seen_field}
 use Rattle.ob_express.specs.Selecting as selecting
 use Rattle.ob_check.specs.Shapes.{shape_of, shapes_of}
-use Rattle.ob_mean.specs.whole.WellFormed.{Object as Object', elements_in}
+use Rattle.ob_mean.specs.WellFormed.{Object as Object', elements_in}
 use Rattle.ob_express.specs.Functions.{is_array}
 use Rattle.ob_fit.specs.Fitting.{Suits}
 use Rattle.ob_types.specs.Solid.{IsSolid, AreSolid, FieldsSolid, ObjectSolid, ExportsSolid}
@@ -62,7 +62,7 @@ row_cells (suc n) v h g = omega arith
 
 row_zeros : (k : _) (fields : Row_of-Shape k) → zeros_in fields ≡ zeros (items-the_row-Shape k fields)
 row_zeros k end_of-Shape = refl
-row_zeros k (more_of-Shape s rest) = ap (λ l. Rattle.ob_mean.specs.whole.Values.Beside (zero_of s) l) (row_zeros _ rest)
+row_zeros k (more_of-Shape s rest) = ap (λ l. Rattle.ob_mean.specs.Values.Beside (zero_of s) l) (row_zeros _ rest)
 
 abbrev fields_in : Shape → (k : _) × Row_of-Shape k
 fields_in (shape.Record' k fields) = (_, fields)
@@ -72,7 +72,7 @@ record_zero : (ss : List Shape) → zero_of (shape.Record ss) ≡ at_least_one (
 record_zero ss = ap at_least_one (row_zeros (fields_in (shape.Record ss)).0 (fields_in (shape.Record ss)).1 ∙ ap zeros (items_hidden-the_row-Shape-1 ss))
 
 array_zero : (n : ℕ) (s : Shape) → zero_of (shape.Array n s) ≡ row n (zero_of s)
-unfolding Rattle.ob_mean.specs.declared.whole.shape.Shape.TheBlock.hidden-the_row-Shape-0 denote.Hole.Carrier.hidden
+unfolding Rattle.ob_mean.specs.declared.shape.Shape.TheBlock.hidden-the_row-Shape-0 denote.Hole.Carrier.hidden
 array_zero n s = refl
 
 mutual
@@ -253,13 +253,14 @@ module _ (ms : Modules) (loaded : EachSolid ms) (s : Scope) (scope : SeenSolid s
   other_type_solid (Some entry.Out) p name t h = absurd h
   other_type_solid None p name t h = absurd h
 
-  qualified_solid : (first : Ident) (second : Option Ident) (t : ObType) → gives (qualified ms s first second) t → IsSolid t
-  qualified_solid first None t h = own_type_solid (seen s first.name) (outer s first.name) t (scope first.name) h
-  qualified_solid first (Some second) t h = other_type_solid (seen s first.name) (outer s first.name) second.name t h
+  qualified_solid : (o : Option Entry) (p : Predeclared) (second : Option Ident) (t : ObType) → ((e : Entry) → o ≡ Some e → SolidEntry e) → gives (qualified ms o p second) t → IsSolid t
+  unfolding qualified
+  qualified_solid o p None t g h = own_type_solid o p t g h
+  qualified_solid o p (Some second) t g h = other_type_solid o p second.name t h
 
   named_solid : (q : Qualident) (t : ObType) → gives (type_named ms s q) t → IsSolid t
   unfolding type_named
-  named_solid q t h = qualified_solid q.first q.second t h
+  named_solid q t h = qualified_solid (seen s q.first.name) (outer s q.first.name) q.second t (scope q.first.name) h
 
   -- ---- arrays and records
 

@@ -14,14 +14,14 @@ use Rattle.ob_types.specs.declared.exports.Constant.TheVariants as constant
 use Rattle.ob_types.specs.declared.structure.Basic.TheVariants as basic
 use Rattle.ob_types.specs.declared.structure.ObType.{ObType, end_of-ObType, more_of-ObType}
 use Rattle.ob_types.specs.declared.structure.ObType.TheVariants.{Basic as OfBasic, Array', Open', Record}
-use Rattle.ob_mean.specs.declared.whole.expression.TypedExpr.{TypedExpr}
-use Rattle.ob_mean.specs.declared.whole.expression.Variable.{Variable}
-use Rattle.ob_mean.specs.declared.whole.statement.Branch.{Branch as TypedBranch, roll-Branch}
-use Rattle.ob_mean.specs.declared.whole.statement.CaseArm.{CaseArm, roll-CaseArm}
-use Rattle.ob_mean.specs.declared.whole.statement.ForHead.{ForHead as TypedHead}
-use Rattle.ob_mean.specs.declared.whole.statement.LabelRange.{LabelRange as TypedRange}
-use Rattle.ob_mean.specs.declared.whole.statement.TypedStatement.{TypedStatement}
-use Rattle.ob_mean.specs.whole.WellFormed.{Names, ExprFits, IsBasic, StatFits, ListFits, HeadFits, variable_object}
+use Rattle.ob_mean.specs.declared.expression.TypedExpr.{TypedExpr}
+use Rattle.ob_mean.specs.declared.expression.Variable.{Variable}
+use Rattle.ob_mean.specs.declared.statement.Branch.{Branch as TypedBranch, roll-Branch}
+use Rattle.ob_mean.specs.declared.statement.CaseArm.{CaseArm, roll-CaseArm}
+use Rattle.ob_mean.specs.declared.statement.ForHead.{ForHead as TypedHead}
+use Rattle.ob_mean.specs.declared.statement.LabelRange.{LabelRange as TypedRange}
+use Rattle.ob_mean.specs.declared.statement.TypedStatement.{TypedStatement}
+use Rattle.ob_mean.specs.WellFormed.{Names, ExprFits, IsBasic, StatFits, ListFits, HeadFits, variable_object}
 use Rattle.ob_declare.specs.declared.block.Entry.{Entry}
 use Rattle.ob_declare.specs.declared.block.Entry.TheVariants as entry
 use Rattle.ob_declare.specs.declared.predeclared.Predeclared.{Predeclared}

@@ -8,9 +8,9 @@ use Rattle.ob_types.specs.declared.structure.ObType.{ObType, end_of-ObType, more
 use Rattle.ob_types.specs.declared.structure.ObType.TheVariants.{Basic as OfBasic, Array', Open', Array, Open, Record}
 use Rattle.ob_types.specs.declared.structure.ObType.TheBlock as block
 use Rattle.ob_types.specs.Types.{is_char}
-use Rattle.ob_mean.specs.declared.whole.shape.Shape.{Shape, Row_of-Shape, end_of-Shape, more_of-Shape, items-the_row-Shape, items_hidden-the_row-Shape-1}
-use Rattle.ob_mean.specs.declared.whole.shape.Shape.TheVariants as shape
-use Rattle.ob_mean.specs.whole.WellFormed.{Object, Of, elements_in, field_in, field_shape, field_at, shape_object}
+use Rattle.ob_mean.specs.declared.shape.Shape.{Shape, Row_of-Shape, end_of-Shape, more_of-Shape, items-the_row-Shape, items_hidden-the_row-Shape-1}
+use Rattle.ob_mean.specs.declared.shape.Shape.TheVariants as shape
+use Rattle.ob_mean.specs.WellFormed.{Object, Of, elements_in, field_in, field_shape, field_at, shape_object}
 use Rattle.ob_declare.specs.declared.scope.Scope.{Scope}
 use Rattle.ob_declare.specs.Rule.{gives}
 use Rattle.ob_express.specs.Operands.{is_text}
@@ -42,7 +42,7 @@ pub basic_suits : (b : Basic) (o : Option Object) → Suits (OfBasic b) o → o 
 basic_suits b o h = closed_suits (OfBasic b) o refl h
 
 array_elements : (n : ℕ) (s : Shape) → elements_in (Some (Of (shape.Array n s))) ≡ Some s
-unfolding Rattle.ob_mean.specs.declared.whole.shape.Shape.TheBlock.hidden-the_row-Shape-0 denote.Hole.Carrier.hidden
+unfolding Rattle.ob_mean.specs.declared.shape.Shape.TheBlock.hidden-the_row-Shape-0 denote.Hole.Carrier.hidden
 array_elements n s = refl
 
 element_of_open : (e : ObType) → element_of (Open e) ≡ Some e

@@ -9,19 +9,19 @@ use Rattle.ob_types.specs.declared.exports.Signature.{Signature}
 use Rattle.ob_types.specs.declared.structure.ObType.{ObType}
 use Rattle.ob_types.specs.declared.structure.ObType.TheVariants.{Open}
 use Rattle.ob_types.specs.InterfaceTree.{InterfaceTree}
-use Rattle.ob_mean.specs.declared.whole.expression.TypedExpr.{TypedExpr}
-use Rattle.ob_mean.specs.declared.whole.expression.Operation.{Operation}
-use Rattle.ob_mean.specs.declared.whole.expression.Callee.TheVariants as callee
-use Rattle.ob_mean.specs.declared.whole.face.Heading.{Heading}
-use Rattle.ob_mean.specs.declared.whole.face.Face.{Face}
-use Rattle.ob_mean.specs.declared.whole.shape.Shape.{Shape}
-use Rattle.ob_mean.specs.declared.whole.statement.Branch.{Branch, out-Branch}
-use Rattle.ob_mean.specs.declared.whole.statement.CaseArm.{CaseArm, out-CaseArm}
-use Rattle.ob_mean.specs.declared.whole.module.TypedProcedure.{TypedProcedure}
-use Rattle.ob_mean.specs.declared.whole.module.TypedModule.{TypedModule}
-use Rattle.ob_mean.specs.whole.WellFormed.{Names, Object as Named, Of, OpenOf, ExprFits, IndexesFit, ListFits, ResultFits, AllBelow, names_in, names_of, IsFaceOf, IsWellFormed, FacesFit, cell_limit, object_of, variable_object, called}
-use Rattle.ob_mean.specs.whole.Shapes.{zeros, opening_row}
-use Rattle.ob_mean.specs.whole.Values.{size}
+use Rattle.ob_mean.specs.declared.expression.TypedExpr.{TypedExpr}
+use Rattle.ob_mean.specs.declared.expression.Operation.{Operation}
+use Rattle.ob_mean.specs.declared.expression.Callee.TheVariants as callee
+use Rattle.ob_mean.specs.declared.face.Heading.{Heading}
+use Rattle.ob_mean.specs.declared.face.Face.{Face}
+use Rattle.ob_mean.specs.declared.shape.Shape.{Shape}
+use Rattle.ob_mean.specs.declared.statement.Branch.{Branch, out-Branch}
+use Rattle.ob_mean.specs.declared.statement.CaseArm.{CaseArm, out-CaseArm}
+use Rattle.ob_mean.specs.declared.module.TypedProcedure.{TypedProcedure}
+use Rattle.ob_mean.specs.declared.module.TypedModule.{TypedModule}
+use Rattle.ob_mean.specs.WellFormed.{Names, Object as Named, Of, OpenOf, ExprFits, IndexesFit, ListFits, ResultFits, AllBelow, names_in, names_of, IsFaceOf, IsWellFormed, FacesFit, cell_limit, object_of, variable_object, called}
+use Rattle.ob_mean.specs.Shapes.{zeros, opening_row}
+use Rattle.ob_mean.specs.Values.{size}
 use Rattle.ob_declare.specs.declared.block.Entry.{Entry}
 use Rattle.ob_declare.specs.declared.block.Entry.TheVariants as entry
 use Rattle.ob_declare.specs.declared.scope.Scope.{Scope}

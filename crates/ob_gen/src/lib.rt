@@ -1,4 +1,15 @@
 //! From typed trees to stack code.
 #![tactic(auto)]
 
-pub mod whole;
+mod action;
+mod compile;
+mod emit;
+mod jumps;
+mod known;
+mod laws;
+mod module;
+mod statement;
+mod table;
+
+pub use laws::{body_law, commands_law};
+pub use module::{generate, module_code};

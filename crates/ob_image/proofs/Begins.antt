@@ -1,13 +1,13 @@
 -- The cells of variables as they begin, one variable after another.
 use Rattle.std.proofs.Common.{◌≡◌, ℕ, zero, suc, ◌+◌, ◌<◌, ◌≤◌, ℤ, pos, List, [], ◌∷◌, ◌++◌, length, get_or, take, refl, sym, ap, ◌∙◌, add-one, append_assoc, append-nil, arith}
 use Rattle.std.proofs.lemmas.List.{take_all, take_more}
-use Rattle.ob_mean.specs.declared.whole.shape.Shape.{Shape}
-use Rattle.ob_mean.specs.declared.whole.shape.Shape.TheVariants.{Array, Record}
-use Rattle.ob_mean.specs.declared.whole.module.ModuleVariable.{ModuleVariable}
-use Rattle.ob_mean.specs.whole.Values.{Value, image, row}
-use Rattle.ob_mean.specs.whole.Shapes.{at_least_one, zero_of, zeros, opening_value, opening_row}
-use Rattle.ob_mean.specs.whole.Texts.{text_row}
-use Rattle.ob_code.specs.whole.Machine.{text_cells}
+use Rattle.ob_mean.specs.declared.shape.Shape.{Shape}
+use Rattle.ob_mean.specs.declared.shape.Shape.TheVariants.{Array, Record}
+use Rattle.ob_mean.specs.declared.module.ModuleVariable.{ModuleVariable}
+use Rattle.ob_mean.specs.Values.{Value, image, row}
+use Rattle.ob_mean.specs.Shapes.{at_least_one, zero_of, zeros, opening_value, opening_row}
+use Rattle.ob_mean.specs.Texts.{text_row}
+use Rattle.ob_code.specs.Machine.{text_cells}
 use Rattle.ob_gen.proofs.emitting.Tables.{array_zero, record_zero}
 use Rattle.ob_gen.proofs.machine.Zeros.{image-text_row, length-text_cells}
 

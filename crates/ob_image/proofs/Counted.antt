@@ -2,9 +2,9 @@
 use Rattle.std.proofs.Common.{◌≡◌, ℕ, zero, suc, ◌+◌, ◌<◌, ◌≤◌, List, [], ◌∷◌, length, get_or, take, sym, ap, ◌∙◌, arith}
 use Rattle.std.proofs.lemmas.List.{take_all}
 use Rattle.ob_session.specs.Session.{Module}
-use Rattle.ob_code.specs.declared.whole.instr.LinkedModule.{LinkedModule}
-use Rattle.ob_code.specs.whole.Linked.{all_cells, AreLaid}
-use Rattle.ob_code.specs.whole.Machine.{Code}
+use Rattle.ob_code.specs.declared.instr.LinkedModule.{LinkedModule}
+use Rattle.ob_code.specs.Linked.{all_cells, AreLaid}
+use Rattle.ob_code.specs.Machine.{Code}
 use Rattle.ob_store.specs.Counted.{HaveCellsOf, CountsCells}
 use Rattle.ob_store.proofs.Counted.{each_counts_cells}
 use Rattle.ob_linked.specs.Compiled.{Known, AreCompiledFrom}

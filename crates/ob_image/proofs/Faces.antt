@@ -2,7 +2,7 @@
 use Rattle.std.proofs.Common.{◌≡◌, ℕ, zero, suc, ◌+◌, ◌<◌, ◌≤◌, List, [], ◌∷◌, length, get_or, take, Some, sym, ap, ◌∙◌, subst, add-one, arith}
 use Rattle.std.specs.Prelude.{slice_get}
 use Rattle.std.proofs.lemmas.List.{take_all}
-use Rattle.ob_mean.specs.declared.whole.face.Face.{Face}
+use Rattle.ob_mean.specs.declared.face.Face.{Face}
 use Rattle.ob_session.specs.Session.{Import, Module, import_places, place_of}
 use Rattle.ob_code.proofs.Each.{stands_at, stands_within}
 use Rattle.ob_linked.specs.Compiled.{Known, face_in, AreKnown}

@@ -2,9 +2,9 @@
 use Rattle.std.proofs.Common.{◌≡◌, ℕ, zero, suc, ◌+◌, ◌<◌, ◌≤◌, List, [], ◌∷◌, ◌++◌, length, get_or, take, drop, refl, sym, ap, ◌∙◌, add-one, append-nil, arith}
 use Rattle.std.proofs.Math.ListN.{set}
 use Rattle.std.proofs.lemmas.List.{drop_all, take_all}
-use Rattle.ob_code.specs.declared.whole.instr.LinkedModule.{LinkedModule}
-use Rattle.ob_code.specs.whole.Linked.{all_cells, AreLaid}
-use Rattle.ob_code.specs.whole.Machine.{Code}
+use Rattle.ob_code.specs.declared.instr.LinkedModule.{LinkedModule}
+use Rattle.ob_code.specs.Linked.{all_cells, AreLaid}
+use Rattle.ob_code.specs.Machine.{Code}
 use Rattle.ob_linked.specs.Compiled.{laid, put_at}
 
 -- in the place of another

@@ -1,7 +1,7 @@
 -- Where the cells of a module lie among those of all.
 use Rattle.std.specs.Prelude.{◌≡◌, ℕ, ◌+◌, List}
-use Rattle.ob_mean.specs.whole.Programs.{opening_store}
-use Rattle.ob_mean.specs.whole.Values.{before, item, size}
+use Rattle.ob_mean.specs.Programs.{opening_store}
+use Rattle.ob_mean.specs.Values.{before, item, size}
 use Rattle.ob_session.specs.Session.{Module, program_of}
 
 -- the first cell of the module of this number in the store of the modules, and the first behind its own

@@ -1,7 +1,7 @@
 //! Whether what was known of imports is still so.
 
 ghost use Rattle.std.specs.Prelude.{◌≡◌, ℕ, ◌<◌, IsTrue, Some, length, slice_get};
-ghost use Rattle.ob_code.specs.whole.Linked.{runs_of};
+ghost use Rattle.ob_code.specs.Linked.{runs_of};
 ghost use Rattle.ob_session.specs.Session as session;
 ghost use Rattle.ob_image.specs.Agrees.{AgreesAt};
 ghost use Rattle.ob_linked.specs.Compiled.{face_in, runs_in, AreKnown, FacesAgree};
@@ -9,7 +9,7 @@ ghost use Rattle.ob_linked.specs.Compiled.{face_in, runs_in, AreKnown, FacesAgre
 use crate::known::KnownFaces;
 use crate::same::same_face;
 use ob_link::{KeyedImport, Modules};
-use ob_mean::whole::Face;
+use ob_mean::Face;
 
 fn runs_at(runs: &[bool], number: usize) -> bool
     ensures { result ≡ runs_of runs.now number }

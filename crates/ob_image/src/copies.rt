@@ -3,7 +3,7 @@
 ghost use Rattle.std.specs.Prelude.{◌≡◌, IfOk};
 
 use ob_base::{Boxed, Items};
-use ob_mean::whole::{Face, Heading, Parameter, Shape};
+use ob_mean::{Face, Heading, Parameter, Shape};
 use std::alloc::{AllocError, Global};
 
 #[cycle(copy)]

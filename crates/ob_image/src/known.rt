@@ -3,7 +3,7 @@
 ghost use Rattle.std.specs.Prelude.{◌≡◌};
 
 use ob_base::Items;
-use ob_mean::whole::Face;
+use ob_mean::Face;
 use std::marker::Model;
 
 /// What importing modules know of a module, and what was known of those that it imports when its code was made.
@@ -15,7 +15,7 @@ pub struct KnownFaces {
 
 impl Model for KnownFaces {
     ghost use Rattle.std.specs.Coded.{codes};
-    ghost use Rattle.ob_mean.specs.contracts.whole.shape.Shape as shape;
+    ghost use Rattle.ob_mean.specs.contracts.shape.Shape as shape;
     ghost use Rattle.ob_linked.specs.Compiled.{Known};
 
     ghost Value = { Known };

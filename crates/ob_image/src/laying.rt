@@ -1,10 +1,10 @@
 //! The modules of an image one behind the other.
 
 ghost use Rattle.std.specs.Prelude.{◌≡◌, ◌<◌, ◌≤◌, ◌^◌, length, vec_capacity};
-ghost use Rattle.ob_code.specs.whole.Linked.{all_cells};
+ghost use Rattle.ob_code.specs.Linked.{all_cells};
 ghost use Rattle.ob_linked.specs.Compiled as spec;
 
-use ob_code::whole::instr::LinkedModule;
+use ob_code::instr::LinkedModule;
 
 /// Puts something in the place of that number, or behind the others, for which there is room. It takes no memory.
 #[tactic(auto, using(crate::proofs::Laid::put_within, crate::proofs::Laid::put_behind))]

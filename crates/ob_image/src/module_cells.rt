@@ -1,12 +1,12 @@
 //! Where the cells of a module lie.
 
 ghost use Rattle.std.specs.Prelude.{◌≡◌, List, take};
-ghost use Rattle.ob_code.specs.whole.Linked.{all_cells, AreLaid};
+ghost use Rattle.ob_code.specs.Linked.{all_cells, AreLaid};
 ghost use Rattle.ob_linked.specs.Compiled.{Known, AreCompiledFrom};
 ghost use Rattle.ob_image.specs.Bounds.{AreBounds};
 ghost use Rattle.ob_session.specs.Session.{Module};
 
-use ob_code::whole::instr::LinkedModule;
+use ob_code::instr::LinkedModule;
 
 // As many cells as the modules have before the one of this number, where they lie one behind the other.
 #[tactic(auto, using(crate::proofs::Counted::cells_before, crate::proofs::Counted::cells_beyond))]

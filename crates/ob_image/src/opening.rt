@@ -1,11 +1,11 @@
 //! The cells of variables before anything is assigned to them.
 
 ghost use Rattle.std.specs.Prelude.{◌≡◌, ℕ, ℤ, ◌<◌, ◌≤◌, [], ◌∷◌, ◌++◌, OnOk, IfOk, length, take, drop, slice_index_or};
-ghost use Rattle.ob_mean.specs.whole.Shapes.{at_least_one, zero_of, zeros, opening_value, opening_row};
-ghost use Rattle.ob_mean.specs.whole.Values.{image, row};
-ghost use Rattle.ob_code.specs.whole.Machine.{text_cells};
+ghost use Rattle.ob_mean.specs.Shapes.{at_least_one, zero_of, zeros, opening_value, opening_row};
+ghost use Rattle.ob_mean.specs.Values.{image, row};
+ghost use Rattle.ob_code.specs.Machine.{text_cells};
 
-use ob_mean::whole::{ModuleVariable, Shape};
+use ob_mean::{ModuleVariable, Shape};
 use std::alloc::{AllocError, Global};
 
 // A variable of this shape.

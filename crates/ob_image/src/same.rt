@@ -2,7 +2,7 @@
 
 ghost use Rattle.std.specs.Prelude.{◌≡◌, ◌↔◌, IsTrue};
 
-use ob_mean::whole::{Face, Heading, Parameter, Shape};
+use ob_mean::{Face, Heading, Parameter, Shape};
 
 #[cycle(same)]
 fn same_shape(left: &Shape, right: &Shape) -> bool

@@ -1,8 +1,8 @@
 -- Looking commands up.
 use Rattle.std.proofs.Common.{◌≡◌, ℕ, List, [], ◌∷◌, ◌++◌, Option, Some, None, refl, sym, ◌∙◌, ap, append_assoc, rules}
 use Rattle.std.specs.Prelude.{slice_index}
-use Rattle.ob_mean.specs.whole.Programs.{Command}
-use Rattle.ob_mean.specs.whole.Values.{Value}
+use Rattle.ob_mean.specs.Programs.{Command}
+use Rattle.ob_mean.specs.Values.{Value}
 use Rattle.ob_session.specs.Session.{Module, find_module, place_of, link_fault}
 use Rattle.ob_session.specs.Cells.{CommandName, Looked, Found, Ready, Runs, Faulty, command_place, linked, looked_in, looked_by, looked_up, ready_with, all_ready}
 use Rattle.ob_link.specs.Looking.{in_store, storeless}

@@ -1,6 +1,6 @@
 -- What the code answers about commands, in the words of the definitions.
 use Rattle.std.specs.Prelude.{List}
-use Rattle.ob_mean.specs.whole.Values.{Value, Nothing}
+use Rattle.ob_mean.specs.Values.{Value, Nothing}
 use Rattle.ob_session.specs.Session.{Session, Module}
 use Rattle.ob_session.specs.Cells as cells
 use Rattle.ob_link.specs.declared.command.LinkFault.{LinkFault}

@@ -51,7 +51,7 @@ pub struct Command {
 }
 
 impl Model for Command {
-    ghost use Rattle.ob_mean.specs.whole.Programs as programs;
+    ghost use Rattle.ob_mean.specs.Programs as programs;
 
     ghost Value = { programs.Command };
 

@@ -2,7 +2,7 @@
 
 ghost use Rattle.std.specs.Prelude.{◌≡◌, ◌<◌, ◌&&◌, IfOk, Some, None, slice_index};
 ghost use Rattle.std.specs.Str.{bytes_eq};
-ghost use Rattle.ob_mean.specs.whole.Values.{Value};
+ghost use Rattle.ob_mean.specs.Values.{Value};
 ghost use Rattle.ob_session.specs.Cells as cells;
 ghost use Rattle.ob_session.specs.Session as session;
 ghost use Rattle.ob_link.specs.Looking.{fault_seen, looked_seen, ready_seen, in_store, storeless};
@@ -11,7 +11,7 @@ use crate::command::{Command, CommandName, LinkFault, Looked, Ready};
 use crate::module::SessionModule;
 use crate::modules::Modules;
 use ob_base::Text;
-use ob_mean::whole::TypedModule;
+use ob_mean::TypedModule;
 use ob_types::{Exported, Object, Signature};
 use std::alloc::{AllocError, Global};
 

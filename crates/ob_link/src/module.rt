@@ -3,7 +3,7 @@
 ghost use Rattle.std.specs.Prelude.{◌≡◌};
 
 use ob_base::{Items, Text};
-use ob_mean::whole::TypedModule;
+use ob_mean::TypedModule;
 use ob_types::Interface;
 use std::marker::Model;
 
@@ -57,9 +57,9 @@ pub struct SessionModule {
 impl Model for SessionModule {
     ghost use Rattle.std.specs.Coded.{codes};
     ghost use Rattle.ob_types.specs.contracts.structure.ObType as structure;
-    ghost use Rattle.ob_mean.specs.contracts.whole.expression.TypedExpr as expression;
-    ghost use Rattle.ob_mean.specs.contracts.whole.shape.Shape as shape;
-    ghost use Rattle.ob_mean.specs.contracts.whole.statement.TypedStatement as statement;
+    ghost use Rattle.ob_mean.specs.contracts.expression.TypedExpr as expression;
+    ghost use Rattle.ob_mean.specs.contracts.shape.Shape as shape;
+    ghost use Rattle.ob_mean.specs.contracts.statement.TypedStatement as statement;
     ghost use Rattle.ob_session.specs.Session.{Module};
 
     ghost Value = { Module };

@@ -24,9 +24,9 @@ impl Model for Table {
     ghost use Rattle.std.specs.Prelude.{◌≡◌, List};
     ghost use Rattle.std.specs.Coded.{codes};
     ghost use Rattle.ob_types.specs.contracts.structure.ObType as structure;
-    ghost use Rattle.ob_mean.specs.contracts.whole.expression.TypedExpr as expression;
-    ghost use Rattle.ob_mean.specs.contracts.whole.shape.Shape as shape;
-    ghost use Rattle.ob_mean.specs.contracts.whole.statement.TypedStatement as statement;
+    ghost use Rattle.ob_mean.specs.contracts.expression.TypedExpr as expression;
+    ghost use Rattle.ob_mean.specs.contracts.shape.Shape as shape;
+    ghost use Rattle.ob_mean.specs.contracts.statement.TypedStatement as statement;
     ghost use Rattle.ob_session.specs.Session.{Module};
     ghost use Rattle.ob_link.specs.Places.{ArePlaces};
 

@@ -2,8 +2,8 @@
 use Rattle.std.proofs.Common.{◌≡◌, ◌≢◌, ◌⊎◌, ℕ, zero, suc, ◌≤◌, Bool, true, false, List, [], ◌∷◌, length, Some, None, if◌then◌else◌, refl, sym, ap, ◌∙◌, subst, inl, inr, arith}
 use Rattle.std.specs.Prelude.{slice_get}
 use Rattle.std.specs.Str.{bytes_eq}
-use Rattle.ob_mean.specs.declared.whole.face.Face.{Face}
-use Rattle.ob_code.specs.whole.Machine.{Code}
+use Rattle.ob_mean.specs.declared.face.Face.{Face}
+use Rattle.ob_code.specs.Machine.{Code}
 use Rattle.ob_gen.proofs.machine.Places.{some_same}
 use Rattle.ob_session.specs.Session.{Import, Module, name_of, key_of, find_module, place_of, import_places, with_module}
 use Rattle.ob_session.specs.Links.{Reached, First, Behind, IsLoaded}

@@ -2,13 +2,13 @@
 use Rattle.std.proofs.Common.{◌≡◌, ◌⊎◌, ℕ, zero, suc, ◌+◌, ◌<◌, Bool, true, List, [], ◌∷◌, ◌++◌, length, Some, None, refl, sym, ap, ◌∙◌, subst, inl, inr, arith}
 use Rattle.std.specs.Prelude.{slice_get, slice_index}
 use Rattle.std.proofs.lemmas.Option.{slice_get_within}
-use Rattle.ob_mean.specs.declared.whole.face.Face.{Face}
-use Rattle.ob_mean.specs.whole.Programs.{Program}
-use Rattle.ob_code.specs.declared.whole.instr.Entries.{Entries}
-use Rattle.ob_code.specs.declared.whole.instr.LinkedModule.{LinkedModule}
-use Rattle.ob_code.specs.whole.Linked.{all_cells, AreLaid, IsAsKnown, Imports, IsLinked}
-use Rattle.ob_code.specs.whole.Machine.{Code}
-use Rattle.ob_gen.specs.whole.Correct.{IsCodeOfProgram}
+use Rattle.ob_mean.specs.declared.face.Face.{Face}
+use Rattle.ob_mean.specs.Programs.{Program}
+use Rattle.ob_code.specs.declared.instr.Entries.{Entries}
+use Rattle.ob_code.specs.declared.instr.LinkedModule.{LinkedModule}
+use Rattle.ob_code.specs.Linked.{all_cells, AreLaid, IsAsKnown, Imports, IsLinked}
+use Rattle.ob_code.specs.Machine.{Code}
+use Rattle.ob_gen.specs.Correct.{IsCodeOfProgram}
 use Rattle.ob_gen.proofs.machine.Places.{some_same}
 
 -- ---- lists

@@ -2,23 +2,23 @@
 use Rattle.std.proofs.Common.{◌≡◌, ◌⊎◌, ℕ, zero, suc, ◌+◌, ◌<◌, true, false, List, [], ◌∷◌, ◌++◌, length, Some, None, refl, sym, ap, subst, ◌∙◌, inl, inr, arith, append-nil}
 use Rattle.std.specs.Prelude.{◌||◌, nat_eq, slice_get, slice_index}
 use Rattle.std.proofs.lemmas.Option.{slice_get_within}
-use Rattle.ob_mean.specs.declared.whole.expression.Callee.{Callee}
-use Rattle.ob_mean.specs.declared.whole.expression.Callee.TheVariants.{OfImport}
-use Rattle.ob_mean.specs.declared.whole.face.Face.{Face}
-use Rattle.ob_mean.specs.declared.whole.face.Heading.{Heading}
-use Rattle.ob_mean.specs.declared.whole.module.TypedProcedure.{TypedProcedure}
-use Rattle.ob_mean.specs.whole.Values.{size}
-use Rattle.ob_mean.specs.whole.Shapes.{zeros}
-use Rattle.ob_mean.specs.whole.Programs.{Command, procedure_in}
-use Rattle.ob_mean.specs.whole.WellFormed.{Names, own_heading, face_heading, names_in, ListFits, cell_limit, FacesFit, AreHeadings, IsFaceOf, IsWellFormed}
-use Rattle.ob_code.specs.declared.whole.instr.Entries.{Entries}
-use Rattle.ob_code.specs.declared.whole.instr.LinkedModule.{LinkedModule}
-use Rattle.ob_code.specs.whole.Linked.{Imports, IsLinked}
-use Rattle.ob_code.specs.whole.Machine.{Code, imports_in, import_number, exported_number}
-use Rattle.ob_code.specs.whole.Valid.{IsValid}
-use Rattle.ob_gen.specs.whole.Code.{list_code}
-use Rattle.ob_gen.specs.whole.Commands.{commands_code, LeadsTo, AllLead, IsCodeOfCommands}
-use Rattle.ob_gen.specs.whole.Correct.{AllRun}
+use Rattle.ob_mean.specs.declared.expression.Callee.{Callee}
+use Rattle.ob_mean.specs.declared.expression.Callee.TheVariants.{OfImport}
+use Rattle.ob_mean.specs.declared.face.Face.{Face}
+use Rattle.ob_mean.specs.declared.face.Heading.{Heading}
+use Rattle.ob_mean.specs.declared.module.TypedProcedure.{TypedProcedure}
+use Rattle.ob_mean.specs.Values.{size}
+use Rattle.ob_mean.specs.Shapes.{zeros}
+use Rattle.ob_mean.specs.Programs.{Command, procedure_in}
+use Rattle.ob_mean.specs.WellFormed.{Names, own_heading, face_heading, names_in, ListFits, cell_limit, FacesFit, AreHeadings, IsFaceOf, IsWellFormed}
+use Rattle.ob_code.specs.declared.instr.Entries.{Entries}
+use Rattle.ob_code.specs.declared.instr.LinkedModule.{LinkedModule}
+use Rattle.ob_code.specs.Linked.{Imports, IsLinked}
+use Rattle.ob_code.specs.Machine.{Code, imports_in, import_number, exported_number}
+use Rattle.ob_code.specs.Valid.{IsValid}
+use Rattle.ob_gen.specs.Code.{list_code}
+use Rattle.ob_gen.specs.Commands.{commands_code, LeadsTo, AllLead, IsCodeOfCommands}
+use Rattle.ob_gen.specs.Correct.{AllRun}
 use Rattle.ob_gen.proofs.machine.Commands.{commands_behave}
 use Rattle.ob_gen.proofs.machine.Fitting.{generated_valid}
 use Rattle.ob_gen.proofs.machine.Linked.{body_compiled}

@@ -5,8 +5,8 @@ use Rattle.std.specs.Str.{bytes_eq}
 use Rattle.ob_session.specs.Session.{Import, Module, name_of, find_module, place_of, import_places, link_fault}
 use Rattle.ob_session.specs.Links.{Reached, First, Behind, Through, IsLoaded}
 use Rattle.ob_session.proofs.Links.{each_links}
-use Rattle.ob_code.specs.whole.Linked.{runs_of}
-use Rattle.ob_gen.specs.whole.Correct.{AllRun}
+use Rattle.ob_code.specs.Linked.{runs_of}
+use Rattle.ob_gen.specs.Correct.{AllRun}
 use Rattle.ob_linked.specs.CommandsCode.{runs_with}
 use Rattle.ob_linked.specs.Compiled.{links, runs_in}
 

@@ -1,10 +1,10 @@
 -- Where a module is loaded, code stays that of the session's modules.
 use Rattle.std.proofs.Common.{◌≡◌, ◌≢◌, ℕ, zero, suc, ◌+◌, Bool, true, false, List, [], ◌∷◌, length, Some, None, if◌then◌else◌, refl, sym, ap, ◌∙◌, subst}
 use Rattle.std.specs.Str.{bytes_eq}
-use Rattle.ob_mean.specs.whole.Values.{count}
-use Rattle.ob_mean.specs.whole.Programs.{opening_store}
-use Rattle.ob_code.specs.declared.whole.instr.LinkedModule.{LinkedModule}
-use Rattle.ob_code.specs.whole.Machine.{Code}
+use Rattle.ob_mean.specs.Values.{count}
+use Rattle.ob_mean.specs.Programs.{opening_store}
+use Rattle.ob_code.specs.declared.instr.LinkedModule.{LinkedModule}
+use Rattle.ob_code.specs.Machine.{Code}
 use Rattle.ob_session.specs.Session.{Import, Module, Session, name_of, find_module, place_of, with_module, import_places, loaded, program_of}
 use Rattle.ob_session.specs.Loads.{Loads}
 use Rattle.ob_session.proofs.Loads.{each_loads}

@@ -2,17 +2,17 @@
 use Rattle.std.proofs.Common.{◌≡◌, ℕ, ◌+◌, true, List, [], ◌∷◌, Some, sym, ap, ◌∙◌, subst, arith}
 use Rattle.std.specs.Prelude.{slice_get, option_map}
 use Rattle.std.proofs.lemmas.Option.{slice_get-map}
-use Rattle.ob_mean.specs.declared.whole.face.Face.{Face}
-use Rattle.ob_mean.specs.whole.Values.{before}
-use Rattle.ob_mean.specs.whole.Programs.{opening_store}
-use Rattle.ob_mean.specs.whole.WellFormed.{IsFaceOf, Shows, AllShow, IsLinked as IsLinkedOver}
-use Rattle.ob_code.specs.declared.whole.instr.Entries.{Entries}
-use Rattle.ob_code.specs.declared.whole.instr.LinkedModule.{LinkedModule}
-use Rattle.ob_code.specs.whole.Linked.{IsAsKnown, Imports, IsLinked}
-use Rattle.ob_code.specs.whole.Machine.{Code}
-use Rattle.ob_code.specs.whole.Valid.{IsValid}
-use Rattle.ob_gen.specs.whole.Correct.{AllRun, IsCompiled, MayRun}
-use Rattle.ob_gen.specs.whole.Generated.{IsOfFace}
+use Rattle.ob_mean.specs.declared.face.Face.{Face}
+use Rattle.ob_mean.specs.Values.{before}
+use Rattle.ob_mean.specs.Programs.{opening_store}
+use Rattle.ob_mean.specs.WellFormed.{IsFaceOf, Shows, AllShow, IsLinked as IsLinkedOver}
+use Rattle.ob_code.specs.declared.instr.Entries.{Entries}
+use Rattle.ob_code.specs.declared.instr.LinkedModule.{LinkedModule}
+use Rattle.ob_code.specs.Linked.{IsAsKnown, Imports, IsLinked}
+use Rattle.ob_code.specs.Machine.{Code}
+use Rattle.ob_code.specs.Valid.{IsValid}
+use Rattle.ob_gen.specs.Correct.{AllRun, IsCompiled, MayRun}
+use Rattle.ob_gen.specs.Generated.{IsOfFace}
 use Rattle.ob_gen.proofs.machine.Behaves.{body_behaves}
 use Rattle.ob_gen.proofs.machine.Fitting.{generated_valid}
 use Rattle.ob_gen.proofs.machine.Places.{some_same}

@@ -1,15 +1,15 @@
 -- Lists that go side by side: modules, what is known of them, and their code.
 use Rattle.std.proofs.Common.{◌≡◌, ℕ, zero, suc, ◌+◌, List, [], ◌∷◌, length, Option, Some, None, Bool, true, refl, sym, ap, subst, arith}
 use Rattle.std.specs.Prelude.{map, slice_get}
-use Rattle.ob_mean.specs.declared.whole.face.Face.{Face}
-use Rattle.ob_mean.specs.whole.Values.{before, size}
-use Rattle.ob_mean.specs.whole.Programs.{opening_store}
-use Rattle.ob_code.specs.declared.whole.instr.Entries.{Entries}
-use Rattle.ob_code.specs.declared.whole.instr.LinkedModule.{LinkedModule}
-use Rattle.ob_code.specs.whole.Linked.{all_cells, AreLaid}
-use Rattle.ob_code.specs.whole.Machine.{Code}
-use Rattle.ob_gen.specs.whole.Correct.{AllRun}
-use Rattle.ob_gen.specs.whole.Generated.{IsOfFace, AreOfFaces}
+use Rattle.ob_mean.specs.declared.face.Face.{Face}
+use Rattle.ob_mean.specs.Values.{before, size}
+use Rattle.ob_mean.specs.Programs.{opening_store}
+use Rattle.ob_code.specs.declared.instr.Entries.{Entries}
+use Rattle.ob_code.specs.declared.instr.LinkedModule.{LinkedModule}
+use Rattle.ob_code.specs.Linked.{all_cells, AreLaid}
+use Rattle.ob_code.specs.Machine.{Code}
+use Rattle.ob_gen.specs.Correct.{AllRun}
+use Rattle.ob_gen.specs.Generated.{IsOfFace, AreOfFaces}
 use Rattle.ob_gen.proofs.machine.Places.{some_same}
 use Rattle.ob_session.specs.Session.{Module, loaded}
 use Rattle.ob_linked.specs.Compiled.{Known, IsCompiledAt, AreCompiledFrom, face_in, AreKnown}

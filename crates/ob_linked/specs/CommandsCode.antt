@@ -1,20 +1,20 @@
 -- Commands as code: a module behind those of a session, whose body calls one after the other.
 use Rattle.std.specs.Prelude.{◌≡◌, ℕ, List, [], ◌∷◌, ◌++◌, length, Bool, true, false, ◌||◌, nat_eq, Some, slice_get}
-use Rattle.ob_mean.specs.declared.whole.expression.Callee.TheVariants.{OfImport}
-use Rattle.ob_mean.specs.declared.whole.statement.Action.TheVariants.{Call}
-use Rattle.ob_mean.specs.declared.whole.statement.TypedStatement.{TypedStatement}
-use Rattle.ob_mean.specs.declared.whole.statement.TypedStatement.TheVariants.{Simple}
-use Rattle.ob_mean.specs.declared.whole.face.Face.{Face}
-use Rattle.ob_mean.specs.declared.whole.module.TypedModule.{TypedModule}
-use Rattle.ob_mean.specs.whole.Programs.{Command}
-use Rattle.ob_mean.specs.whole.WellFormed.{IsWellFormed, own_heading}
-use Rattle.ob_code.specs.declared.whole.instr.LinkedModule.{LinkedModule}
-use Rattle.ob_code.specs.whole.Linked.{IsLinked, all_cells}
-use Rattle.ob_code.specs.whole.Machine.{Code}
-use Rattle.ob_code.specs.whole.Valid.{IsValid}
-use Rattle.ob_gen.specs.whole.Commands.{IsCodeOfCommands, CommandsBehave}
-use Rattle.ob_gen.specs.whole.Correct.{AllRun, IsCodeOfProgram}
-use Rattle.ob_gen.specs.whole.Generated.{IsGenerated}
+use Rattle.ob_mean.specs.declared.expression.Callee.TheVariants.{OfImport}
+use Rattle.ob_mean.specs.declared.statement.Action.TheVariants.{Call}
+use Rattle.ob_mean.specs.declared.statement.TypedStatement.{TypedStatement}
+use Rattle.ob_mean.specs.declared.statement.TypedStatement.TheVariants.{Simple}
+use Rattle.ob_mean.specs.declared.face.Face.{Face}
+use Rattle.ob_mean.specs.declared.module.TypedModule.{TypedModule}
+use Rattle.ob_mean.specs.Programs.{Command}
+use Rattle.ob_mean.specs.WellFormed.{IsWellFormed, own_heading}
+use Rattle.ob_code.specs.declared.instr.LinkedModule.{LinkedModule}
+use Rattle.ob_code.specs.Linked.{IsLinked, all_cells}
+use Rattle.ob_code.specs.Machine.{Code}
+use Rattle.ob_code.specs.Valid.{IsValid}
+use Rattle.ob_gen.specs.Commands.{IsCodeOfCommands, CommandsBehave}
+use Rattle.ob_gen.specs.Correct.{AllRun, IsCodeOfProgram}
+use Rattle.ob_gen.specs.Generated.{IsGenerated}
 use Rattle.ob_session.specs.Session.{Module, program_of}
 use Rattle.ob_linked.specs.Compiled.{Known, runs_in, AreKnown, AreCompiled, faces_at}
 

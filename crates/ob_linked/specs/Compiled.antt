@@ -1,13 +1,13 @@
 -- What a kernel has, beside the modules of a session, to run them: their code, linked, and what was known of imports.
 use Rattle.std.specs.Prelude.{◌≡◌, ◌≢◌, ℕ, zero, suc, ◌+◌, List, [], ◌∷◌, Bool, true, false, Option, Some, None, is_none, slice_get}
-use Rattle.ob_mean.specs.declared.whole.face.Face.{Face}
-use Rattle.ob_mean.specs.whole.WellFormed.{IsFaceOf, IsWellFormed}
-use Rattle.ob_code.specs.declared.whole.instr.LinkedModule.{LinkedModule}
-use Rattle.ob_code.specs.whole.Linked.{IsLinked}
-use Rattle.ob_code.specs.whole.Machine.{Code}
-use Rattle.ob_code.specs.whole.Valid.{IsValid}
-use Rattle.ob_gen.specs.whole.Correct.{IsCodeOfProgram, BodyBehaves}
-use Rattle.ob_gen.specs.whole.Generated.{IsGenerated}
+use Rattle.ob_mean.specs.declared.face.Face.{Face}
+use Rattle.ob_mean.specs.WellFormed.{IsFaceOf, IsWellFormed}
+use Rattle.ob_code.specs.declared.instr.LinkedModule.{LinkedModule}
+use Rattle.ob_code.specs.Linked.{IsLinked}
+use Rattle.ob_code.specs.Machine.{Code}
+use Rattle.ob_code.specs.Valid.{IsValid}
+use Rattle.ob_gen.specs.Correct.{IsCodeOfProgram, BodyBehaves}
+use Rattle.ob_gen.specs.Generated.{IsGenerated}
 use Rattle.ob_session.specs.Session.{Import, Module, name_of, find_module, place_of, import_places, link_fault, program_of, with_module}
 
 -- what importing modules know of a module, and what was known of those that it imports when its code was made

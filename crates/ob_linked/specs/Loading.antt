@@ -1,7 +1,7 @@
 -- What stays so where a module is loaded: that it may run, and that what was known of imports is so.
 use Rattle.std.specs.Prelude.{◌≡◌, ◌≢◌, ℕ, List, [], ◌∷◌, Some, None, true, slice_get}
-use Rattle.ob_mean.specs.declared.whole.face.Face.{Face}
-use Rattle.ob_code.specs.whole.Machine.{Code}
+use Rattle.ob_mean.specs.declared.face.Face.{Face}
+use Rattle.ob_code.specs.Machine.{Code}
 use Rattle.ob_session.specs.Session.{Import, Module, name_of, key_of, find_module, place_of, link_fault, with_module}
 use Rattle.ob_session.specs.Links.{Reached}
 use Rattle.ob_linked.specs.Compiled.{Known, runs_in, AreCompiledFrom, face_in, FacesAgree, put_at}

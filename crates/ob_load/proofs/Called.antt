@@ -2,22 +2,22 @@
 use Rattle.std.proofs.Common.{◌≡◌, inl, inr, Bool, ℕ, zero, suc, ◌+◌, ◌<◌, ◌≤◌, true, false, List, [], ◌∷◌, ◌++◌, length, get_or, take, Option, Some, None, refl, sym, ap, ◌∙◌, subst, arith}
 use Rattle.std.specs.Prelude.{is_some, slice_get, slice_index}
 use Rattle.std.proofs.lemmas.List.{take_more, take_all}
-use Rattle.ob_mean.specs.declared.whole.expression.Callee.TheVariants.{OfImport}
-use Rattle.ob_mean.specs.declared.whole.expression.TypedExpr.{TypedExpr}
-use Rattle.ob_mean.specs.declared.whole.face.Face.{Face}
-use Rattle.ob_mean.specs.declared.whole.face.Heading.{Heading}
-use Rattle.ob_mean.specs.declared.whole.module.Parameter.{Parameter}
-use Rattle.ob_mean.specs.declared.whole.module.TypedModule.{TypedModule}
-use Rattle.ob_mean.specs.declared.whole.module.TypedProcedure.{TypedProcedure}
-use Rattle.ob_mean.specs.declared.whole.statement.Action.TheVariants.{Call}
-use Rattle.ob_mean.specs.declared.whole.statement.TypedStatement.{TypedStatement}
-use Rattle.ob_mean.specs.declared.whole.statement.TypedStatement.TheVariants.{Simple}
-use Rattle.ob_mean.specs.whole.Programs.{Command}
-use Rattle.ob_mean.specs.whole.WellFormed.{heading_of, is_there, IsWellFormed}
-use Rattle.ob_code.specs.declared.whole.instr.CodeModule.{CodeModule}
-use Rattle.ob_code.specs.whole.Machine.{Code}
-use Rattle.ob_gen.specs.whole.Correct.{AllRun}
-use Rattle.ob_gen.specs.whole.Generated.{IsGenerated}
+use Rattle.ob_mean.specs.declared.expression.Callee.TheVariants.{OfImport}
+use Rattle.ob_mean.specs.declared.expression.TypedExpr.{TypedExpr}
+use Rattle.ob_mean.specs.declared.face.Face.{Face}
+use Rattle.ob_mean.specs.declared.face.Heading.{Heading}
+use Rattle.ob_mean.specs.declared.module.Parameter.{Parameter}
+use Rattle.ob_mean.specs.declared.module.TypedModule.{TypedModule}
+use Rattle.ob_mean.specs.declared.module.TypedProcedure.{TypedProcedure}
+use Rattle.ob_mean.specs.declared.statement.Action.TheVariants.{Call}
+use Rattle.ob_mean.specs.declared.statement.TypedStatement.{TypedStatement}
+use Rattle.ob_mean.specs.declared.statement.TypedStatement.TheVariants.{Simple}
+use Rattle.ob_mean.specs.Programs.{Command}
+use Rattle.ob_mean.specs.WellFormed.{heading_of, is_there, IsWellFormed}
+use Rattle.ob_code.specs.declared.instr.CodeModule.{CodeModule}
+use Rattle.ob_code.specs.Machine.{Code}
+use Rattle.ob_gen.specs.Correct.{AllRun}
+use Rattle.ob_gen.specs.Generated.{IsGenerated}
 use Rattle.ob_session.specs.Session.{Module}
 use Rattle.ob_linked.specs.Compiled.{Known, face_in, runs_in, AreCompiled, AreKnown}
 use Rattle.ob_linked.specs.CommandsCode.{IsCallable, AllCallable, AreCallable, calls_body, commands_tree}

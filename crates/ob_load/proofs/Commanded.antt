@@ -4,15 +4,15 @@ use Rattle.std.specs.Prelude.{◌||◌, nat_eq, slice_get}
 use Rattle.std.proofs.lemmas.List.{take_at}
 use mathlib.Core.Path.{fun_ext}
 use Rattle.ob_inout.specs.Reading.{opened}
-use Rattle.ob_mean.specs.whole.Programs.{Command}
-use Rattle.ob_code.specs.declared.whole.instr.CodeModule.{CodeModule}
-use Rattle.ob_code.specs.declared.whole.instr.LinkedModule.{LinkedModule}
-use Rattle.ob_code.specs.whole.Linked.{all_cells, runs_of, IsLinked}
-use Rattle.ob_code.specs.whole.Machine.{Code, start, picture}
-use Rattle.ob_gen.specs.whole.Correct.{Follows}
-use Rattle.ob_gen.specs.whole.Generated.{IsGenerated}
+use Rattle.ob_mean.specs.Programs.{Command}
+use Rattle.ob_code.specs.declared.instr.CodeModule.{CodeModule}
+use Rattle.ob_code.specs.declared.instr.LinkedModule.{LinkedModule}
+use Rattle.ob_code.specs.Linked.{all_cells, runs_of, IsLinked}
+use Rattle.ob_code.specs.Machine.{Code, start, picture}
+use Rattle.ob_gen.specs.Correct.{Follows}
+use Rattle.ob_gen.specs.Generated.{IsGenerated}
 use Rattle.ob_gen.proofs.machine.Places.{some_same}
-use Rattle.ob_vm.specs.whole.Images as vm
+use Rattle.ob_vm.specs.Images as vm
 use Rattle.ob_session.specs.Session.{Module, program_of}
 use Rattle.ob_store.specs.Runs.{MayBeginWith}
 use Rattle.ob_store.specs.Stores.{store_of, session_of, AreCellsOf}

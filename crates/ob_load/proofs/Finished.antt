@@ -5,17 +5,17 @@ use Rattle.std.specs.Prelude.{slice_index_or}
 use Rattle.std.proofs.lemmas.List.{length-take-le}
 use Rattle.std.proofs.lemmas.Option.{slice_get_past}
 use Rattle.ob_inout.specs.Reading.{Line}
-use Rattle.ob_mean.specs.declared.whole.outcome.Outcome.{Outcome}
-use Rattle.ob_mean.specs.declared.whole.outcome.Outcome.TheVariants as why
-use Rattle.ob_mean.specs.whole.Values.{Value, image, size}
-use Rattle.ob_mean.specs.whole.Runs.{supply}
-use Rattle.ob_mean.specs.whole.Programs.{opening_store}
-use Rattle.ob_code.specs.whole.Linked.{all_cells, runs_of, IsLinked}
-use Rattle.ob_code.specs.whole.Machine.{Code, Config, Memory}
-use Rattle.ob_vm.specs.whole.Images as vm
-use Rattle.ob_vm.specs.whole.Steps.{StandsIn, SliceDone}
-use Rattle.ob_vm.specs.declared.whole.run.Turned.{Turned}
-use Rattle.ob_vm.specs.declared.whole.run.Turned.TheVariants as slice
+use Rattle.ob_mean.specs.declared.outcome.Outcome.{Outcome}
+use Rattle.ob_mean.specs.declared.outcome.Outcome.TheVariants as why
+use Rattle.ob_mean.specs.Values.{Value, image, size}
+use Rattle.ob_mean.specs.Runs.{supply}
+use Rattle.ob_mean.specs.Programs.{opening_store}
+use Rattle.ob_code.specs.Linked.{all_cells, runs_of, IsLinked}
+use Rattle.ob_code.specs.Machine.{Code, Config, Memory}
+use Rattle.ob_vm.specs.Images as vm
+use Rattle.ob_vm.specs.Steps.{StandsIn, SliceDone}
+use Rattle.ob_vm.specs.declared.run.Turned.{Turned}
+use Rattle.ob_vm.specs.declared.run.Turned.TheVariants as slice
 use Rattle.ob_session.specs.Session.{Session, Module, program_of}
 use Rattle.ob_session.specs.Cells.{CellMeaning}
 use Rattle.ob_store.specs.Counted.{HaveCellsOf}

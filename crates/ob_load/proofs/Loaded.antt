@@ -2,17 +2,17 @@
 use Rattle.std.proofs.Common.{◌≡◌, ℕ, zero, suc, ◌+◌, ◌≤◌, ◌<◌, ℤ, Bool, true, false, if◌then◌else◌, List, [], ◌∷◌, length, take, Option, Some, None, refl, sym, ap, ◌∙◌, subst, arith, Vec, Global}
 use Rattle.std.specs.Prelude.{slice_get}
 use Rattle.std.specs.Str.{bytes_eq}
-use Rattle.ob_mean.specs.whole.Values.{before, item, size}
-use Rattle.ob_mean.specs.whole.WellFormed.{IsFaceOf, IsWellFormed}
-use Rattle.ob_mean.specs.whole.Programs.{opening_store, world_before}
-use Rattle.ob_code.specs.declared.whole.instr.CodeModule.{CodeModule}
-use Rattle.ob_code.specs.declared.whole.instr.LinkedModule.{LinkedModule}
-use Rattle.ob_code.specs.whole.Linked.{all_cells}
-use Rattle.ob_code.specs.whole.Machine.{Code, Config, start}
-use Rattle.ob_gen.specs.whole.Generated.{IsGenerated}
+use Rattle.ob_mean.specs.Values.{before, item, size}
+use Rattle.ob_mean.specs.WellFormed.{IsFaceOf, IsWellFormed}
+use Rattle.ob_mean.specs.Programs.{opening_store, world_before}
+use Rattle.ob_code.specs.declared.instr.CodeModule.{CodeModule}
+use Rattle.ob_code.specs.declared.instr.LinkedModule.{LinkedModule}
+use Rattle.ob_code.specs.Linked.{all_cells}
+use Rattle.ob_code.specs.Machine.{Code, Config, start}
+use Rattle.ob_gen.specs.Generated.{IsGenerated}
 use Rattle.ob_gen.proofs.machine.Behaves.{body_behaves}
 use Rattle.ob_gen.proofs.machine.Store.{before-within}
-use Rattle.ob_vm.specs.whole.Images as vm
+use Rattle.ob_vm.specs.Images as vm
 use Rattle.ob_types.specs.Solid.{ExportsSolid}
 use Rattle.ob_session.specs.Session.{Module, name_of, place_of, with_module, installed, program_of}
 use Rattle.ob_session.specs.Cells.{name_in}

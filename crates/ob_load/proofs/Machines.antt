@@ -2,24 +2,24 @@
 use Rattle.std.proofs.Common.{◌≡◌, ℕ, ◌+◌, ◌-◌, ◌≤◌, Bool, true, false, List, [], ◌∷◌, ◌++◌, length, take, drop, refl, sym, ap, ◌∙◌, subst, arith, append-nil, length-append}
 use Rattle.std.specs.Prelude.{slice_get}
 use Rattle.std.proofs.Math.Seq.{drop-append_seam}
-use Rattle.ob_mean.specs.declared.whole.outcome.TurnKind.{TurnKind}
-use Rattle.ob_mean.specs.declared.whole.outcome.TurnKind.TheVariants as kinds
-use Rattle.ob_mean.specs.declared.whole.outcome.TrapKind.{TrapKind}
+use Rattle.ob_mean.specs.declared.outcome.TurnKind.{TurnKind}
+use Rattle.ob_mean.specs.declared.outcome.TurnKind.TheVariants as kinds
+use Rattle.ob_mean.specs.declared.outcome.TrapKind.{TrapKind}
 use Rattle.ob_inout.specs.Reading.{Line}
-use Rattle.ob_mean.specs.declared.whole.outcome.Outcome.{Outcome}
-use Rattle.ob_mean.specs.declared.whole.outcome.Outcome.TheVariants as why
-use Rattle.ob_mean.specs.whole.Values.{Value}
-use Rattle.ob_mean.specs.whole.Runs.{World, Supply, supply, Stands}
-use Rattle.ob_mean.specs.whole.Programs.{world_before}
-use Rattle.ob_code.specs.whole.Linked.{all_cells, runs_of}
-use Rattle.ob_code.specs.whole.Machine.{Code, Memory, Config, Going, Standing, Comes, start, picture}
+use Rattle.ob_mean.specs.declared.outcome.Outcome.{Outcome}
+use Rattle.ob_mean.specs.declared.outcome.Outcome.TheVariants as why
+use Rattle.ob_mean.specs.Values.{Value}
+use Rattle.ob_mean.specs.Runs.{World, Supply, supply, Stands}
+use Rattle.ob_mean.specs.Programs.{world_before}
+use Rattle.ob_code.specs.Linked.{all_cells, runs_of}
+use Rattle.ob_code.specs.Machine.{Code, Memory, Config, Going, Standing, Comes, start, picture}
 use Rattle.ob_code.proofs.machine.Runs.{stays, goes_on, takes_line, more_turns, more_lines, follows_on, from_there}
 use Rattle.ob_code.proofs.machine.Histories.{stood, fewer, writes_none, run_prefixed}
-use Rattle.ob_gen.specs.whole.Correct.{Follows, MayBegin}
-use Rattle.ob_vm.specs.whole.Images as vm
-use Rattle.ob_vm.specs.whole.Steps.{Grows, StandsIn, SliceDone}
-use Rattle.ob_vm.specs.declared.whole.run.Turned as slices
-use Rattle.ob_vm.specs.declared.whole.run.Turned.TheVariants as slice
+use Rattle.ob_gen.specs.Correct.{Follows, MayBegin}
+use Rattle.ob_vm.specs.Images as vm
+use Rattle.ob_vm.specs.Steps.{Grows, StandsIn, SliceDone}
+use Rattle.ob_vm.specs.declared.run.Turned as slices
+use Rattle.ob_vm.specs.declared.run.Turned.TheVariants as slice
 use Rattle.ob_session.specs.Session.{Session, Module, program_of}
 use Rattle.ob_session.specs.Cells as cells
 use Rattle.ob_session.specs.Cells.{CellMeaning, CellOutcome, outcome_of, name_in, ran}

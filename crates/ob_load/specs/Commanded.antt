@@ -1,11 +1,11 @@
 -- What commands take to begin in a session.
 use Rattle.std.specs.Prelude.{◌≡◌, ℕ, ◌≤◌, List, [], vec_capacity, ◌⊎◌, ◌∷◌, ◌++◌}
-use Rattle.ob_mean.specs.declared.whole.face.Face.{Face}
-use Rattle.ob_mean.specs.whole.Programs.{Command}
-use Rattle.ob_code.specs.declared.whole.instr.CodeModule.{CodeModule}
-use Rattle.ob_gen.specs.whole.Correct.{AllRun}
-use Rattle.ob_gen.specs.whole.Generated.{IsGenerated}
-use Rattle.ob_vm.specs.whole.Images.{IsRoomFor}
+use Rattle.ob_mean.specs.declared.face.Face.{Face}
+use Rattle.ob_mean.specs.Programs.{Command}
+use Rattle.ob_code.specs.declared.instr.CodeModule.{CodeModule}
+use Rattle.ob_gen.specs.Correct.{AllRun}
+use Rattle.ob_gen.specs.Generated.{IsGenerated}
+use Rattle.ob_vm.specs.Images.{IsRoomFor}
 use Rattle.ob_session.specs.Session.{Module}
 use Rattle.ob_linked.specs.Compiled.{Known, runs_in}
 use Rattle.ob_linked.specs.CommandsCode.{AllCallable, AreCallable, commands_tree}

@@ -1,13 +1,13 @@
 -- What ties a session, and a machine that runs in it, to their code.
 use Rattle.std.specs.Prelude.{◌≡◌, ℕ, ◌<◌, ◌≤◌, Bool, true, List, [], ◌++◌, length, take}
 use Rattle.ob_inout.specs.Reading.{Line}
-use Rattle.ob_mean.specs.whole.Runs.{supply}
-use Rattle.ob_mean.specs.whole.Values.{Value}
-use Rattle.ob_mean.specs.whole.Programs.{world_before}
-use Rattle.ob_code.specs.whole.Linked.{all_cells, runs_of}
-use Rattle.ob_code.specs.whole.Machine.{Config, Going, Comes, start, picture}
-use Rattle.ob_gen.specs.whole.Correct.{Follows, MayBegin}
-use Rattle.ob_vm.specs.whole.Images.{ImageState, MachineState, IsOf, AsksFor, machine_config}
+use Rattle.ob_mean.specs.Runs.{supply}
+use Rattle.ob_mean.specs.Values.{Value}
+use Rattle.ob_mean.specs.Programs.{world_before}
+use Rattle.ob_code.specs.Linked.{all_cells, runs_of}
+use Rattle.ob_code.specs.Machine.{Config, Going, Comes, start, picture}
+use Rattle.ob_gen.specs.Correct.{Follows, MayBegin}
+use Rattle.ob_vm.specs.Images.{ImageState, MachineState, IsOf, AsksFor, machine_config}
 use Rattle.ob_session.specs.Session.{Module, program_of}
 use Rattle.ob_link.specs.Modules.{AllSolid, AllDistinct}
 use Rattle.ob_linked.specs.Compiled.{Known, AreCompiled, runs_in}

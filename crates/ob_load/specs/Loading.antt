@@ -1,10 +1,10 @@
 -- Loading a module.
 use Rattle.std.specs.Prelude.{◌≡◌, ℕ, Bool, true, ℤ, List, length, take, Option, Some, None, slice_get}
-use Rattle.ob_code.specs.declared.whole.instr.CodeModule.{CodeModule}
-use Rattle.ob_code.specs.declared.whole.instr.LinkedModule.{LinkedModule}
-use Rattle.ob_code.specs.whole.Linked.{all_cells, runs_of}
-use Rattle.ob_code.specs.whole.Machine.{Code}
-use Rattle.ob_vm.specs.whole.Images.{IsRoomFor}
+use Rattle.ob_code.specs.declared.instr.CodeModule.{CodeModule}
+use Rattle.ob_code.specs.declared.instr.LinkedModule.{LinkedModule}
+use Rattle.ob_code.specs.Linked.{all_cells, runs_of}
+use Rattle.ob_code.specs.Machine.{Code}
+use Rattle.ob_vm.specs.Images.{IsRoomFor}
 use Rattle.ob_session.specs.Session.{Module, import_places}
 use Rattle.ob_store.specs.Stores.{loaded_cells}
 use Rattle.ob_linked.specs.Compiled.{Known, AreCompiled, FacesAgree, put_at, runs_in}

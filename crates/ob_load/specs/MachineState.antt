@@ -1,8 +1,8 @@
 -- What a machine stands at.
 use Rattle.std.specs.Prelude.{ℕ, ◌-◌, Bool, false, List, [], length}
 use Rattle.ob_inout.specs.Reading.{Line}
-use Rattle.ob_mean.specs.whole.Values.{Value}
-use Rattle.ob_vm.specs.whole.Images as vm
+use Rattle.ob_mean.specs.Values.{Value}
+use Rattle.ob_vm.specs.Images as vm
 use Rattle.ob_session.specs.Session.{Session, Module}
 use Rattle.jk_language.specs.MachineState as kernel
 use Rattle.ob_load.specs.declared.task.Task.{Task}

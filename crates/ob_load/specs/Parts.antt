@@ -1,9 +1,9 @@
 -- What a cell has come to, as a kernel shows it.
 use Rattle.std.specs.Prelude.{ℕ, Bool, true, false}
-use Rattle.ob_mean.specs.declared.whole.outcome.TrapKind.{TrapKind}
-use Rattle.ob_mean.specs.declared.whole.outcome.TrapKind.TheVariants as trap
-use Rattle.ob_mean.specs.declared.whole.outcome.TurnKind.{TurnKind}
-use Rattle.ob_mean.specs.declared.whole.outcome.TurnKind.TheVariants as kind
+use Rattle.ob_mean.specs.declared.outcome.TrapKind.{TrapKind}
+use Rattle.ob_mean.specs.declared.outcome.TrapKind.TheVariants as trap
+use Rattle.ob_mean.specs.declared.outcome.TurnKind.{TurnKind}
+use Rattle.ob_mean.specs.declared.outcome.TurnKind.TheVariants as kind
 use Rattle.ob_session.specs.Session.{Session}
 use Rattle.ob_session.specs.Cells as cells
 use Rattle.jk_language.specs.Parts.{Meaning}

@@ -1,10 +1,10 @@
 -- What a machine runs in a session: the body of a module, or commands.
 use Rattle.std.specs.Prelude.{ℕ, List, length}
 use Rattle.ob_inout.specs.Reading.{Line}
-use Rattle.ob_mean.specs.whole.Runs as runs
-use Rattle.ob_mean.specs.whole.Runs.{supply, Done}
-use Rattle.ob_mean.specs.whole.Values.{Value}
-use Rattle.ob_mean.specs.whole.Programs.{Program, body_meaning, commands_meaning, world_before}
+use Rattle.ob_mean.specs.Runs as runs
+use Rattle.ob_mean.specs.Runs.{supply, Done}
+use Rattle.ob_mean.specs.Values.{Value}
+use Rattle.ob_mean.specs.Programs.{Program, body_meaning, commands_meaning, world_before}
 use Rattle.ob_session.specs.Session.{Module, program_of}
 use Rattle.ob_session.specs.Cells.{CellMeaning, ran}
 use Rattle.ob_load.specs.declared.task.Task.{Task}

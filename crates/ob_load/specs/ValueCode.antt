@@ -3,7 +3,7 @@ use Rattle.std.specs.Prelude.{◌≡◌, refl}
 use Rattle.std.specs.Coded.{Coded, coded_ℕ, coded_ℤ}
 use Rattle.std.proofs.Common.{ap}
 use base.Stored.{Gv, gnil, gcons}
-use Rattle.ob_mean.specs.whole.Values.{Place, Whole, Part, Value, Cell, Named, Open, Nothing, Beside}
+use Rattle.ob_mean.specs.Values.{Place, Whole, Part, Value, Cell, Named, Open, Nothing, Beside}
 
 abbrev tag_cell : Gv
 tag_cell = gnil

@@ -2,13 +2,13 @@
 
 ghost use Rattle.std.specs.Prelude.{◌≡◌, ◌≤◌, [], IfOk, IfErr, length, vec_capacity};
 ghost use Rattle.ob_types.specs.Solid.{ExportsSolid};
-ghost use Rattle.ob_gen.specs.whole.Generated.{IsGenerated};
+ghost use Rattle.ob_gen.specs.Generated.{IsGenerated};
 ghost use Rattle.ob_linked.specs.Compiled.{AllFound};
 ghost use Rattle.ob_load.specs.Kept.{AreCheckable};
 ghost use Rattle.ob_load.specs.Loading.{BodyMayBegin};
 ghost use Rattle.ob_load.specs.MachineState.{begun_in};
 ghost use Rattle.ob_load.specs.Names.{NamesWithin};
-ghost use Rattle.ob_mean.specs.whole.WellFormed.{IsFaceOf, IsWellFormed};
+ghost use Rattle.ob_mean.specs.WellFormed.{IsFaceOf, IsWellFormed};
 ghost use Rattle.ob_session.specs.Session.{installed, name_of, place_of};
 ghost use Rattle.ob_store.specs.Stores.{session_of};
 
@@ -17,11 +17,11 @@ use crate::loading::{Compiled, load};
 use crate::machine::Machine;
 use crate::session::Session;
 use crate::task::Task;
-use ob_code::whole::checked::Checked;
-use ob_code::whole::instr::LinkedModule;
+use ob_code::checked::Checked;
+use ob_code::instr::LinkedModule;
 use ob_image::KnownFaces;
 use ob_link::{Modules, SessionModule};
-use ob_vm::whole::{Image, Room};
+use ob_vm::{Image, Room};
 use std::alloc::AllocError;
 use std::snapshot::Snapshot;
 
@@ -59,7 +59,7 @@ fn begin(
     let opening = Snapshot::of(&cells);
     let alloc = modules.alloc();
     let image = Image::of(code, runs, cells);
-    let run = ob_vm::whole::Machine::start(alloc, &image, number, room);
+    let run = ob_vm::Machine::start(alloc, &image, number, room);
     Machine {
         modules,
         known,

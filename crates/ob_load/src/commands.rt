@@ -1,32 +1,32 @@
 //! Commands, and the machine that runs them one after the other.
 
 ghost use Rattle.std.specs.Prelude.{◌≡◌, ℕ, ◌<◌, List, [], ◌∷◌, ◌++◌, false, true, length, vec_capacity, slice_get, IsTrue, IfSome, IfOk, IfErr, Some, EachIndex, slice_index, OnOk};
-ghost use Rattle.ob_code.specs.whole.Linked.{runs_of};
-ghost use Rattle.ob_code.specs.whole.Machine.{Code};
+ghost use Rattle.ob_code.specs.Linked.{runs_of};
+ghost use Rattle.ob_code.specs.Machine.{Code};
 ghost use Rattle.ob_linked.specs.CommandsCode as code;
 ghost use Rattle.ob_linked.specs.CommandsCode.{IsCallable};
 ghost use Rattle.ob_linked.specs.Compiled.{face_in, runs_in, AreCompiled, AreKnown};
 ghost use Rattle.ob_load.specs.Commanded.{AreCalled, AreReady, IsCodeOfCalls, WithHome};
 ghost use Rattle.ob_load.specs.MachineState.{begun_in};
 ghost use Rattle.ob_load.specs.declared.task.Task.TheVariants as task;
-ghost use Rattle.ob_mean.specs.declared.whole.expression.Callee.TheVariants as callee;
-ghost use Rattle.ob_mean.specs.declared.whole.statement.Action.TheVariants as action;
-ghost use Rattle.ob_mean.specs.declared.whole.statement.TypedStatement.TheVariants as statement;
-ghost use Rattle.ob_mean.specs.whole.Programs as programs;
-ghost use Rattle.ob_mean.specs.whole.WellFormed.{heading_of, own_heading};
+ghost use Rattle.ob_mean.specs.declared.expression.Callee.TheVariants as callee;
+ghost use Rattle.ob_mean.specs.declared.statement.Action.TheVariants as action;
+ghost use Rattle.ob_mean.specs.declared.statement.TypedStatement.TheVariants as statement;
+ghost use Rattle.ob_mean.specs.Programs as programs;
+ghost use Rattle.ob_mean.specs.WellFormed.{heading_of, own_heading};
 
 use crate::given::GivenLines;
 use crate::machine::Machine;
 use crate::session::Session;
 use crate::task::Task;
 use ob_base::{Items, Text};
-use ob_code::whole::checked::Checked;
-use ob_code::whole::instr::LinkedModule;
-use ob_gen::whole::generate;
+use ob_code::checked::Checked;
+use ob_code::instr::LinkedModule;
+use ob_gen::generate;
 use ob_image::{KnownFaces, copy_face};
 use ob_link::{Command, Modules};
-use ob_mean::whole::{Action, Callee, Face, TypedModule, TypedProcedure, TypedStatement};
-use ob_vm::whole::{Image, Room};
+use ob_mean::{Action, Callee, Face, TypedModule, TypedProcedure, TypedStatement};
+use ob_vm::{Image, Room};
 use std::alloc::{AllocError, Global};
 use std::snapshot::Snapshot;
 
@@ -210,7 +210,7 @@ fn calls_of(
     let Called { homes, calls } = all_calls(modules, runs, commands)?;
     let code = commands_code(modules, known, homes.as_slice(), calls.as_slice())?;
     let name = Vec::with_capacity(alloc, longest)?;
-    let room = ob_vm::whole::Machine::room(alloc, &code)?;
+    let room = ob_vm::Machine::room(alloc, &code)?;
     Ok(Calls {
         code,
         imports: homes,
@@ -292,7 +292,7 @@ impl Session {
         may_run.push_reserved(true);
         let opening = Snapshot::of(&cells);
         let image = Image::of(code, may_run, cells);
-        let run = ob_vm::whole::Machine::start(alloc, &image, behind, calls.room);
+        let run = ob_vm::Machine::start(alloc, &image, behind, calls.room);
         Ok(Machine {
             modules,
             known,

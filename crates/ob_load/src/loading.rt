@@ -1,21 +1,21 @@
 //! A module that is loaded, with what is known of it and with its code.
 
 ghost use Rattle.std.specs.Prelude.{◌≡◌, ℕ, List, ◌<◌, ◌≤◌, length, vec_capacity, slice_get, OnOk, OnErr, IfOk};
-ghost use Rattle.ob_code.specs.whole.Linked.{all_cells, runs_of};
-ghost use Rattle.ob_gen.specs.whole.Generated.{IsGenerated};
+ghost use Rattle.ob_code.specs.Linked.{all_cells, runs_of};
+ghost use Rattle.ob_gen.specs.Generated.{IsGenerated};
 ghost use Rattle.ob_linked.specs.Compiled.{runs_in, AllFound, AreCompiledFrom, FacesAgree, Known};
 ghost use Rattle.ob_linked.specs.Compiled as linked;
 ghost use Rattle.ob_load.specs.Loading.{HasLoaded, IsPrepared, BodyMayBegin, put_back_at};
-ghost use Rattle.ob_mean.specs.whole.WellFormed.{IsFaceOf, IsWellFormed};
+ghost use Rattle.ob_mean.specs.WellFormed.{IsFaceOf, IsWellFormed};
 ghost use Rattle.ob_session.specs.Session.{name_of, place_of, with_module};
 ghost use Rattle.ob_store.specs.Stores as stores;
 
 use crate::body::Beginning;
-use ob_code::whole::checked::Checked;
-use ob_code::whole::instr::LinkedModule;
+use ob_code::checked::Checked;
+use ob_code::instr::LinkedModule;
 use ob_image::{KnownFaces, agree, bounds, lay, loaded_cells, put_at};
 use ob_link::{Modules, SessionModule};
-use ob_vm::whole::Room;
+use ob_vm::Room;
 use std::alloc::AllocError;
 use std::mem;
 
@@ -51,7 +51,7 @@ fn prepare(
     let (from, behind) = bounds(code, cells.len(), number);
     let variables = compiled.added.tree().variables.as_slice();
     let new_cells = loaded_cells(alloc, cells, from, behind, variables)?;
-    let room = ob_vm::whole::Machine::room(alloc, &compiled.code)?;
+    let room = ob_vm::Machine::room(alloc, &compiled.code)?;
     Ok(Prepared {
         imports,
         cells: new_cells,

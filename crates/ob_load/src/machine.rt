@@ -12,7 +12,7 @@ use crate::trap::{name_in, trap_number};
 use jk_language::{Trap, Turned};
 use ob_image::KnownFaces;
 use ob_link::Modules;
-use ob_vm::whole::Image;
+use ob_vm::Image;
 use std::alloc::AllocError;
 use std::marker::Model;
 use std::mem;
@@ -24,7 +24,7 @@ pub struct Machine {
     pub(crate) modules: Modules,
     pub(crate) known: Vec<KnownFaces>,
     pub(crate) image: Image,
-    pub(crate) run: ob_vm::whole::Machine,
+    pub(crate) run: ob_vm::Machine,
     /// The modules' variables when it was begun.
     pub(crate) opening: Snapshot<Vec<i32>>,
     pub(crate) task: Task,
@@ -42,9 +42,9 @@ pub struct Machine {
 impl Model for Machine {
     ghost use Rattle.std.specs.Coded.{codes};
     ghost use Rattle.ob_types.specs.contracts.structure.ObType as structure;
-    ghost use Rattle.ob_mean.specs.contracts.whole.expression.TypedExpr as expression;
-    ghost use Rattle.ob_mean.specs.contracts.whole.shape.Shape as shape;
-    ghost use Rattle.ob_mean.specs.contracts.whole.statement.TypedStatement as statement;
+    ghost use Rattle.ob_mean.specs.contracts.expression.TypedExpr as expression;
+    ghost use Rattle.ob_mean.specs.contracts.shape.Shape as shape;
+    ghost use Rattle.ob_mean.specs.contracts.statement.TypedStatement as statement;
     ghost use Rattle.ob_load.specs.ValueCode.{value_code};
     ghost use Rattle.ob_store.specs.Stores.{store_of};
     ghost use Rattle.ob_load.specs.MachineState.{MachineState, stands_at};
@@ -73,12 +73,12 @@ impl Machine {
         ensures { HasTurned (state_of self.old) most result (state_of self.new) }
     {
         match self.run.turns(&mut self.image, most) {
-            ob_vm::whole::Turned::Ended => {
+            ob_vm::Turned::Ended => {
                 self.asks = false;
                 self.over = true;
                 Turned::Ended
             }
-            ob_vm::whole::Turned::Trapped(kind, home, line) => {
+            ob_vm::Turned::Trapped(kind, home, line) => {
                 self.asks = false;
                 self.over = true;
                 let room = mem::replace(&mut self.name, Vec::new(self.modules.alloc()));
@@ -89,15 +89,15 @@ impl Machine {
                     line,
                 })
             }
-            ob_vm::whole::Turned::Stopped => {
+            ob_vm::Turned::Stopped => {
                 self.asks = false;
                 Turned::Stopped
             }
-            ob_vm::whole::Turned::NeedsLine => {
+            ob_vm::Turned::NeedsLine => {
                 self.asks = true;
                 Turned::NeedsLine
             }
-            ob_vm::whole::Turned::NoMemory => {
+            ob_vm::Turned::NoMemory => {
                 self.asks = false;
                 Turned::NoMemory
             }

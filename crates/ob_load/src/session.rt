@@ -6,7 +6,7 @@ ghost use Rattle.ob_session.specs.Session.{opening};
 
 use ob_image::KnownFaces;
 use ob_link::Modules;
-use ob_vm::whole::Image;
+use ob_vm::Image;
 use std::alloc::Global;
 use std::marker::Model;
 
@@ -23,9 +23,9 @@ pub struct Session {
 impl Model for Session {
     ghost use Rattle.std.specs.Coded.{codes};
     ghost use Rattle.ob_types.specs.contracts.structure.ObType as structure;
-    ghost use Rattle.ob_mean.specs.contracts.whole.expression.TypedExpr as expression;
-    ghost use Rattle.ob_mean.specs.contracts.whole.shape.Shape as shape;
-    ghost use Rattle.ob_mean.specs.contracts.whole.statement.TypedStatement as statement;
+    ghost use Rattle.ob_mean.specs.contracts.expression.TypedExpr as expression;
+    ghost use Rattle.ob_mean.specs.contracts.shape.Shape as shape;
+    ghost use Rattle.ob_mean.specs.contracts.statement.TypedStatement as statement;
     ghost use Rattle.ob_session.specs.Session as sessions;
     ghost use Rattle.ob_load.specs.ValueCode.{value_code};
     ghost use Rattle.ob_store.specs.Stores.{store_of};

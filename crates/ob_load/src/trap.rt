@@ -7,7 +7,7 @@ ghost use Rattle.ob_session.specs.Cells as cells;
 
 use jk_language::Name;
 use ob_link::SessionModule;
-use ob_mean::whole::TrapKind;
+use ob_mean::TrapKind;
 
 /// The number of a kind of trap.
 pub(crate) fn trap_number(kind: TrapKind) -> u8

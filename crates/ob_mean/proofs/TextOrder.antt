@@ -1,7 +1,7 @@
 -- The end of the shorter of two texts.
 use Rattle.std.proofs.Common.{◌≡◌, ℕ, ◌-◌, ◌≤◌, false, ltb, List, [], ◌∷◌, length, drop, refl, ap, ◌∙◌, sym, arith, length-drop}
 use Rattle.std.proofs.lemmas.Bool.Decides.{nat_tests}
-use Rattle.ob_mean.specs.whole.Texts.{is_before}
+use Rattle.ob_mean.specs.Texts.{is_before}
 
 nothing_left : (zs : List ℕ) → length zs ≡ 0 → zs ≡ []
 nothing_left [] e = refl

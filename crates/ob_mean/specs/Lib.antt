@@ -1,1 +1,12 @@
-pub mod whole
+pub mod Values
+pub mod Shapes
+pub mod Texts
+pub mod Arithmetic
+pub mod Computing
+pub mod Runs
+pub mod Input
+pub mod Expressions
+pub mod Control
+pub mod Statements
+pub mod Programs
+pub mod WellFormed

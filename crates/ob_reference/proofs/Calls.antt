@@ -1,14 +1,14 @@
 -- A call, by the depth that is left.
 use Rattle.std.proofs.Common.{◌≡◌, ℕ, zero, suc, ◌-◌, ◌<◌, arith, List, [], Some, None, refl, sym, ap, ◌∙◌}
-use Rattle.ob_mean.specs.declared.whole.expression.Callee.{Callee}
-use Rattle.ob_mean.specs.declared.whole.module.TypedProcedure.{TypedProcedure}
-use Rattle.ob_mean.specs.declared.whole.module.Loaded.{Loaded}
-use Rattle.ob_mean.specs.declared.whole.outcome.Outcome.TheVariants.{Stopped, Trapped}
-use Rattle.ob_mean.specs.declared.whole.outcome.TrapKind.TheVariants.{CallDepth}
-use Rattle.ob_mean.specs.declared.whole.outcome.TurnKind.TheVariants.{ProcedureCall}
-use Rattle.ob_mean.specs.whole.Values.{Value, count}
-use Rattle.ob_mean.specs.whole.Runs.{World, Supply, Goes, Stands, supply, spend}
-use Rattle.ob_mean.specs.whole.Programs.{call_at, scope_at, home_of, procedure_of, found_meaning, procedure_meaning}
+use Rattle.ob_mean.specs.declared.expression.Callee.{Callee}
+use Rattle.ob_mean.specs.declared.module.TypedProcedure.{TypedProcedure}
+use Rattle.ob_mean.specs.declared.module.Loaded.{Loaded}
+use Rattle.ob_mean.specs.declared.outcome.Outcome.TheVariants.{Stopped, Trapped}
+use Rattle.ob_mean.specs.declared.outcome.TrapKind.TheVariants.{CallDepth}
+use Rattle.ob_mean.specs.declared.outcome.TurnKind.TheVariants.{ProcedureCall}
+use Rattle.ob_mean.specs.Values.{Value, count}
+use Rattle.ob_mean.specs.Runs.{World, Supply, Goes, Stands, supply, spend}
+use Rattle.ob_mean.specs.Programs.{call_at, scope_at, home_of, procedure_of, found_meaning, procedure_meaning}
 use Rattle.ob_reference.specs.declared.state.State.{State}
 use Rattle.ob_reference.specs.States.{supply_in, world_in}
 

@@ -1,8 +1,8 @@
 -- Where a run ends.
 use Rattle.std.proofs.Common.{◌≡◌, Result, Ok, Err, ap, ◌∙◌, subst}
-use Rattle.ob_mean.specs.declared.whole.outcome.Outcome.{Outcome}
-use Rattle.ob_mean.specs.declared.whole.outcome.Outcome.TheVariants.{Ended}
-use Rattle.ob_mean.specs.whole.Runs.{Run, Stands, Done, done, ended}
+use Rattle.ob_mean.specs.declared.outcome.Outcome.{Outcome}
+use Rattle.ob_mean.specs.declared.outcome.Outcome.TheVariants.{Ended}
+use Rattle.ob_mean.specs.Runs.{Run, Stands, Done, done, ended}
 use Rattle.ob_reference.specs.declared.reference.Ran.{Ran}
 use Rattle.ob_reference.specs.declared.state.State.{State}
 use Rattle.ob_reference.specs.declared.stop.Stop.{Stop}

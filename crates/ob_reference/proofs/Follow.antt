@@ -1,15 +1,15 @@
 -- A function that does what a piece means, and what is made of it.
 use Rattle.std.proofs.Common.{◌≡◌, ℕ, ℤ, Result, Ok, Err, ap, ◌∙◌, subst, sym}
 use Rattle.std.specs.Prelude.{Option, None, IfOk, MatchResult, MatchOption}
-use Rattle.ob_mean.specs.declared.whole.outcome.TrapKind.{TrapKind}
-use Rattle.ob_mean.specs.declared.whole.outcome.Outcome.TheVariants.{Trapped}
-use Rattle.ob_mean.specs.whole.Arithmetic.{Computed}
-use Rattle.ob_mean.specs.whole.Runs.{World, Supply, Run, and_then}
-use Rattle.ob_mean.specs.whole.Expressions.{Scope, computed}
+use Rattle.ob_mean.specs.declared.outcome.TrapKind.{TrapKind}
+use Rattle.ob_mean.specs.declared.outcome.Outcome.TheVariants.{Trapped}
+use Rattle.ob_mean.specs.Arithmetic.{Computed}
+use Rattle.ob_mean.specs.Runs.{World, Supply, Run, and_then}
+use Rattle.ob_mean.specs.Expressions.{Scope, computed}
 use Rattle.ob_reference.specs.declared.state.State.{State}
 use Rattle.ob_reference.specs.declared.stop.Stop.{Stop}
 use Rattle.ob_reference.specs.declared.stop.Stop.TheVariants as stop
-use Rattle.ob_mean.specs.whole.Computing.{Computes}
+use Rattle.ob_mean.specs.Computing.{Computes}
 use Rattle.ob_reference.specs.States.{Follows, supply_in, world_in}
 
 -- what follows a run follows an equal one

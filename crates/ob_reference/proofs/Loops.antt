@@ -1,13 +1,13 @@
 -- Loops, one round at a time.
 use Rattle.std.proofs.Common.{◌≡◌, ℕ, zero, suc, ◌-◌, ◌<◌, arith, List, Err, sym, ap, ◌∙◌}
-use Rattle.ob_mean.specs.declared.whole.outcome.Outcome.TheVariants.{Stopped}
-use Rattle.ob_mean.specs.declared.whole.outcome.TurnKind.TheVariants.{BodyEntry}
-use Rattle.ob_mean.specs.declared.whole.statement.Branch.{Branch}
-use Rattle.ob_mean.specs.declared.whole.statement.TypedStatement.{TypedStatement}
-use Rattle.ob_mean.specs.whole.Runs.{World, Supply, Run, Goes, Stands, Done, done, Piece, and_then, supply, spend}
-use Rattle.ob_mean.specs.whole.Expressions.{Scope}
-use Rattle.ob_mean.specs.whole.Control.{Guarded, looping}
-use Rattle.ob_mean.specs.whole.Statements.{list_meaning}
+use Rattle.ob_mean.specs.declared.outcome.Outcome.TheVariants.{Stopped}
+use Rattle.ob_mean.specs.declared.outcome.TurnKind.TheVariants.{BodyEntry}
+use Rattle.ob_mean.specs.declared.statement.Branch.{Branch}
+use Rattle.ob_mean.specs.declared.statement.TypedStatement.{TypedStatement}
+use Rattle.ob_mean.specs.Runs.{World, Supply, Run, Goes, Stands, Done, done, Piece, and_then, supply, spend}
+use Rattle.ob_mean.specs.Expressions.{Scope}
+use Rattle.ob_mean.specs.Control.{Guarded, looping}
+use Rattle.ob_mean.specs.Statements.{list_meaning}
 use Rattle.ob_reference.specs.declared.state.State.{State}
 use Rattle.ob_reference.specs.declared.stop.Stop.{Stop}
 use Rattle.ob_reference.specs.declared.stop.Stop.TheVariants as stop

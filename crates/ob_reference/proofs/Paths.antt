@@ -1,6 +1,6 @@
 -- A path from the store, and the place that it stands for.
 use Rattle.std.proofs.Common.{◌≡◌, ℕ, List, [], ◌∷◌, ◌++◌, refl}
-use Rattle.ob_mean.specs.whole.Values.{Place, Whole, Part, Value, Nothing, get, set}
+use Rattle.ob_mean.specs.Values.{Place, Whole, Part, Value, Nothing, get, set}
 use Rattle.ob_reference.specs.Kept.{place_from, place_of, walk, walk_set}
 
 pub walk_nothing : (path : List ℕ) → walk Nothing path ≡ Nothing

@@ -3,11 +3,11 @@ use Rattle.std.proofs.Common.{◌≡◌, ℕ, zero, suc, ◌+◌, ◌<◌, arith
 use Rattle.ob_inout.specs.declared.answer.Answer.{Answer}
 use Rattle.ob_inout.specs.declared.answer.Answer.TheVariants as answers
 use Rattle.ob_inout.specs.Reading.{Line, Input, Reading, given}
-use Rattle.ob_mean.specs.declared.whole.outcome.Outcome.TheVariants.{Stopped, NeedsLine}
-use Rattle.ob_mean.specs.declared.whole.outcome.TurnKind.TheVariants.{LineAsked}
-use Rattle.ob_mean.specs.whole.Values.{Value, count, row}
-use Rattle.ob_mean.specs.whole.Runs.{World, Run, Goes, Stands, supply, spend, with_input}
-use Rattle.ob_mean.specs.whole.Input.{reading, answered}
+use Rattle.ob_mean.specs.declared.outcome.Outcome.TheVariants.{Stopped, NeedsLine}
+use Rattle.ob_mean.specs.declared.outcome.TurnKind.TheVariants.{LineAsked}
+use Rattle.ob_mean.specs.Values.{Value, count, row}
+use Rattle.ob_mean.specs.Runs.{World, Run, Goes, Stands, supply, spend, with_input}
+use Rattle.ob_mean.specs.Input.{reading, answered}
 use Rattle.ob_reference.specs.declared.state.State.{State}
 use Rattle.ob_reference.specs.declared.value.Value as declared
 use Rattle.ob_reference.specs.Kept.{value_in}

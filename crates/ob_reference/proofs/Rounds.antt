@@ -1,6 +1,6 @@
 -- Loops that make a round after the other.
 use Rattle.std.proofs.Common.{◌≡◌, ℕ, suc, ◌+◌, ◌-◌, ◌<◌, ◌≤◌, arith, Bool, true, false, Result, Ok, Err, ap, ◌∙◌, subst}
-use Rattle.ob_mean.specs.whole.Runs.{World, Supply, Run, Goes, Done, done, Piece}
+use Rattle.ob_mean.specs.Runs.{World, Supply, Run, Goes, Done, done, Piece}
 use Rattle.ob_reference.specs.declared.state.State.{State}
 use Rattle.ob_reference.specs.declared.stop.Stop.{Stop}
 use Rattle.ob_reference.specs.declared.stop.Stop.TheVariants as stop

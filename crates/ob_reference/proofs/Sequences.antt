@@ -1,17 +1,17 @@
 -- What a statement means, by the lists in its tree.
 use Rattle.std.proofs.Common.{◌≡◌, ℕ, ℤ, Bool, true, false, cond, List, [], ◌∷◌, map, Option, Some, None, option_map, refl, sym, ap, ◌∙◌}
-use Rattle.ob_mean.specs.declared.whole.expression.TypedExpr.{TypedExpr}
-use Rattle.ob_mean.specs.declared.whole.statement.Branch.{Branch}
-use Rattle.ob_mean.specs.declared.whole.statement.ForHead.{ForHead}
-use Rattle.ob_mean.specs.declared.whole.statement.CaseArm.{CaseArm}
-use Rattle.ob_mean.specs.declared.whole.statement.TypedStatement.{TypedStatement, Row_of-TypedStatement, end_of-TypedStatement, more_of-TypedStatement}
-use Rattle.ob_mean.specs.declared.whole.statement.TypedStatement.TheVariants.{If, If', Case, Case', While, While', Repeat, Repeat', For, For'}
-use Rattle.ob_mean.specs.declared.whole.statement.TypedStatement.TheBlock as block
-use Rattle.ob_mean.specs.declared.whole.statement.TypedStatement.TheBlock.{Row_of-Branch, end_of-Branch, more_of-Branch, Row_of-CaseArm, end_of-CaseArm, more_of-CaseArm, items-the_row-TypedStatement, items-the_row-Branch, items-the_row-CaseArm}
-use Rattle.ob_mean.specs.whole.Runs.{World, Supply, Done, Piece, and_then}
-use Rattle.ob_mean.specs.whole.Expressions.{Scope, value_of, variable_place}
-use Rattle.ob_mean.specs.whole.Control.{in_order, is_labelled, arm_for, chosen, looping, repeating}
-use Rattle.ob_mean.specs.whole.Statements.{stat_meaning, pieces, guarded, arms_of, list_meaning, case_body, for_loop}
+use Rattle.ob_mean.specs.declared.expression.TypedExpr.{TypedExpr}
+use Rattle.ob_mean.specs.declared.statement.Branch.{Branch}
+use Rattle.ob_mean.specs.declared.statement.ForHead.{ForHead}
+use Rattle.ob_mean.specs.declared.statement.CaseArm.{CaseArm}
+use Rattle.ob_mean.specs.declared.statement.TypedStatement.{TypedStatement, Row_of-TypedStatement, end_of-TypedStatement, more_of-TypedStatement}
+use Rattle.ob_mean.specs.declared.statement.TypedStatement.TheVariants.{If, If', Case, Case', While, While', Repeat, Repeat', For, For'}
+use Rattle.ob_mean.specs.declared.statement.TypedStatement.TheBlock as block
+use Rattle.ob_mean.specs.declared.statement.TypedStatement.TheBlock.{Row_of-Branch, end_of-Branch, more_of-Branch, Row_of-CaseArm, end_of-CaseArm, more_of-CaseArm, items-the_row-TypedStatement, items-the_row-Branch, items-the_row-CaseArm}
+use Rattle.ob_mean.specs.Runs.{World, Supply, Done, Piece, and_then}
+use Rattle.ob_mean.specs.Expressions.{Scope, value_of, variable_place}
+use Rattle.ob_mean.specs.Control.{in_order, is_labelled, arm_for, chosen, looping, repeating}
+use Rattle.ob_mean.specs.Statements.{stat_meaning, pieces, guarded, arms_of, list_meaning, case_body, for_loop}
 use Rattle.ob_reference.specs.Branches.{branch_pieces, arm_pieces, found_arm}
 
 pub row_pieces : (scope : Scope) (k : _) (row : Row_of-TypedStatement k) → pieces scope row ≡ map (stat_meaning scope) (items-the_row-TypedStatement k row)

@@ -1,22 +1,22 @@
 -- What a tree means, by its parts and its lists.
 use Rattle.std.proofs.Common.{◌≡◌, ℕ, ℤ, List, ◌∷◌, map, refl, ap, ◌∙◌}
-use Rattle.ob_mean.specs.declared.whole.operator.UnaryOperator.{UnaryOperator}
-use Rattle.ob_mean.specs.declared.whole.expression.TypedExpr.{TypedExpr, Row_of-TypedExpr, end_of-TypedExpr, more_of-TypedExpr}
-use Rattle.ob_mean.specs.declared.whole.expression.TypedExpr.TheVariants.{Unary, Chain, Chain', Every, Every', Either, Either', Function, Function'}
-use Rattle.ob_mean.specs.declared.whole.expression.Designator.{Designator}
-use Rattle.ob_mean.specs.declared.whole.expression.Designator.TheVariants as designator
-use Rattle.ob_mean.specs.declared.whole.expression.Operation.{Operation}
-use Rattle.ob_mean.specs.declared.whole.expression.Argument.{Argument}
-use Rattle.ob_mean.specs.declared.whole.expression.Callee.{Callee}
-use Rattle.ob_mean.specs.declared.whole.expression.Argument.TheBlock.{Row_of-Argument, end_of-Argument, more_of-Argument, items-the_row-Argument, Row_of-Operation, end_of-Operation, more_of-Operation, items-the_row-TypedExpr, items-the_row-Operation, items_hidden-the_row-Operation-2, items_hidden-the_row-TypedExpr-3, items_hidden-the_row-Argument-4}
-use Rattle.ob_mean.specs.whole.Values.{Part, get, count}
-use Rattle.ob_mean.specs.whole.Arithmetic.{Gives, apply, apply_one}
-use Rattle.ob_mean.specs.whole.Runs.{World, Supply, Goes, and_then}
-use Rattle.ob_mean.specs.whole.Expressions.{Scope, value_of, place_of, argument_of, values, arguments, operations, passed, only, chained, every, either, computed, element, index_in}
+use Rattle.ob_mean.specs.declared.operator.UnaryOperator.{UnaryOperator}
+use Rattle.ob_mean.specs.declared.expression.TypedExpr.{TypedExpr, Row_of-TypedExpr, end_of-TypedExpr, more_of-TypedExpr}
+use Rattle.ob_mean.specs.declared.expression.TypedExpr.TheVariants.{Unary, Chain, Chain', Every, Every', Either, Either', Function, Function'}
+use Rattle.ob_mean.specs.declared.expression.Designator.{Designator}
+use Rattle.ob_mean.specs.declared.expression.Designator.TheVariants as designator
+use Rattle.ob_mean.specs.declared.expression.Operation.{Operation}
+use Rattle.ob_mean.specs.declared.expression.Argument.{Argument}
+use Rattle.ob_mean.specs.declared.expression.Callee.{Callee}
+use Rattle.ob_mean.specs.declared.expression.Argument.TheBlock.{Row_of-Argument, end_of-Argument, more_of-Argument, items-the_row-Argument, Row_of-Operation, end_of-Operation, more_of-Operation, items-the_row-TypedExpr, items-the_row-Operation, items_hidden-the_row-Operation-2, items_hidden-the_row-TypedExpr-3, items_hidden-the_row-Argument-4}
+use Rattle.ob_mean.specs.Values.{Part, get, count}
+use Rattle.ob_mean.specs.Arithmetic.{Gives, apply, apply_one}
+use Rattle.ob_mean.specs.Runs.{World, Supply, Goes, and_then}
+use Rattle.ob_mean.specs.Expressions.{Scope, value_of, place_of, argument_of, values, arguments, operations, passed, only, chained, every, either, computed, element, index_in}
 use Rattle.ob_reference.specs.Lists.{value_pieces, operation_pieces, called}
 
 pub unary_is : (scope : Scope) (op : UnaryOperator) (line : ℕ) (a : TypedExpr) (n : Supply) (w : World) → value_of scope (Unary op line a) n w ≡ and_then (value_of scope a n w) (λ x n1 w1. computed scope (apply_one op x) line n1 w1)
-unfolding Rattle.ob_mean.specs.declared.whole.expression.Argument.TheBlock.hidden-the_row-TypedExpr-1 denote.Hole.Carrier.hidden
+unfolding Rattle.ob_mean.specs.declared.expression.Argument.TheBlock.hidden-the_row-TypedExpr-1 denote.Hole.Carrier.hidden
 unary_is scope op line a n w = refl
 
 row_values : (scope : Scope) (k : _) (row : Row_of-TypedExpr k) → values scope row ≡ value_pieces scope (items-the_row-TypedExpr k row)
@@ -39,7 +39,7 @@ operations_in (Chain' h a k steps) = (_, steps)
 operations_in _ = (_, end_of-Operation)
 
 pub chain_is : (scope : Scope) (a : TypedExpr) (os : List Operation) (n : Supply) (w : World) → value_of scope (Chain a os) n w ≡ and_then (value_of scope a n w) (λ x n1 w1. chained (operation_pieces scope os) x n1 w1)
-unfolding Rattle.ob_mean.specs.declared.whole.expression.Argument.TheBlock.hidden-the_row-TypedExpr-1 denote.Hole.Carrier.hidden
+unfolding Rattle.ob_mean.specs.declared.expression.Argument.TheBlock.hidden-the_row-TypedExpr-1 denote.Hole.Carrier.hidden
 chain_is scope a os n w =
     ap (λ l. and_then (value_of scope a n w) (λ x n1 w1. chained l x n1 w1))
     (row_operations scope (operations_in (Chain a os)).0 (operations_in (Chain a os)).1 ∙ ap (operation_pieces scope) (items_hidden-the_row-Operation-2 os))
@@ -72,9 +72,9 @@ chain_gives scope o os x y z n n1 w w1 e f =
     ∙ ap (λ c. and_then (computed scope c o.line n1 w1) (λ y n1 w1. chained (operation_pieces scope os) y n1 w1)) f
 
 pub element_is : (scope : Scope) (d : Designator) (line : ℕ) (e : TypedExpr) (n : Supply) (w : World) → place_of scope (designator.Element d line e) n w ≡ and_then (place_of scope d n w) (λ p n1 w1. and_then (value_of scope e n1 w1) (λ i n2 w2. element scope (index_in i (count (get w2.store p))) p line n2 w2))
-unfolding Rattle.ob_mean.specs.declared.whole.expression.Argument.TheBlock.hidden-the_row-TypedExpr-1 Rattle.ob_mean.specs.declared.whole.expression.Argument.TheBlock.hidden-the_row-Designator-0 denote.Hole.Carrier.hidden
+unfolding Rattle.ob_mean.specs.declared.expression.Argument.TheBlock.hidden-the_row-TypedExpr-1 Rattle.ob_mean.specs.declared.expression.Argument.TheBlock.hidden-the_row-Designator-0 denote.Hole.Carrier.hidden
 element_is scope d line e n w = refl
 
 pub field_is : (scope : Scope) (d : Designator) (i : ℕ) (n : Supply) (w : World) → place_of scope (designator.Field d i) n w ≡ and_then (place_of scope d n w) (λ p n1 w1. Goes (Part p i) n1 w1)
-unfolding Rattle.ob_mean.specs.declared.whole.expression.Argument.TheBlock.hidden-the_row-Designator-0 denote.Hole.Carrier.hidden
+unfolding Rattle.ob_mean.specs.declared.expression.Argument.TheBlock.hidden-the_row-Designator-0 denote.Hole.Carrier.hidden
 field_is scope d i n w = refl

@@ -1,14 +1,14 @@
 -- The zero of an array, and of a record.
 use Rattle.std.proofs.Common.{◌≡◌, ℕ, zero, suc, ◌-◌, ◌<◌, ◌≤◌, pos, arith, length, get_or, take, drop, List, [], ◌∷◌, refl, ap, ◌∙◌}
 use Rattle.std.proofs.lemmas.List.{take_all}
-use Rattle.ob_mean.specs.declared.whole.shape.Shape.{Shape, Row_of-Shape, end_of-Shape, more_of-Shape, items-the_row-Shape, items_hidden-the_row-Shape-1}
-use Rattle.ob_mean.specs.declared.whole.shape.Shape.TheVariants.{Array, Record, Record'}
-use Rattle.ob_mean.specs.whole.Values.{Value, Cell, Beside, row}
-use Rattle.ob_mean.specs.whole.Texts.{text_row}
-use Rattle.ob_mean.specs.whole.Shapes.{zero_of, zeros, zeros_in, at_least_one}
+use Rattle.ob_mean.specs.declared.shape.Shape.{Shape, Row_of-Shape, end_of-Shape, more_of-Shape, items-the_row-Shape, items_hidden-the_row-Shape-1}
+use Rattle.ob_mean.specs.declared.shape.Shape.TheVariants.{Array, Record, Record'}
+use Rattle.ob_mean.specs.Values.{Value, Cell, Beside, row}
+use Rattle.ob_mean.specs.Texts.{text_row}
+use Rattle.ob_mean.specs.Shapes.{zero_of, zeros, zeros_in, at_least_one}
 
 pub array_zero : (n : ℕ) (element : Shape) → zero_of (Array n element) ≡ row n (zero_of element)
-unfolding Rattle.ob_mean.specs.declared.whole.shape.Shape.TheBlock.hidden-the_row-Shape-0 denote.Hole.Carrier.hidden
+unfolding Rattle.ob_mean.specs.declared.shape.Shape.TheBlock.hidden-the_row-Shape-0 denote.Hole.Carrier.hidden
 array_zero n element = refl
 
 row_zeros : (k : _) (fields : Row_of-Shape k) → zeros_in fields ≡ zeros (items-the_row-Shape k fields)

@@ -1,8 +1,8 @@
 -- What the reference answers.
 use Rattle.std.specs.Prelude.{◌≡◌, drop, map, string_bytes}
 use Rattle.ob_inout.specs.Reading.{Input}
-use Rattle.ob_mean.specs.whole.Runs.{Run, Stands, Done, supply}
-use Rattle.ob_mean.specs.whole.Programs as programs
+use Rattle.ob_mean.specs.Runs.{Run, Stands, Done, supply}
+use Rattle.ob_mean.specs.Programs as programs
 use Rattle.ob_reference.specs.declared.reference.Ran.{Ran}
 use Rattle.ob_reference.specs.declared.reference.Command.{Command}
 use Rattle.ob_reference.specs.Kept.{value_in}

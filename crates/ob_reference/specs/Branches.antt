@@ -1,14 +1,14 @@
 -- Branches and arms, one by one.
 use Rattle.std.specs.Prelude.{◌≡◌, ℤ, cond, List, [], ◌∷◌, Option, Some, None}
-use Rattle.ob_mean.specs.declared.whole.statement.Branch.{Branch}
-use Rattle.ob_mean.specs.declared.whole.statement.CaseArm.{CaseArm}
-use Rattle.ob_mean.specs.declared.whole.statement.ForHead.{ForHead}
-use Rattle.ob_mean.specs.declared.whole.statement.TypedStatement.{TypedStatement}
-use Rattle.ob_mean.specs.whole.Values.{Place}
-use Rattle.ob_mean.specs.whole.Runs.{World, Supply, Stands, Done, Piece}
-use Rattle.ob_mean.specs.whole.Expressions.{Scope, value_of}
-use Rattle.ob_mean.specs.whole.Control.{Guarded, Arm, first_of, is_labelled}
-use Rattle.ob_mean.specs.whole.Statements.{for_guard, for_body, list_meaning}
+use Rattle.ob_mean.specs.declared.statement.Branch.{Branch}
+use Rattle.ob_mean.specs.declared.statement.CaseArm.{CaseArm}
+use Rattle.ob_mean.specs.declared.statement.ForHead.{ForHead}
+use Rattle.ob_mean.specs.declared.statement.TypedStatement.{TypedStatement}
+use Rattle.ob_mean.specs.Values.{Place}
+use Rattle.ob_mean.specs.Runs.{World, Supply, Stands, Done, Piece}
+use Rattle.ob_mean.specs.Expressions.{Scope, value_of}
+use Rattle.ob_mean.specs.Control.{Guarded, Arm, first_of, is_labelled}
+use Rattle.ob_mean.specs.Statements.{for_guard, for_body, list_meaning}
 use Rattle.ob_reference.specs.declared.state.State.{State}
 use Rattle.ob_reference.specs.declared.stop.Stop.{Stop}
 use Rattle.ob_reference.specs.declared.stop.Stop.TheVariants as stop

@@ -2,7 +2,7 @@
 use Rattle.std.specs.Prelude.{ℕ, List, [], ◌∷◌}
 use Rattle.ob_reference.specs.declared.value.Value as declared
 use Rattle.ob_reference.specs.declared.value.Value.TheVariants as kept
-use Rattle.ob_mean.specs.whole.Values.{Place, Whole, Part, Value, Cell, Named, Open, Nothing, Beside, item, with_item}
+use Rattle.ob_mean.specs.Values.{Place, Whole, Part, Value, Cell, Named, Open, Nothing, Beside, item, with_item}
 
 -- a path from a place
 abbrev pub place_from : Place → List ℕ → Place

@@ -1,12 +1,12 @@
 -- What the lists in trees mean, one by one.
 use Rattle.std.specs.Prelude.{ℕ, ℤ, List, [], ◌∷◌, map}
-use Rattle.ob_mean.specs.declared.whole.expression.TypedExpr.{TypedExpr}
-use Rattle.ob_mean.specs.declared.whole.expression.Operation.{Operation}
-use Rattle.ob_mean.specs.declared.whole.expression.Argument.{Argument}
-use Rattle.ob_mean.specs.declared.whole.expression.Callee.{Callee}
-use Rattle.ob_mean.specs.whole.Arithmetic.{apply}
-use Rattle.ob_mean.specs.whole.Runs.{Goes, Piece, and_then}
-use Rattle.ob_mean.specs.whole.Expressions.{Scope, value_of, argument_of, passed, only, computed}
+use Rattle.ob_mean.specs.declared.expression.TypedExpr.{TypedExpr}
+use Rattle.ob_mean.specs.declared.expression.Operation.{Operation}
+use Rattle.ob_mean.specs.declared.expression.Argument.{Argument}
+use Rattle.ob_mean.specs.declared.expression.Callee.{Callee}
+use Rattle.ob_mean.specs.Arithmetic.{apply}
+use Rattle.ob_mean.specs.Runs.{Goes, Piece, and_then}
+use Rattle.ob_mean.specs.Expressions.{Scope, value_of, argument_of, passed, only, computed}
 
 abbrev pub value_pieces : Scope → List TypedExpr → List (Piece ℤ)
 value_pieces scope [] = []

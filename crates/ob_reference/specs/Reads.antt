@@ -2,9 +2,9 @@
 use Rattle.std.specs.Prelude.{◌≡◌, [], ◌∷◌, Bool, true, false}
 use Rattle.ob_inout.specs.declared.answer.Answer.{Answer}
 use Rattle.ob_inout.specs.Reading.{Line, Input, Reading, given}
-use Rattle.ob_mean.specs.whole.Values.{Value}
-use Rattle.ob_mean.specs.whole.Runs.{with_input}
-use Rattle.ob_mean.specs.whole.Input.{mapped_answer}
+use Rattle.ob_mean.specs.Values.{Value}
+use Rattle.ob_mean.specs.Runs.{with_input}
+use Rattle.ob_mean.specs.Input.{mapped_answer}
 use Rattle.ob_reference.specs.declared.state.State.{State}
 use Rattle.ob_reference.specs.declared.value.Value as declared
 use Rattle.ob_reference.specs.Kept.{value_in}

@@ -1,6 +1,6 @@
 -- Loops, one round at a time.
 use Rattle.std.specs.Prelude.{◌≡◌, ℕ, suc, Bool, true, false, Result, Ok, Err}
-use Rattle.ob_mean.specs.whole.Runs.{World, Supply, Goes, Stands, Done, done, Piece}
+use Rattle.ob_mean.specs.Runs.{World, Supply, Goes, Stands, Done, done, Piece}
 use Rattle.ob_reference.specs.declared.state.State.{State}
 use Rattle.ob_reference.specs.declared.stop.Stop.{Stop}
 use Rattle.ob_reference.specs.declared.stop.Stop.TheVariants as stop

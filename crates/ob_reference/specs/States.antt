@@ -1,10 +1,10 @@
 -- The state of the code, and that a function of the code does what a piece of a program means.
 use Rattle.std.specs.Prelude.{◌≡◌, List, drop, map, Some, None, string_bytes, Result, Ok, Err}
 use Rattle.ob_inout.specs.Reading.{Line}
-use Rattle.ob_mean.specs.declared.whole.module.Loaded.{Loaded}
-use Rattle.ob_mean.specs.whole.Runs.{World, Supply, Run, Goes, Stands, supply}
-use Rattle.ob_mean.specs.whole.Expressions.{Scope}
-use Rattle.ob_mean.specs.whole.Programs.{scope_at}
+use Rattle.ob_mean.specs.declared.module.Loaded.{Loaded}
+use Rattle.ob_mean.specs.Runs.{World, Supply, Run, Goes, Stands, supply}
+use Rattle.ob_mean.specs.Expressions.{Scope}
+use Rattle.ob_mean.specs.Programs.{scope_at}
 use Rattle.ob_reference.specs.declared.state.State.{State}
 use Rattle.ob_reference.specs.declared.state.At.{At}
 use Rattle.ob_reference.specs.declared.state.GivenLine.{GivenLine}

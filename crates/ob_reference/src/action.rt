@@ -1,9 +1,9 @@
 //! Statements that have no others in them.
 
 ghost use Rattle.std.specs.Prelude.{◌≡◌, List};
-ghost use Rattle.ob_mean.specs.whole.Runs.{done};
-ghost use Rattle.ob_mean.specs.whole.Statements as spec;
-ghost use Rattle.ob_mean.specs.declared.whole.module.Loaded.{Loaded};
+ghost use Rattle.ob_mean.specs.Runs.{done};
+ghost use Rattle.ob_mean.specs.Statements as spec;
+ghost use Rattle.ob_mean.specs.declared.module.Loaded.{Loaded};
 ghost use Rattle.ob_reference.specs.Kept.{place_of};
 ghost use Rattle.ob_reference.specs.States.{Follows, scope_in, supply_in, world_in};
 
@@ -15,7 +15,7 @@ use crate::stop::Stop;
 use crate::variable::{copy_at, count_at, number_at, store_at};
 use crate::write::{write_char, write_end, write_int, write_nothing, write_text};
 use crate::zero::{cell, text_row};
-use ob_mean::whole::{Action, Adjustment, InputCall, Loaded, Outcome, OutputCall, TrapKind};
+use ob_mean::{Action, Adjustment, InputCall, Loaded, Outcome, OutputCall, TrapKind};
 use std::alloc::Global;
 
 /// A number more, or less, which wraps.

@@ -1,8 +1,8 @@
 //! Calls, and what is passed.
 
 ghost use Rattle.std.specs.Prelude.{◌≡◌, map, option_to_list};
-ghost use Rattle.ob_mean.specs.whole.Expressions as spec;
-ghost use Rattle.ob_mean.specs.whole.Programs as programs;
+ghost use Rattle.ob_mean.specs.Expressions as spec;
+ghost use Rattle.ob_mean.specs.Programs as programs;
 ghost use Rattle.ob_reference.specs.Kept.{value_in};
 ghost use Rattle.ob_reference.specs.Lists.{called};
 ghost use Rattle.ob_reference.specs.States.{Follows, scope_in, supply_in, world_in};
@@ -16,9 +16,7 @@ use crate::stop::Stop;
 use crate::value::Value;
 use crate::variable::count_at;
 use crate::zero::{beside, cell};
-use ob_mean::whole::{
-    Argument, Callee, Loaded, Outcome, TrapKind, TurnKind, TypedExpr, TypedProcedure,
-};
+use ob_mean::{Argument, Callee, Loaded, Outcome, TrapKind, TurnKind, TypedExpr, TypedProcedure};
 use std::alloc::Global;
 
 /// What is passed to one parameter.

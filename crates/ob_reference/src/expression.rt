@@ -1,11 +1,11 @@
 //! Expressions and places.
 
 ghost use Rattle.std.specs.Prelude.{◌≡◌, List, pos, IfOk, MatchResult};
-ghost use Rattle.ob_mean.specs.whole.Values.{Part, count, get};
-ghost use Rattle.ob_mean.specs.declared.whole.module.Loaded.{Loaded};
-ghost use Rattle.ob_mean.specs.declared.whole.outcome.Outcome.TheVariants.{Trapped};
+ghost use Rattle.ob_mean.specs.Values.{Part, count, get};
+ghost use Rattle.ob_mean.specs.declared.module.Loaded.{Loaded};
+ghost use Rattle.ob_mean.specs.declared.outcome.Outcome.TheVariants.{Trapped};
 ghost use Rattle.ob_reference.specs.declared.stop.Stop.TheVariants.{Stands};
-ghost use Rattle.ob_mean.specs.whole.Expressions as spec;
+ghost use Rattle.ob_mean.specs.Expressions as spec;
 ghost use Rattle.ob_reference.specs.Kept.{place_of};
 ghost use Rattle.ob_reference.specs.States.{Follows, scope_in, supply_in, world_in};
 ghost use Rattle.ob_reference.specs.Lists.{operation_pieces, value_pieces};
@@ -14,7 +14,7 @@ use crate::call::function;
 use crate::state::{At, State};
 use crate::stop::{NoAnswer, Stop};
 use crate::variable::{count_at, number_at, text_at, variable_path};
-use ob_mean::whole::{
+use ob_mean::{
     Designator, Loaded, Operation, Outcome, TrapKind, TypedExpr, apply, apply_one, texts_relate,
     truth,
 };

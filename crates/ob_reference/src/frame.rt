@@ -1,9 +1,9 @@
 //! What a call needs: the procedure, and its variables.
 
 ghost use Rattle.std.specs.Prelude.{◌≡◌, OnOk, slice_index, MatchOption, None, Some};
-ghost use Rattle.ob_mean.specs.whole.Values.{first};
-ghost use Rattle.ob_mean.specs.whole.Runs.{with_store};
-ghost use Rattle.ob_mean.specs.whole.Programs as programs;
+ghost use Rattle.ob_mean.specs.Values.{first};
+ghost use Rattle.ob_mean.specs.Runs.{with_store};
+ghost use Rattle.ob_mean.specs.Programs as programs;
 ghost use Rattle.ob_reference.specs.Kept.{value_in};
 ghost use Rattle.ob_reference.specs.States.{supply_in, world_in};
 
@@ -13,7 +13,7 @@ use crate::stop::NoAnswer;
 use crate::value::Value;
 use crate::variable::import_of;
 use crate::zero::{beside, zeros};
-use ob_mean::whole::{Callee, Loaded, TypedProcedure};
+use ob_mean::{Callee, Loaded, TypedProcedure};
 use std::alloc::Global;
 
 /// The module of a procedure that is called.

@@ -2,11 +2,11 @@
 
 ghost use Rattle.std.specs.Prelude.{◌≡◌, option_map, IfOk, OnOk};
 ghost use Rattle.ob_inout.specs.Reading as lines;
-ghost use Rattle.ob_mean.specs.declared.whole.outcome.TurnKind.TheVariants as kind;
-ghost use Rattle.ob_mean.specs.declared.whole.statement.Reader.TheVariants as readers;
-ghost use Rattle.ob_mean.specs.whole.Values as values;
-ghost use Rattle.ob_mean.specs.whole.Runs.{Goes, done, turn, and_then, with_input};
-ghost use Rattle.ob_mean.specs.whole.Input as spec;
+ghost use Rattle.ob_mean.specs.declared.outcome.TurnKind.TheVariants as kind;
+ghost use Rattle.ob_mean.specs.declared.statement.Reader.TheVariants as readers;
+ghost use Rattle.ob_mean.specs.Values as values;
+ghost use Rattle.ob_mean.specs.Runs.{Goes, done, turn, and_then, with_input};
+ghost use Rattle.ob_mean.specs.Input as spec;
 ghost use Rattle.ob_reference.specs.Kept.{place_of, value_in};
 ghost use Rattle.ob_reference.specs.Reads.{Finds, GivesLine};
 ghost use Rattle.ob_reference.specs.States.{Follows, line_in, supply_in, world_in};
@@ -17,7 +17,7 @@ use crate::value::Value;
 use crate::variable::{count_at, store_at};
 use crate::zero::{cell, character_cell, text_row};
 use ob_inout::{Answer, LineBuffer};
-use ob_mean::whole::{Outcome, Reader, TurnKind};
+use ob_mean::{Outcome, Reader, TurnKind};
 use std::alloc::Global;
 
 /// In.Open.

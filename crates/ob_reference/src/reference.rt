@@ -1,8 +1,8 @@
 ghost use Rattle.std.specs.Prelude.{◌≡◌, None, map, option_to_list, slice_get, IfOk, MatchOption};
-ghost use Rattle.ob_mean.specs.declared.whole.expression.Callee.TheVariants as callees;
-ghost use Rattle.ob_mean.specs.whole.Values as values;
-ghost use Rattle.ob_mean.specs.whole.Runs as runs;
-ghost use Rattle.ob_mean.specs.whole.Programs as spec;
+ghost use Rattle.ob_mean.specs.declared.expression.Callee.TheVariants as callees;
+ghost use Rattle.ob_mean.specs.Values as values;
+ghost use Rattle.ob_mean.specs.Runs as runs;
+ghost use Rattle.ob_mean.specs.Programs as spec;
 ghost use Rattle.ob_reference.specs.Kept.{value_in};
 ghost use Rattle.ob_reference.specs.Answers.{Says, command_in};
 ghost use Rattle.ob_reference.specs.States.{Follows, line_in, supply_in, world_in};
@@ -15,7 +15,7 @@ use crate::stop::{NoAnswer, Stop};
 use crate::value::Value;
 use crate::zero::{beside, opening_row};
 use ob_inout::LineBuffer;
-use ob_mean::whole::{Callee, Loaded, Outcome, TypedStatement};
+use ob_mean::{Callee, Loaded, Outcome, TypedStatement};
 use std::alloc::Global;
 
 /// How many pieces of a program may be open at once, which bounds the stack.
@@ -173,7 +173,7 @@ impl Reference {
     }
 
     /// The body of a module, from the variables as they are, with these lines and at most so many turns. Nothing is kept.
-    #[tactic(auto, unfolding(ob_mean::specs::whole::Programs::body_meaning))]
+    #[tactic(auto, unfolding(ob_mean::specs::Programs::body_meaning))]
     pub fn run_body(&self, home: usize, lines: Vec<GivenLine>, turns: u64) -> Result<Ran, NoAnswer>
         ensures { IfOk result (λ ran. Says (spec.body_meaning self.now.program.items home (runs.supply turns (map line_in lines.items)) (spec.world_before (value_in self.now.store))) ran) }
     {
@@ -195,7 +195,7 @@ impl Reference {
 
     /// Commands, one after the other, from the variables as they are, with these lines and at most so many turns. Nothing is
     /// kept.
-    #[tactic(auto, unfolding(ob_mean::specs::whole::Programs::commands_meaning))]
+    #[tactic(auto, unfolding(ob_mean::specs::Programs::commands_meaning))]
     pub fn run_commands(
         &self,
         commands: &[Command],

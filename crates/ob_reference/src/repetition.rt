@@ -1,14 +1,14 @@
 //! Loops.
 
 ghost use Rattle.std.specs.Prelude.{◌≡◌, ◌+ℤ◌};
-ghost use Rattle.ob_mean.specs.declared.whole.outcome.Outcome.TheVariants.{Stopped};
-ghost use Rattle.ob_mean.specs.declared.whole.outcome.TurnKind.TheVariants.{BodyEntry};
-ghost use Rattle.ob_mean.specs.whole.Values.{Cell, number, get};
-ghost use Rattle.ob_mean.specs.whole.Arithmetic.{truth, wrap};
-ghost use Rattle.ob_mean.specs.whole.Runs as runs;
-ghost use Rattle.ob_mean.specs.whole.Control.{looping, repeating};
-ghost use Rattle.ob_mean.specs.whole.Expressions.{value_of, variable_place};
-ghost use Rattle.ob_mean.specs.whole.Statements as spec;
+ghost use Rattle.ob_mean.specs.declared.outcome.Outcome.TheVariants.{Stopped};
+ghost use Rattle.ob_mean.specs.declared.outcome.TurnKind.TheVariants.{BodyEntry};
+ghost use Rattle.ob_mean.specs.Values.{Cell, number, get};
+ghost use Rattle.ob_mean.specs.Arithmetic.{truth, wrap};
+ghost use Rattle.ob_mean.specs.Runs as runs;
+ghost use Rattle.ob_mean.specs.Control.{looping, repeating};
+ghost use Rattle.ob_mean.specs.Expressions.{value_of, variable_place};
+ghost use Rattle.ob_mean.specs.Statements as spec;
 ghost use Rattle.ob_reference.specs.declared.stop.Stop.TheVariants.{Stands};
 ghost use Rattle.ob_reference.specs.Branches.{branch_pieces, for_pieces};
 ghost use Rattle.ob_reference.specs.Kept.{place_of};
@@ -22,9 +22,7 @@ use crate::statement::{first_branch, statements};
 use crate::stop::Stop;
 use crate::variable::{number_at, store_at, variable_path};
 use crate::zero::cell;
-use ob_mean::whole::{
-    Adjustment, Branch, ForHead, Loaded, Outcome, TurnKind, TypedExpr, TypedStatement,
-};
+use ob_mean::{Adjustment, Branch, ForHead, Loaded, Outcome, TurnKind, TypedExpr, TypedStatement};
 use std::alloc::Global;
 
 /// A loop has entered its body as often as turns were left when it began.

@@ -1,8 +1,8 @@
 //! Rows of values: how many, one behind the other, and the characters in them.
 
 ghost use Rattle.std.specs.Prelude.{◌≡◌, ◌++◌, [], ◌∷◌, IfOk, OnOk, IfSome};
-ghost use Rattle.ob_mean.specs.whole.Values as spec;
-ghost use Rattle.ob_mean.specs.whole.Texts as texts;
+ghost use Rattle.ob_mean.specs.Values as spec;
+ghost use Rattle.ob_mean.specs.Texts as texts;
 ghost use Rattle.ob_reference.specs.Kept.{value_in, place_of};
 
 use crate::stop::NoAnswer;

@@ -1,13 +1,13 @@
 //! What a run changes and uses up.
 
 ghost use Rattle.std.specs.Prelude.{◌≡◌, suc, OnOk, IfErr};
-ghost use Rattle.ob_mean.specs.declared.whole.outcome.Outcome.TheVariants.{Stopped};
+ghost use Rattle.ob_mean.specs.declared.outcome.Outcome.TheVariants.{Stopped};
 ghost use Rattle.ob_reference.specs.declared.stop.Stop.TheVariants.{Stands};
 
 use crate::stop::Stop;
 use crate::value::Value;
 use ob_inout::LineBuffer;
-use ob_mean::whole::{Outcome, TurnKind};
+use ob_mean::{Outcome, TurnKind};
 
 /// A line that In may ask for.
 #[derive(Drop)]

@@ -1,9 +1,9 @@
 //! Sequences and choices.
 
 ghost use Rattle.std.specs.Prelude.{◌≡◌, None, Some, MatchOption, MatchResult};
-ghost use Rattle.ob_mean.specs.whole.Runs.{done};
-ghost use Rattle.ob_mean.specs.whole.Control.{is_labelled};
-ghost use Rattle.ob_mean.specs.whole.Statements as spec;
+ghost use Rattle.ob_mean.specs.Runs.{done};
+ghost use Rattle.ob_mean.specs.Control.{is_labelled};
+ghost use Rattle.ob_mean.specs.Statements as spec;
 ghost use Rattle.ob_reference.specs.Branches.{found_arm, EntersFirst, PassesAll, BranchStops};
 ghost use Rattle.ob_reference.specs.States.{Follows, scope_in, supply_in, world_in};
 
@@ -12,7 +12,7 @@ use crate::expression::value;
 use crate::repetition::{for_loop, repeat_loop, while_loop};
 use crate::state::{At, State};
 use crate::stop::Stop;
-use ob_mean::whole::{Branch, CaseArm, LabelRange, Loaded, Outcome, TrapKind, TypedStatement};
+use ob_mean::{Branch, CaseArm, LabelRange, Loaded, Outcome, TrapKind, TypedStatement};
 use std::alloc::Global;
 
 /// Whether a label is among these.

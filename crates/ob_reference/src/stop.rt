@@ -1,7 +1,7 @@
 ghost use Rattle.std.specs.Prelude.{◌≡◌};
 ghost use Rattle.ob_reference.specs.declared.stop.Stop.TheVariants.{Unanswered};
 
-use ob_mean::whole::Outcome;
+use ob_mean::Outcome;
 use std::alloc::{AllocError, AllocFailed};
 
 /// There was no memory, the tree is deeper than the room that was given, or no checker makes such a tree.

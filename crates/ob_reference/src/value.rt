@@ -1,7 +1,7 @@
 //! Values as the reference keeps them.
 
 ghost use Rattle.std.specs.Prelude.{◌≡◌, MatchOption};
-ghost use Rattle.ob_mean.specs.whole.Values as spec;
+ghost use Rattle.ob_mean.specs.Values as spec;
 ghost use Rattle.ob_reference.specs.Kept.{value_in, walk, walk_set};
 
 /// A value of basic type, what a parameter names, or a row of values.

@@ -1,11 +1,11 @@
 //! The places of variables, and what stands there.
 
 ghost use Rattle.std.specs.Prelude.{◌≡◌, ◌∷◌, [], IfOk, slice_index};
-ghost use Rattle.ob_mean.specs.whole.Values as spec;
-ghost use Rattle.ob_mean.specs.whole.Texts as texts;
-ghost use Rattle.ob_mean.specs.whole.Runs.{stored};
-ghost use Rattle.ob_mean.specs.whole.Programs.{imports_of};
-ghost use Rattle.ob_mean.specs.whole.Expressions.{variable_place};
+ghost use Rattle.ob_mean.specs.Values as spec;
+ghost use Rattle.ob_mean.specs.Texts as texts;
+ghost use Rattle.ob_mean.specs.Runs.{stored};
+ghost use Rattle.ob_mean.specs.Programs.{imports_of};
+ghost use Rattle.ob_mean.specs.Expressions.{variable_place};
 ghost use Rattle.ob_reference.specs.Kept.{value_in, place_of};
 ghost use Rattle.ob_reference.specs.States.{scope_in, supply_in, world_in};
 
@@ -13,7 +13,7 @@ use crate::row::{characters, copy, count, named, number, text};
 use crate::state::{At, State};
 use crate::stop::NoAnswer;
 use crate::value::{Value, at, item, set};
-use ob_mean::whole::{Loaded, Variable};
+use ob_mean::{Loaded, Variable};
 use std::alloc::{AllocError, Global};
 
 /// The number of a module that is imported.

@@ -2,10 +2,10 @@
 
 ghost use Rattle.std.specs.Prelude.{◌≡◌, OnOk};
 ghost use Rattle.ob_inout.specs.Writing.{char_text, int_text, line_end, string_text};
-ghost use Rattle.ob_mean.specs.declared.whole.outcome.TurnKind.TheVariants as kind;
-ghost use Rattle.ob_mean.specs.whole.Runs.{Goes, done, turn, write};
-ghost use Rattle.ob_mean.specs.whole.Texts as texts;
-ghost use Rattle.ob_mean.specs.whole.Values.{get};
+ghost use Rattle.ob_mean.specs.declared.outcome.TurnKind.TheVariants as kind;
+ghost use Rattle.ob_mean.specs.Runs.{Goes, done, turn, write};
+ghost use Rattle.ob_mean.specs.Texts as texts;
+ghost use Rattle.ob_mean.specs.Values.{get};
 ghost use Rattle.ob_reference.specs.Kept.{place_of};
 ghost use Rattle.ob_reference.specs.States.{Follows, supply_in, world_in};
 
@@ -14,7 +14,7 @@ use crate::state::{State, take_turn};
 use crate::stop::{NoAnswer, Stop};
 use crate::variable::characters_at;
 use ob_inout::{put_char, put_int, put_line_end, put_string};
-use ob_mean::whole::TurnKind;
+use ob_mean::TurnKind;
 use std::alloc::Global;
 
 fn put_number_char(state: &mut State, number: i32) -> Result<(), NoAnswer>

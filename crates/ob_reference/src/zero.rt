@@ -1,15 +1,15 @@
 //! Variables before anything is assigned to them.
 
 ghost use Rattle.std.specs.Prelude.{◌≡◌, pos, IfOk};
-ghost use Rattle.ob_mean.specs.whole.Values as spec;
-ghost use Rattle.ob_mean.specs.whole.Shapes as shapes;
-ghost use Rattle.ob_mean.specs.whole.Texts as texts;
+ghost use Rattle.ob_mean.specs.Values as spec;
+ghost use Rattle.ob_mean.specs.Shapes as shapes;
+ghost use Rattle.ob_mean.specs.Texts as texts;
 ghost use Rattle.ob_reference.specs.Kept.{value_in};
 
 use crate::row::copy;
 use crate::stop::NoAnswer;
 use crate::value::Value;
-use ob_mean::whole::{ModuleVariable, Shape};
+use ob_mean::{ModuleVariable, Shape};
 use std::alloc::{AllocError, Global};
 
 /// A value beside a row.

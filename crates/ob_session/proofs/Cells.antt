@@ -1,10 +1,10 @@
 -- What cells keep, from the courses of their runs.
 use Rattle.std.proofs.Common.{◌≡◌, ◌≢◌, ℕ, ◌+◌, ◌-◌, ◌≤◌, List, [], ◌∷◌, ◌++◌, length, Option, Some, None, refl, sym, ap, ◌∙◌, subst, arith, append-nil, length-append}
 use Rattle.ob_inout.specs.Reading.{Line}
-use Rattle.ob_mean.specs.declared.whole.outcome.Outcome.{Outcome}
-use Rattle.ob_mean.specs.declared.whole.outcome.Outcome.TheVariants as why
-use Rattle.ob_mean.specs.whole.Runs.{World, Supply, supply, Run, Goes, Stands, Done}
-use Rattle.ob_mean.specs.whole.Programs.{body_meaning, commands_meaning, kept_store, world_before}
+use Rattle.ob_mean.specs.declared.outcome.Outcome.{Outcome}
+use Rattle.ob_mean.specs.declared.outcome.Outcome.TheVariants as why
+use Rattle.ob_mean.specs.Runs.{World, Supply, supply, Run, Goes, Stands, Done}
+use Rattle.ob_mean.specs.Programs.{body_meaning, commands_meaning, kept_store, world_before}
 use Rattle.ob_session.specs.Session.{Session, Module, name_of, place_of, link_fault, installed, program_of}
 use Rattle.ob_session.specs.Cells.{LinkFault, OtherKey, CellOutcome, Ended, Stopped, NeedsLine, CellMeaning, OfModule, OfCommands, outcome_of, ran, unlinked, module_meaning, Ready, Runs, Faulty, all_ready, commands_by, checked_meaning}
 use Rattle.ob_session.specs.Laws.{IsStopped, IsLawful, IsFed, EachIsLawful, EachIsFed}

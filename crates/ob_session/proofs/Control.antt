@@ -1,11 +1,11 @@
 -- Sequences, choices and loops of pieces.
 use Rattle.std.proofs.Common.{◌≡◌, ℕ, zero, suc, ◌≤◌, ◌<◌, ℤ, pos, negsuc, List, [], ◌∷◌, refl, sym, ◌∙◌, arith, append-nil}
 use Rattle.ob_inout.specs.Reading.{Line}
-use Rattle.ob_mean.specs.declared.whole.outcome.Outcome.TheVariants.{Stopped}
-use Rattle.ob_mean.specs.declared.whole.outcome.TurnKind.{TurnKind}
-use Rattle.ob_mean.specs.declared.whole.outcome.TurnKind.TheVariants.{BodyEntry}
-use Rattle.ob_mean.specs.whole.Runs.{World, Supply, supply, Run, Goes, Stands, Done, done, Piece, and_then, spend, turn, choose}
-use Rattle.ob_mean.specs.whole.Control.{in_order, Guarded, first_of, chosen, nothing, looping, repeating}
+use Rattle.ob_mean.specs.declared.outcome.Outcome.TheVariants.{Stopped}
+use Rattle.ob_mean.specs.declared.outcome.TurnKind.{TurnKind}
+use Rattle.ob_mean.specs.declared.outcome.TurnKind.TheVariants.{BodyEntry}
+use Rattle.ob_mean.specs.Runs.{World, Supply, supply, Run, Goes, Stands, Done, done, Piece, and_then, spend, turn, choose}
+use Rattle.ob_mean.specs.Control.{in_order, Guarded, first_of, chosen, nothing, looping, repeating}
 use Rattle.ob_session.proofs.Courses.{left_of, Sound, Good, goes_at, bind_at, choose_at, turn_at, at_less, same_at}
 
 -- ---- one after the other

@@ -1,19 +1,19 @@
 -- Expressions, variables and what is passed.
 use Rattle.std.proofs.Common.{ℕ, ℤ, pos, List, [], ◌∷◌, Option, Some, None, refl}
-use Rattle.ob_mean.specs.declared.whole.expression.Callee.{Callee}
-use Rattle.ob_mean.specs.declared.whole.expression.TypedExpr.{TypedExpr, Row_of-TypedExpr, end_of-TypedExpr, more_of-TypedExpr}
-use Rattle.ob_mean.specs.declared.whole.expression.TypedExpr.TheVariants.{Constant, Read, InputDone, Unary', Chain', Every', Either', Texts, Length, Function'}
-use Rattle.ob_mean.specs.declared.whole.expression.Designator.{Designator, end_of-Designator, more_of-Designator}
-use Rattle.ob_mean.specs.declared.whole.expression.Designator.TheVariants as designator
-use Rattle.ob_mean.specs.declared.whole.expression.Argument.{Argument}
-use Rattle.ob_mean.specs.declared.whole.expression.Argument.TheVariants as argument
-use Rattle.ob_mean.specs.declared.whole.expression.Argument.TheBlock.{Row_of-Argument, end_of-Argument, more_of-Argument, Row_of-Operation, end_of-Operation, more_of-Operation}
-use Rattle.ob_mean.specs.declared.whole.outcome.Outcome.TheVariants.{Trapped}
-use Rattle.ob_mean.specs.declared.whole.outcome.TrapKind.{TrapKind}
-use Rattle.ob_mean.specs.whole.Values.{Place, Part, Value, Nothing}
-use Rattle.ob_mean.specs.whole.Arithmetic.{Computed, Gives, Faults}
-use Rattle.ob_mean.specs.whole.Runs.{Piece}
-use Rattle.ob_mean.specs.whole.Expressions.{Scope, traps, computed, chained, every, either, passed, element, value_of, place_of, argument_of, values, arguments, operations}
+use Rattle.ob_mean.specs.declared.expression.Callee.{Callee}
+use Rattle.ob_mean.specs.declared.expression.TypedExpr.{TypedExpr, Row_of-TypedExpr, end_of-TypedExpr, more_of-TypedExpr}
+use Rattle.ob_mean.specs.declared.expression.TypedExpr.TheVariants.{Constant, Read, InputDone, Unary', Chain', Every', Either', Texts, Length, Function'}
+use Rattle.ob_mean.specs.declared.expression.Designator.{Designator, end_of-Designator, more_of-Designator}
+use Rattle.ob_mean.specs.declared.expression.Designator.TheVariants as designator
+use Rattle.ob_mean.specs.declared.expression.Argument.{Argument}
+use Rattle.ob_mean.specs.declared.expression.Argument.TheVariants as argument
+use Rattle.ob_mean.specs.declared.expression.Argument.TheBlock.{Row_of-Argument, end_of-Argument, more_of-Argument, Row_of-Operation, end_of-Operation, more_of-Operation}
+use Rattle.ob_mean.specs.declared.outcome.Outcome.TheVariants.{Trapped}
+use Rattle.ob_mean.specs.declared.outcome.TrapKind.{TrapKind}
+use Rattle.ob_mean.specs.Values.{Place, Part, Value, Nothing}
+use Rattle.ob_mean.specs.Arithmetic.{Computed, Gives, Faults}
+use Rattle.ob_mean.specs.Runs.{Piece}
+use Rattle.ob_mean.specs.Expressions.{Scope, traps, computed, chained, every, either, passed, element, value_of, place_of, argument_of, values, arguments, operations}
 use Rattle.ob_session.proofs.Courses.{Sound, Good, goes_at, stands_at, bind_at, choose_at}
 use Rattle.ob_session.proofs.Control.{EachGood}
 

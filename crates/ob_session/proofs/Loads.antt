@@ -3,8 +3,8 @@ use Rattle.std.proofs.Common.{◌≡◌, ◌≢◌, ◌⊎◌, ℕ, zero, suc, �
 use Rattle.std.specs.Str.{bytes_eq}
 use Rattle.std.proofs.lemmas.Slice.Eq.{bytes_eq-Decides}
 use Rattle.std.proofs.lemmas.Bool.{cases_lt}
-use Rattle.ob_mean.specs.whole.Shapes.{opening_row}
-use Rattle.ob_mean.specs.whole.Values.{Value, Cell, Named, Open, Nothing, Beside, count, item, with_item, append}
+use Rattle.ob_mean.specs.Shapes.{opening_row}
+use Rattle.ob_mean.specs.Values.{Value, Cell, Named, Open, Nothing, Beside, count, item, with_item, append}
 use Rattle.ob_session.specs.Session.{Session, Module, name_of, find_module, place_of, with_module, installed}
 use Rattle.ob_session.specs.Loads.{EachLoads}
 

@@ -1,18 +1,18 @@
 -- Calls, bodies and commands.
 use Rattle.std.proofs.Common.{◌≡◌, ℕ, zero, suc, List, [], ◌∷◌, Option, Some, None, refl}
 use Rattle.std.specs.Prelude.{slice_get}
-use Rattle.ob_mean.specs.declared.whole.expression.TypedExpr.{TypedExpr}
-use Rattle.ob_mean.specs.declared.whole.expression.Callee.{Callee}
-use Rattle.ob_mean.specs.declared.whole.expression.Callee.TheVariants as callee
-use Rattle.ob_mean.specs.declared.whole.module.TypedProcedure.{TypedProcedure}
-use Rattle.ob_mean.specs.declared.whole.outcome.Outcome.TheVariants.{Ended, Trapped}
-use Rattle.ob_mean.specs.declared.whole.outcome.TrapKind.TheVariants as trap
-use Rattle.ob_mean.specs.declared.whole.outcome.TurnKind.TheVariants.{ProcedureCall}
-use Rattle.ob_mean.specs.whole.Values.{Value, Nothing, count, first}
-use Rattle.ob_mean.specs.whole.Runs.{World, Supply, Run, Goes, Stands, Done, done, Piece, and_then, turn, with_store, ended}
-use Rattle.ob_mean.specs.whole.Expressions.{Scope}
-use Rattle.ob_mean.specs.whole.Statements.{list_meaning}
-use Rattle.ob_mean.specs.whole.Programs.{Program, imports_of, home_of, procedure_of, result_of, entered, procedure_meaning, found_meaning, call_at, scope_at, max_depth, body_in, body_meaning, Command, in_turn, commands_meaning}
+use Rattle.ob_mean.specs.declared.expression.TypedExpr.{TypedExpr}
+use Rattle.ob_mean.specs.declared.expression.Callee.{Callee}
+use Rattle.ob_mean.specs.declared.expression.Callee.TheVariants as callee
+use Rattle.ob_mean.specs.declared.module.TypedProcedure.{TypedProcedure}
+use Rattle.ob_mean.specs.declared.outcome.Outcome.TheVariants.{Ended, Trapped}
+use Rattle.ob_mean.specs.declared.outcome.TrapKind.TheVariants as trap
+use Rattle.ob_mean.specs.declared.outcome.TurnKind.TheVariants.{ProcedureCall}
+use Rattle.ob_mean.specs.Values.{Value, Nothing, count, first}
+use Rattle.ob_mean.specs.Runs.{World, Supply, Run, Goes, Stands, Done, done, Piece, and_then, turn, with_store, ended}
+use Rattle.ob_mean.specs.Expressions.{Scope}
+use Rattle.ob_mean.specs.Statements.{list_meaning}
+use Rattle.ob_mean.specs.Programs.{Program, imports_of, home_of, procedure_of, result_of, entered, procedure_meaning, found_meaning, call_at, scope_at, max_depth, body_in, body_meaning, Command, in_turn, commands_meaning}
 use Rattle.ob_session.proofs.Courses.{Good, goes_at, stands_at, bind_at, turn_within, same_at}
 use Rattle.ob_session.proofs.Expressions.{value_good}
 use Rattle.ob_session.proofs.Statements.{list_good}

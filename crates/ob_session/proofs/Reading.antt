@@ -3,12 +3,12 @@ use Rattle.std.proofs.Common.{◌≡◌, ℕ, zero, suc, ◌+◌, ◌≤◌, Lis
 use Rattle.ob_inout.specs.declared.answer.Answer.{Answer}
 use Rattle.ob_inout.specs.declared.answer.Answer.TheVariants as answer
 use Rattle.ob_inout.specs.Reading.{Line, Input, Reading, given}
-use Rattle.ob_mean.specs.declared.whole.outcome.TurnKind.{TurnKind}
-use Rattle.ob_mean.specs.declared.whole.outcome.Outcome.TheVariants.{NeedsLine}
-use Rattle.ob_mean.specs.declared.whole.outcome.TurnKind.TheVariants.{LineAsked}
-use Rattle.ob_mean.specs.whole.Values.{Value}
-use Rattle.ob_mean.specs.whole.Runs.{World, Supply, supply, Run, Goes, Stands, spend, with_input}
-use Rattle.ob_mean.specs.whole.Input.{answered, reading}
+use Rattle.ob_mean.specs.declared.outcome.TurnKind.{TurnKind}
+use Rattle.ob_mean.specs.declared.outcome.Outcome.TheVariants.{NeedsLine}
+use Rattle.ob_mean.specs.declared.outcome.TurnKind.TheVariants.{LineAsked}
+use Rattle.ob_mean.specs.Values.{Value}
+use Rattle.ob_mean.specs.Runs.{World, Supply, supply, Run, Goes, Stands, spend, with_input}
+use Rattle.ob_mean.specs.Input.{answered, reading}
 use Rattle.ob_session.proofs.Courses.{Asks, After, Quiet, Course, passes, begs, waits, moved, At}
 
 after_answered : (a : Answer Value) (w : World) (s : Supply) (n : ℕ) (ask : World → Run (Option Value)) → s.turns ≤ n → After w.written n (ask w) → After w.written n (answered a w s ask)

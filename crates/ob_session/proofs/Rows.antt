@@ -7,7 +7,7 @@ use Rattle.std.specs.Str.{chars}
 use Rattle.ob_inout.specs.Reading.{line_of, int_at, read_int}
 use Rattle.ob_inout.specs.Writing.{int_text}
 use Rattle.ob_types.specs.InterfaceText.{interface_text}
-use Rattle.ob_mean.specs.whole.Programs.{call_at, body_meaning, commands_meaning}
+use Rattle.ob_mean.specs.Programs.{call_at, body_meaning, commands_meaning}
 use Rattle.ob_session.specs.Cells.{checked_meaning}
 use Rattle.ob_session.specs.Rows.{WorkedRows}
 

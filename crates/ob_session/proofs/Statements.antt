@@ -3,28 +3,28 @@ use Rattle.std.proofs.Common.{ℕ, ℤ, List, [], ◌∷◌, ◌++◌, map, Bool
 use Rattle.std.specs.Prelude.{cond}
 use Rattle.ob_inout.specs.Reading.{opened}
 use Rattle.ob_inout.specs.Writing.{int_text, char_text, string_text, line_end}
-use Rattle.ob_mean.specs.declared.whole.statement.Action.{Action}
-use Rattle.ob_mean.specs.declared.whole.statement.Action.TheVariants.{Assign, Copy, AssignText, Adjust, Assert, Call, Input, Output}
-use Rattle.ob_mean.specs.declared.whole.statement.InputCall.{InputCall}
-use Rattle.ob_mean.specs.declared.whole.statement.InputCall.TheVariants as incoming
-use Rattle.ob_mean.specs.declared.whole.statement.OutputCall.{OutputCall}
-use Rattle.ob_mean.specs.declared.whole.statement.OutputCall.TheVariants as outgoing
-use Rattle.ob_mean.specs.declared.whole.statement.ForHead.{ForHead}
-use Rattle.ob_mean.specs.declared.whole.statement.TypedStatement.{TypedStatement, Row_of-TypedStatement, end_of-TypedStatement, more_of-TypedStatement}
-use Rattle.ob_mean.specs.declared.whole.statement.TypedStatement.TheBlock.{Row_of-Branch, end_of-Branch, more_of-Branch, Row_of-CaseArm, end_of-CaseArm, more_of-CaseArm}
-use Rattle.ob_mean.specs.declared.whole.statement.TypedStatement.TheVariants.{Simple, If', Case', While', Repeat', For'}
-use Rattle.ob_mean.specs.declared.whole.outcome.TrapKind.TheVariants as trap
-use Rattle.ob_mean.specs.declared.whole.outcome.TurnKind.{TurnKind}
-use Rattle.ob_mean.specs.declared.whole.outcome.TurnKind.TheVariants as kind
-use Rattle.ob_mean.specs.declared.whole.expression.Callee.{Callee}
-use Rattle.ob_mean.specs.declared.whole.expression.Argument.{Argument}
-use Rattle.ob_mean.specs.whole.Values.{Place, Value, Cell, get}
-use Rattle.ob_mean.specs.whole.Texts.{character, characters}
-use Rattle.ob_mean.specs.whole.Runs.{World, supply, Goes, Done, done, Piece, and_then, turn, write, stored, with_input}
-use Rattle.ob_mean.specs.whole.Input.{finds, reading, kept}
-use Rattle.ob_mean.specs.whole.Expressions.{Scope, traps, variable_place, value_of, argument_of}
-use Rattle.ob_mean.specs.whole.Control.{in_order, Arm, arm_for, is_labelled}
-use Rattle.ob_mean.specs.whole.Statements.{input_meaning, output_meaning, action_meaning, for_guard, for_body, for_loop, case_body, stat_meaning, pieces, guarded, arms_of, list_meaning}
+use Rattle.ob_mean.specs.declared.statement.Action.{Action}
+use Rattle.ob_mean.specs.declared.statement.Action.TheVariants.{Assign, Copy, AssignText, Adjust, Assert, Call, Input, Output}
+use Rattle.ob_mean.specs.declared.statement.InputCall.{InputCall}
+use Rattle.ob_mean.specs.declared.statement.InputCall.TheVariants as incoming
+use Rattle.ob_mean.specs.declared.statement.OutputCall.{OutputCall}
+use Rattle.ob_mean.specs.declared.statement.OutputCall.TheVariants as outgoing
+use Rattle.ob_mean.specs.declared.statement.ForHead.{ForHead}
+use Rattle.ob_mean.specs.declared.statement.TypedStatement.{TypedStatement, Row_of-TypedStatement, end_of-TypedStatement, more_of-TypedStatement}
+use Rattle.ob_mean.specs.declared.statement.TypedStatement.TheBlock.{Row_of-Branch, end_of-Branch, more_of-Branch, Row_of-CaseArm, end_of-CaseArm, more_of-CaseArm}
+use Rattle.ob_mean.specs.declared.statement.TypedStatement.TheVariants.{Simple, If', Case', While', Repeat', For'}
+use Rattle.ob_mean.specs.declared.outcome.TrapKind.TheVariants as trap
+use Rattle.ob_mean.specs.declared.outcome.TurnKind.{TurnKind}
+use Rattle.ob_mean.specs.declared.outcome.TurnKind.TheVariants as kind
+use Rattle.ob_mean.specs.declared.expression.Callee.{Callee}
+use Rattle.ob_mean.specs.declared.expression.Argument.{Argument}
+use Rattle.ob_mean.specs.Values.{Place, Value, Cell, get}
+use Rattle.ob_mean.specs.Texts.{character, characters}
+use Rattle.ob_mean.specs.Runs.{World, supply, Goes, Done, done, Piece, and_then, turn, write, stored, with_input}
+use Rattle.ob_mean.specs.Input.{finds, reading, kept}
+use Rattle.ob_mean.specs.Expressions.{Scope, traps, variable_place, value_of, argument_of}
+use Rattle.ob_mean.specs.Control.{in_order, Arm, arm_for, is_labelled}
+use Rattle.ob_mean.specs.Statements.{input_meaning, output_meaning, action_meaning, for_guard, for_body, for_loop, case_body, stat_meaning, pieces, guarded, arms_of, list_meaning}
 use Rattle.ob_session.proofs.Courses.{At, Good, passes, goes_at, bind_at, choose_at, turn_then, turn_within, at_less}
 use Rattle.ob_session.proofs.Reading.{reading_at}
 use Rattle.ob_session.proofs.Control.{EachGood, GuardsGood, in_order_good, chosen_good, loop_good, repeat_good}

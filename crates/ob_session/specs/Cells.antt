@@ -7,12 +7,12 @@ use Rattle.ob_types.specs.declared.exports.Object.{Object}
 use Rattle.ob_types.specs.declared.exports.Object.TheVariants as object
 use Rattle.ob_types.specs.declared.exports.Formal.{Formal}
 use Rattle.ob_types.specs.declared.structure.Basic.{Basic}
-use Rattle.ob_mean.specs.declared.whole.outcome.TrapKind.{TrapKind}
-use Rattle.ob_mean.specs.declared.whole.outcome.TurnKind.{TurnKind}
-use Rattle.ob_mean.specs.declared.whole.outcome.Outcome.{Outcome}
-use Rattle.ob_mean.specs.declared.whole.outcome.Outcome.TheVariants as why
-use Rattle.ob_mean.specs.whole.Programs.{Command, body_meaning, commands_meaning, kept_store, world_before}
-use Rattle.ob_mean.specs.whole.Runs.{World, Supply, supply, Run, Goes, Stands, Done}
+use Rattle.ob_mean.specs.declared.outcome.TrapKind.{TrapKind}
+use Rattle.ob_mean.specs.declared.outcome.TurnKind.{TurnKind}
+use Rattle.ob_mean.specs.declared.outcome.Outcome.{Outcome}
+use Rattle.ob_mean.specs.declared.outcome.Outcome.TheVariants as why
+use Rattle.ob_mean.specs.Programs.{Command, body_meaning, commands_meaning, kept_store, world_before}
+use Rattle.ob_mean.specs.Runs.{World, Supply, supply, Run, Goes, Stands, Done}
 use Rattle.ob_session.specs.Session.{Session, Module, name_of, find_module, place_of, link_fault, installed, program_of}
 
 -- why a cell does not link

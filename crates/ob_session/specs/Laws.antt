@@ -1,7 +1,7 @@
 -- What each cell keeps, from turn to turn and from line to line.
 use Rattle.std.specs.Prelude.{◌≡◌, ◌≢◌, ℕ, ◌≤◌, List, [], ◌∷◌, ◌++◌}
 use Rattle.ob_inout.specs.Reading.{Line}
-use Rattle.ob_mean.specs.declared.whole.outcome.TurnKind.{TurnKind}
+use Rattle.ob_mean.specs.declared.outcome.TurnKind.{TurnKind}
 use Rattle.ob_session.specs.Session.{Session}
 use Rattle.ob_session.specs.Cells.{CellMeaning, CellOutcome, Stopped, NeedsLine, Checked, checked_meaning}
 

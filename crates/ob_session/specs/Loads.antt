@@ -1,8 +1,8 @@
 -- What loading a module changes, and what stays.
 use Rattle.std.specs.Prelude.{◌≡◌, ◌≢◌, ℕ, ◌<◌, List, length, Some, None, if◌then◌else◌}
 use Rattle.std.specs.Str.{bytes_eq}
-use Rattle.ob_mean.specs.whole.Shapes.{opening_row}
-use Rattle.ob_mean.specs.whole.Values.{count, item}
+use Rattle.ob_mean.specs.Shapes.{opening_row}
+use Rattle.ob_mean.specs.Values.{count, item}
 use Rattle.ob_session.specs.Session.{Session, Module, name_of, find_module, place_of, installed}
 
 pub record Loads (s : Session) (m : Module) : Type 0 where

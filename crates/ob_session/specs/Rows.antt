@@ -5,23 +5,23 @@ use Rattle.ob_types.specs.declared.structure.Basic.TheVariants as basic
 use Rattle.ob_types.specs.declared.structure.ObType.TheVariants as type
 use Rattle.ob_types.specs.declared.exports.Exported.{Exported}
 use Rattle.ob_types.specs.declared.exports.Object.TheVariants as object
-use Rattle.ob_mean.specs.declared.whole.expression.Callee.TheVariants as callee
-use Rattle.ob_mean.specs.declared.whole.expression.Designator.TheVariants as designator
-use Rattle.ob_mean.specs.declared.whole.expression.TypedExpr.TheVariants.{Constant, Read}
-use Rattle.ob_mean.specs.declared.whole.expression.Variable.{Variable}
-use Rattle.ob_mean.specs.declared.whole.expression.Variable.TheVariants as variable
-use Rattle.ob_mean.specs.declared.whole.module.ModuleVariable.TheVariants.{Declared}
-use Rattle.ob_mean.specs.declared.whole.module.TypedProcedure.{TypedProcedure}
-use Rattle.ob_mean.specs.declared.whole.outcome.TrapKind.TheVariants as trap
-use Rattle.ob_mean.specs.declared.whole.outcome.TurnKind.TheVariants as kind
-use Rattle.ob_mean.specs.declared.whole.shape.Shape.TheVariants as shape
-use Rattle.ob_mean.specs.declared.whole.statement.Action.TheVariants.{Adjust, Assert, Call, Input, Output}
-use Rattle.ob_mean.specs.declared.whole.statement.Adjustment.TheVariants.{Increase}
-use Rattle.ob_mean.specs.declared.whole.statement.InputCall.TheVariants as incoming
-use Rattle.ob_mean.specs.declared.whole.statement.OutputCall.TheVariants as outgoing
-use Rattle.ob_mean.specs.declared.whole.statement.Reader.TheVariants as reader
-use Rattle.ob_mean.specs.declared.whole.statement.TypedStatement.{TypedStatement}
-use Rattle.ob_mean.specs.declared.whole.statement.TypedStatement.TheVariants.{Simple}
+use Rattle.ob_mean.specs.declared.expression.Callee.TheVariants as callee
+use Rattle.ob_mean.specs.declared.expression.Designator.TheVariants as designator
+use Rattle.ob_mean.specs.declared.expression.TypedExpr.TheVariants.{Constant, Read}
+use Rattle.ob_mean.specs.declared.expression.Variable.{Variable}
+use Rattle.ob_mean.specs.declared.expression.Variable.TheVariants as variable
+use Rattle.ob_mean.specs.declared.module.ModuleVariable.TheVariants.{Declared}
+use Rattle.ob_mean.specs.declared.module.TypedProcedure.{TypedProcedure}
+use Rattle.ob_mean.specs.declared.outcome.TrapKind.TheVariants as trap
+use Rattle.ob_mean.specs.declared.outcome.TurnKind.TheVariants as kind
+use Rattle.ob_mean.specs.declared.shape.Shape.TheVariants as shape
+use Rattle.ob_mean.specs.declared.statement.Action.TheVariants.{Adjust, Assert, Call, Input, Output}
+use Rattle.ob_mean.specs.declared.statement.Adjustment.TheVariants.{Increase}
+use Rattle.ob_mean.specs.declared.statement.InputCall.TheVariants as incoming
+use Rattle.ob_mean.specs.declared.statement.OutputCall.TheVariants as outgoing
+use Rattle.ob_mean.specs.declared.statement.Reader.TheVariants as reader
+use Rattle.ob_mean.specs.declared.statement.TypedStatement.{TypedStatement}
+use Rattle.ob_mean.specs.declared.statement.TypedStatement.TheVariants.{Simple}
 use Rattle.ob_session.specs.Session.{Session, Module, opening, key_of}
 use Rattle.ob_session.specs.Cells.{CellMeaning, CellOutcome, Ended, Trapped, Stopped, NeedsLine, Unlinked, NotLoaded, NoCommand, OtherKey, CommandName, OfModule, OfCommands, checked_meaning}
 

@@ -3,11 +3,11 @@ use Rattle.std.specs.Prelude.{ℕ, zero, suc, List, [], ◌∷◌, length, map, 
 use Rattle.std.specs.Str.{bytes_eq}
 use Rattle.ob_types.specs.InterfaceTree.{InterfaceTree}
 use Rattle.ob_types.specs.InterfaceText.{interface_text}
-use Rattle.ob_mean.specs.declared.whole.module.TypedModule.{TypedModule}
-use Rattle.ob_mean.specs.declared.whole.module.Loaded.{Loaded}
-use Rattle.ob_mean.specs.whole.Programs.{Program}
-use Rattle.ob_mean.specs.whole.Shapes.{opening_row}
-use Rattle.ob_mean.specs.whole.Values.{Value, Nothing, Beside, append, count, with_item}
+use Rattle.ob_mean.specs.declared.module.TypedModule.{TypedModule}
+use Rattle.ob_mean.specs.declared.module.Loaded.{Loaded}
+use Rattle.ob_mean.specs.Programs.{Program}
+use Rattle.ob_mean.specs.Shapes.{opening_row}
+use Rattle.ob_mean.specs.Values.{Value, Nothing, Beside, append, count, with_item}
 
 -- an import, with the key that the module had when its client was checked. In and Out are none
 pub record Import : Type 0 where

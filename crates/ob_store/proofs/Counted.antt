@@ -1,11 +1,11 @@
 -- Where the cells of the modules' variables lie, counted by the modules' code.
 use Rattle.std.proofs.Common.{◌≡◌, ℕ, zero, suc, ◌+◌, ℤ, List, [], ◌∷◌, ◌++◌, take, drop, refl, sym, ap, ◌∙◌, add-one, arith}
-use Rattle.ob_mean.specs.whole.Values.{Value, Cell, Named, Open, Nothing, Beside, before, image, item, size}
-use Rattle.ob_mean.specs.whole.Programs.{opening_store}
-use Rattle.ob_mean.specs.whole.Shapes.{opening_row}
+use Rattle.ob_mean.specs.Values.{Value, Cell, Named, Open, Nothing, Beside, before, image, item, size}
+use Rattle.ob_mean.specs.Programs.{opening_store}
+use Rattle.ob_mean.specs.Shapes.{opening_row}
 use Rattle.ob_session.specs.Session.{Module, name_of, place_of, program_of}
-use Rattle.ob_code.specs.whole.Linked.{all_cells}
-use Rattle.ob_code.specs.whole.Machine.{Code}
+use Rattle.ob_code.specs.Linked.{all_cells}
+use Rattle.ob_code.specs.Machine.{Code}
 use Rattle.ob_store.specs.Counted.{HaveCellsOf, EachCountsCells}
 use Rattle.ob_store.proofs.Opening.{rows, opening-rows}
 

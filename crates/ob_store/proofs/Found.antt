@@ -1,5 +1,5 @@
 -- A store is found again from its cells.
-use Rattle.ob_mean.specs.whole.Programs.{opening_store}
+use Rattle.ob_mean.specs.Programs.{opening_store}
 use Rattle.ob_session.specs.Session.{program_of}
 use Rattle.ob_store.specs.Stores.{EachIsFoundAgain}
 use Rattle.ob_store.proofs.Refilled.{shape-refilled, image-refilled, refilled_only}

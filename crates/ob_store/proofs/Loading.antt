@@ -1,9 +1,9 @@
 -- The store when a module is loaded.
 use Rattle.std.proofs.Common.{◌≡◌, zero, suc, Bool, true, false, List, [], ◌∷◌, length, if◌then◌else◌, refl, sym, ap, ◌∙◌, subst}
 use Rattle.std.specs.Str.{bytes_eq}
-use Rattle.ob_mean.specs.whole.Programs.{opening_store}
-use Rattle.ob_mean.specs.whole.Shapes.{opening_row}
-use Rattle.ob_mean.specs.whole.Values.{Beside, shape, image}
+use Rattle.ob_mean.specs.Programs.{opening_store}
+use Rattle.ob_mean.specs.Shapes.{opening_row}
+use Rattle.ob_mean.specs.Values.{Beside, shape, image}
 use Rattle.ob_session.specs.Session.{Module, name_of, place_of, with_module, with_variables, program_of}
 use Rattle.ob_gen.proofs.machine.Store.{IsRow, row-shape, shape-row}
 use Rattle.ob_store.specs.Stores.{store_of, loaded_cells, EachLoadsCells}

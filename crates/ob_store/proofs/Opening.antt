@@ -1,8 +1,8 @@
 -- The variables of all modules as they begin: a row for each, whatever it imports.
 use Rattle.std.proofs.Common.{◌≡◌, List, [], ◌∷◌, map, refl, ap}
-use Rattle.ob_mean.specs.whole.Programs.{opening_store}
-use Rattle.ob_mean.specs.whole.Shapes.{opening_row}
-use Rattle.ob_mean.specs.whole.Values.{Value, Nothing, Beside}
+use Rattle.ob_mean.specs.Programs.{opening_store}
+use Rattle.ob_mean.specs.Shapes.{opening_row}
+use Rattle.ob_mean.specs.Values.{Value, Nothing, Beside}
 use Rattle.ob_session.specs.Session.{Module, loaded, program_of}
 use Rattle.ob_gen.proofs.machine.Store.{IsRow}
 

@@ -1,7 +1,7 @@
 -- A value is what its shape and its cells say.
 use Rattle.std.proofs.Common.{◌≡◌, ℤ, List, [], ◌∷◌, ◌++◌, length, take, drop, refl, sym, ap, ◌∙◌, arith}
 use Rattle.std.proofs.lemmas.List.{length-take-le, length-drop, take-append-drop, take_at, drop_at}
-use Rattle.ob_mean.specs.whole.Values.{Value, Cell, Named, Open, Nothing, Beside, size, shape, image}
+use Rattle.ob_mean.specs.Values.{Value, Cell, Named, Open, Nothing, Beside, size, shape, image}
 use Rattle.ob_gen.proofs.machine.Store.{length-image, size-shape}
 use Rattle.ob_store.specs.Stores.{refilled}
 

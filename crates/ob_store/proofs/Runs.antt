@@ -1,9 +1,9 @@
 -- Cells before a run, and what stays of them behind it.
 use Rattle.std.proofs.Common.{ℤ, List, [], length, sym, ap, ◌∙◌}
 use Rattle.ob_inout.specs.Reading.{opened}
-use Rattle.ob_mean.specs.whole.Programs.{opening_store, kept_store}
+use Rattle.ob_mean.specs.Programs.{opening_store, kept_store}
 use Rattle.ob_session.specs.Session.{program_of}
-use Rattle.ob_code.specs.whole.Machine.{Memory}
+use Rattle.ob_code.specs.Machine.{Memory}
 use Rattle.ob_store.specs.Runs.{EachMayBegin, EachKeepsCells}
 use Rattle.ob_store.proofs.Refilled.{shape-refilled, image-refilled, refilled_only, many_cells}
 

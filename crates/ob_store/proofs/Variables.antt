@@ -3,7 +3,7 @@ use Rattle.std.proofs.Common.{◌≡◌, ℕ, zero, suc, ◌+◌, ◌<◌, ◌�
 use Rattle.std.proofs.lemmas.List.{take_all, drop_all, take_at}
 use Rattle.std.proofs.lemmas.Bool.Decides.{nat_tests}
 use Rattle.std.proofs.Math.Seq.{drop-append-add, drop-append_seam}
-use Rattle.ob_mean.specs.whole.Values.{Value, Cell, Named, Open, Nothing, Beside, count, size, item, before, with_item, append, shape, image}
+use Rattle.ob_mean.specs.Values.{Value, Cell, Named, Open, Nothing, Beside, count, size, item, before, with_item, append, shape, image}
 use Rattle.ob_session.specs.Session.{with_variables}
 use Rattle.ob_gen.proofs.machine.Store.{IsRow, length-image, count-shape, size-shape, item-shape, before-shape, shape-append, item_slice, grows}
 

@@ -1,11 +1,11 @@
 -- Cells before a run, and what stays of them behind it.
 use Rattle.std.specs.Prelude.{◌≡◌, ℤ, List, [], take}
 use Rattle.ob_inout.specs.Reading.{opened}
-use Rattle.ob_mean.specs.whole.Values.{Value, image, size}
-use Rattle.ob_mean.specs.whole.Programs.{opening_store, kept_store, world_before}
+use Rattle.ob_mean.specs.Values.{Value, image, size}
+use Rattle.ob_mean.specs.Programs.{opening_store, kept_store, world_before}
 use Rattle.ob_session.specs.Session.{Module, program_of}
-use Rattle.ob_code.specs.whole.Machine.{picture}
-use Rattle.ob_gen.specs.whole.Correct.{MayBegin, StaysOf}
+use Rattle.ob_code.specs.Machine.{picture}
+use Rattle.ob_gen.specs.Correct.{MayBegin, StaysOf}
 use Rattle.ob_store.specs.Stores.{store_of, AreCellsOf}
 
 -- ---- before a run

@@ -1,8 +1,8 @@
 -- A store and its picture: a value is what its shape and its cells say.
 use Rattle.std.specs.Prelude.{◌≡◌, ◌+◌, ℤ, pos, List, ◌++◌, take, drop, length, slice_index_or}
-use Rattle.ob_mean.specs.whole.Values.{Value, Cell, Named, Open, Nothing, Beside, before, image, item, shape, size}
-use Rattle.ob_mean.specs.whole.Programs.{opening_store}
-use Rattle.ob_mean.specs.whole.Shapes.{opening_row}
+use Rattle.ob_mean.specs.Values.{Value, Cell, Named, Open, Nothing, Beside, before, image, item, shape, size}
+use Rattle.ob_mean.specs.Programs.{opening_store}
+use Rattle.ob_mean.specs.Shapes.{opening_row}
 use Rattle.ob_session.specs.Session.{Session, Module, name_of, place_of, with_module, installed, program_of}
 
 -- a value of this shape whose cells these are

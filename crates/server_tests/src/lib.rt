@@ -12,6 +12,10 @@ mod recorder;
 #[cfg(test)]
 mod replays;
 #[cfg(test)]
+mod requests;
+#[cfg(test)]
+mod saving;
+#[cfg(test)]
 mod shown;
 #[cfg(test)]
 mod statuses;

@@ -1,7 +1,7 @@
 use jk_core::{Entry, To, Told};
 use jp_msg::{Channel, Message, Output, read_message};
 use json_form::{Shared, Text};
-use nb_doc::{Cell, Notebook, read_notebook, write_notebook};
+use nb_doc::{Cell, read_notebook, write_notebook};
 use nb_record::Recorder;
 use std::process::Abort;
 use std::test::Fail;
@@ -53,7 +53,7 @@ fn text_of(rt: &HostRuntime, recorder: &Recorder) -> Result<String, Fail> {
 
 fn recorder(rt: &HostRuntime) -> Result<Recorder, Fail> {
     let path = Text::from_str(rt.alloc(), "n.ipynb")?;
-    Ok(Recorder::new(rt.alloc(), path, Notebook::empty(rt.alloc())))
+    Ok(Recorder::empty(rt.alloc(), path))
 }
 
 // A notebook of a cell of text and the code cell c1.

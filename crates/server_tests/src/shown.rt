@@ -2,7 +2,7 @@
 
 use jk_core::{Arrival, Entry, Kernel, To, Told, What, Work};
 use jk_language::Language;
-use jp_msg::{Message, Outcome, Output, State, read_message};
+use jp_msg::{Completeness, Message, Outcome, Output, State, read_message};
 use json_form::{Shared, Text};
 use std::alloc::Global;
 use std::test::Fail;
@@ -59,6 +59,36 @@ pub fn take_interrupt<L: Language>(
     take(kernel, seat, What::Control(request(alloc, INTERRUPT)?))
 }
 
+/// Takes a request of this type and content from a seat, on the shell channel.
+pub fn take_query<L: Language>(
+    alloc: Global,
+    kernel: &mut Kernel<L>,
+    seat: u8,
+    id: &str,
+    kind: &str,
+    content: &str,
+) -> Result<(), Fail> {
+    let text = format!(in alloc;
+        "{{\"content\":{{{content}}},\"header\":{{\"msg_id\":\"{id}\",\"msg_type\":\"{kind}_request\",\"session\":\"s\"}}}}"
+    )?;
+    take(kernel, seat, What::Shell(request(alloc, text.as_str())?))
+}
+
+/// Takes a request of this type and content from a seat, on the control channel.
+pub fn take_control<L: Language>(
+    alloc: Global,
+    kernel: &mut Kernel<L>,
+    seat: u8,
+    id: &str,
+    kind: &str,
+    content: &str,
+) -> Result<(), Fail> {
+    let text = format!(in alloc;
+        "{{\"channel\":\"control\",\"content\":{{{content}}},\"header\":{{\"msg_id\":\"{id}\",\"msg_type\":\"{kind}_request\",\"session\":\"s\"}}}}"
+    )?;
+    take(kernel, seat, What::Control(request(alloc, text.as_str())?))
+}
+
 /// Reads every text that waits.
 pub fn read_all<L: Language>(alloc: Global, kernel: &mut Kernel<L>) -> Result<(), Fail> {
     for _ in 0..8 {
@@ -104,7 +134,19 @@ fn output_told(alloc: Global, output: &Output) -> Result<String, Fail> {
         Output::ExecuteReply(Outcome::Aborted) => format!(in alloc; "aborted")?,
         Output::InterruptReply => format!(in alloc; "interrupt_reply")?,
         Output::InputRequest => format!(in alloc; "input_request")?,
-        _ => format!(in alloc; "another")?,
+        Output::KernelInfoReply => format!(in alloc; "kernel_info_reply")?,
+        Output::IsCompleteReply(Completeness::Complete) => format!(in alloc; "complete")?,
+        Output::IsCompleteReply(Completeness::Incomplete) => format!(in alloc; "incomplete")?,
+        Output::IsCompleteReply(Completeness::Invalid) => format!(in alloc; "invalid")?,
+        Output::CompleteReply { cursor_pos: cursor } => {
+            let cursor = cursor.number();
+            format!(in alloc; "complete_reply {cursor}")?
+        }
+        Output::InspectReply => format!(in alloc; "inspect_reply")?,
+        Output::HistoryReply => format!(in alloc; "history_reply")?,
+        Output::CommInfoReply => format!(in alloc; "comm_info_reply")?,
+        Output::ShutdownReply { restart: true } => format!(in alloc; "shutdown_reply, restart")?,
+        Output::ShutdownReply { restart: false } => format!(in alloc; "shutdown_reply")?,
     })
 }
 

@@ -1,60 +1,20 @@
 //! Images of programs made by hand.
 
 ghost use Rattle.std.specs.Prelude.{◌≡◌, ◌<◌, length, true, slice_get, All, IsTrue, IfOk, OnOk};
-ghost use Rattle.ob_code.specs.declared.whole.instr.LinkedModule.{LinkedModule as ModuleOf};
-ghost use Rattle.ob_code.specs.whole.Linked.{all_cells, runs_of};
-ghost use Rattle.ob_code.specs.whole.Valid.{IsValid};
-ghost use Rattle.ob_vm.specs.whole.Images.{IsOf};
+ghost use Rattle.ob_code.specs.declared.instr.LinkedModule.{LinkedModule as ModuleOf};
+ghost use Rattle.ob_code.specs.Linked.{all_cells, runs_of};
+ghost use Rattle.ob_code.specs.Valid.{IsValid};
+ghost use Rattle.ob_vm.specs.Images.{IsOf};
 
-use ob_code::whole::checked::validate;
-use ob_code::whole::instr::{CodeModule, LinkedModule};
-use ob_code::whole::linked::are_linked;
-use ob_gen::whole::module_code;
-use ob_mean::whole::{Face, Loaded, ModuleVariable, Shape, TypedModule};
+use ob_code::checked::validate;
+use ob_code::instr::{CodeModule, LinkedModule};
+use ob_code::linked::are_linked;
+use ob_gen::module_code;
+use ob_image::push_opening;
+use ob_mean::{Face, Loaded, TypedModule};
 use ob_reference::NoAnswer;
-use ob_vm::whole::{Image, Machine};
-use std::alloc::{AllocError, Global};
-
-/// The zeros of a value of basic type, or of an array of such.
-fn push_plain(cells: &mut Vec<i32>, shape: &Shape) -> Result<(), NoAnswer> {
-    match shape {
-        Shape::Basic => cells.push(0)?,
-        Shape::Array(length, _) => {
-            for _ in 0..*length {
-                cells.push(0)?;
-            }
-        }
-        Shape::Record(_) => return Err(NoAnswer),
-    }
-    Ok(())
-}
-
-/// The first value of a variable: of basic type, of an array of such, of a record of both, or of a string.
-fn push_cells(cells: &mut Vec<i32>, variable: &ModuleVariable) -> Result<(), NoAnswer> {
-    match variable {
-        ModuleVariable::Declared(Shape::Record(fields)) => {
-            let fields = fields.as_slice();
-            for field in fields {
-                push_plain(cells, field)?;
-            }
-        }
-        ModuleVariable::Declared(shape) => push_plain(cells, shape)?,
-        ModuleVariable::Text(text, length) => push_text(cells, text.as_slice(), *length)?,
-    }
-    Ok(())
-}
-
-/// A text, and 0X behind it.
-fn push_text(cells: &mut Vec<i32>, text: &[u8], length: u32) -> Result<(), AllocError> {
-    for place in 0..length as usize {
-        let character = match text.get(place) {
-            Some(character) => i32::from(*character),
-            None => 0,
-        };
-        cells.push(character)?;
-    }
-    Ok(())
-}
+use ob_vm::{Image, Machine};
+use std::alloc::Global;
 
 /// A module's code, which has to be valid.
 fn code_of(alloc: Global, known: &[Face], tree: &TypedModule) -> Result<CodeModule, NoAnswer>
@@ -110,10 +70,7 @@ pub(crate) fn image_of(
     let mut cells = Vec::new(alloc);
     for module in program {
         add(alloc, &mut modules, cells.len(), known, module)?;
-        let variables = module.tree.variables.as_slice();
-        for variable in variables {
-            push_cells(&mut cells, variable)?;
-        }
+        push_opening(&mut cells, module.tree.variables.as_slice())?;
     }
     let may_run = vec![in alloc; true; modules.len()]?;
     if are_linked(&modules, &may_run) && have_cells(&modules, cells.len()) {

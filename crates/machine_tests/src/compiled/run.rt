@@ -1,10 +1,10 @@
 //! Runs of a machine, slice by slice and line by line.
 
 ghost use Rattle.std.specs.Prelude.{◌≡◌, IfOk};
-ghost use Rattle.ob_vm.specs.whole.Images.{IsOf, WhereAsked};
+ghost use Rattle.ob_vm.specs.Images.{IsOf, WhereAsked};
 
 use ob_reference::NoAnswer;
-use ob_vm::whole::{Image, Machine, Turned};
+use ob_vm::{Image, Machine, Turned};
 use std::alloc::{AllocError, Global};
 
 /// How many slices a run has at most.

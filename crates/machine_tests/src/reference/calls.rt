@@ -10,7 +10,7 @@ use super::{
 };
 use crate::compiled;
 use ob_base::Items;
-use ob_mean::whole::{
+use ob_mean::{
     Callee, Face, Heading, Loaded, Operator, Outcome, Parameter, Relation, Shape, TrapKind,
     TurnKind, TypedExpr, TypedProcedure,
 };

@@ -5,7 +5,7 @@ use super::trees::{
     out_end, out_int, out_text, read, two, unary, unit, with,
 };
 use super::{AT_INPUT, AT_LINE, AT_OUTPUT, ENDED, wrong_alone};
-use ob_mean::whole::{Loaded, Operator, Outcome, Reader, UnaryOperator};
+use ob_mean::{Loaded, Operator, Outcome, Reader, UnaryOperator};
 use std::alloc::{AllocError, Global};
 
 /// In.Int(a); In.Int(b); Out.Int(a + b, 0); Out.Ln

@@ -5,7 +5,7 @@ use super::trees::{
     out_end, out_int, read, repetition, two, unit, until, with,
 };
 use super::{AT_ENTRY, AT_OUTPUT, ENDED, wrong_alone};
-use ob_mean::whole::{Branch, Loaded, Operator, Relation, TypedExpr, TypedStatement};
+use ob_mean::{Branch, Loaded, Operator, Relation, TypedExpr, TypedStatement};
 use std::alloc::{AllocError, Global};
 
 /// FOR x := 3 TO 1 BY -1 DO Out.Int(x, 2) END; Out.Int(x, 3); Out.Ln

@@ -5,7 +5,7 @@ use super::trees::{
     unit, with,
 };
 use super::{AT_OUTPUT, ENDED, wrong_alone};
-use ob_mean::whole::{Loaded, Operator, Relation, TypedExpr, UnaryOperator};
+use ob_mean::{Loaded, Operator, Relation, TypedExpr, UnaryOperator};
 use ob_reference::NoAnswer;
 use std::alloc::{AllocError, Global};
 

@@ -5,7 +5,7 @@ use super::trees::{
     with,
 };
 use super::{AT_OUTPUT, ENDED, wrong_alone};
-use ob_mean::whole::{Designator, Loaded, Operator};
+use ob_mean::{Designator, Loaded, Operator};
 use std::alloc::{AllocError, Global};
 
 /// The second element of the array in a variable.

@@ -5,7 +5,7 @@ use super::trees::{
     global, none, one, procedure, two, unary, unit,
 };
 use super::{trapped, wrong_alone};
-use ob_mean::whole::{Callee, Loaded, Operator, TrapKind, TypedStatement, UnaryOperator};
+use ob_mean::{Callee, Loaded, Operator, TrapKind, TypedStatement, UnaryOperator};
 use std::alloc::{AllocError, Global};
 
 /// A module with a variable, an array of three, a procedure that calls itself in line 18, and this statement.

@@ -1,7 +1,7 @@
 //! Trees made by hand. A builder takes what other builders gave, so that a tree is one expression.
 
 use ob_base::{Boxed, Items, Text};
-use ob_mean::whole::{
+use ob_mean::{
     Action, Adjustment, Argument, Branch, Callee, CaseArm, Designator, ForHead, InputCall,
     LabelRange, Loaded, ModuleVariable, Operation, Operator, OutputCall, Parameter, Reader, Shape,
     TypedExpr, TypedModule, TypedProcedure, TypedStatement, UnaryOperator, Variable,

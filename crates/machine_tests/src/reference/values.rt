@@ -5,7 +5,7 @@ use super::trees::{
     read, two, unary, unit, with,
 };
 use super::{AT_OUTPUT, ENDED, wrong_alone};
-use ob_mean::whole::{Loaded, Operator, Relation, UnaryOperator};
+use ob_mean::{Loaded, Operator, Relation, UnaryOperator};
 use std::alloc::{AllocError, Global};
 
 /// x := -7; Out.Int(x DIV 2, 0); Out.Char(" "); Out.Int(x MOD 2, 0); Out.Char(" "); Out.Int(-(7 DIV 2), 0); Out.Ln

@@ -6,30 +6,30 @@ use Rattle.ob_inout.specs.declared.answer.Answer.{Answer}
 use Rattle.ob_inout.specs.declared.answer.Answer.TheVariants as answer
 use Rattle.ob_inout.specs.Reading.{Line as InputLine, Input, Reading, read_string, read_name}
 use Rattle.ob_inout.specs.Writing.{int_text, char_text, string_text, line_end}
-use Rattle.ob_mean.specs.declared.whole.expression.Callee.{Callee}
-use Rattle.ob_mean.specs.declared.whole.operator.Relation.{Relation}
-use Rattle.ob_mean.specs.declared.whole.outcome.Outcome.{Outcome}
-use Rattle.ob_mean.specs.declared.whole.outcome.Outcome.TheVariants.{Ended, Trapped, Stopped, NeedsLine}
-use Rattle.ob_mean.specs.declared.whole.outcome.TrapKind.{TrapKind}
-use Rattle.ob_mean.specs.declared.whole.outcome.TurnKind.{TurnKind}
-use Rattle.ob_mean.specs.declared.whole.outcome.TurnKind.TheVariants as kind
-use Rattle.ob_mean.specs.whole.Texts.{character, before_zero}
-use Rattle.ob_mean.specs.whole.Arithmetic.{Computed, Gives, Faults, wrap, truth, apply, apply_one, texts_relate}
-use Rattle.ob_mean.specs.whole.Runs.{Supply, supply, choose}
-use Rattle.ob_mean.specs.whole.Input.{mapped}
-use Rattle.ob_mean.specs.whole.Programs.{max_depth}
-use Rattle.ob_code.specs.declared.whole.instr.Root.{Root}
-use Rattle.ob_code.specs.declared.whole.instr.Root.TheVariants.{OfModule, OfImport, OfCall, Named}
-use Rattle.ob_code.specs.declared.whole.instr.Length.{Length}
-use Rattle.ob_code.specs.declared.whole.instr.Length.TheVariants.{Elements, OfName}
-use Rattle.ob_code.specs.declared.whole.instr.Target.{Target}
-use Rattle.ob_code.specs.declared.whole.instr.Target.TheVariants as target
-use Rattle.ob_code.specs.declared.whole.instr.Instr.{Instr}
-use Rattle.ob_code.specs.declared.whole.instr.Instr.TheVariants.{Push, Drop, PushDone, Unary, Operate, Load, Store, LoadAt, StoreAt, AdjustAt, AddOffset, Index, TakeLength, Copy, StoreText, RelateTexts, NamePlace, NameArray, Skip, SkipIfZero, SkipIfWithin, Enter, EnterBack, Trap, Assert, Invoke, OpenInput, CallInput, Read, AskLine, TakeLine, OpenOutput, PutChar, PutText, PutInt, PutLine}
-use Rattle.ob_code.specs.declared.whole.instr.Line.{Line}
-use Rattle.ob_code.specs.declared.whole.instr.Procedure.{Procedure}
-use Rattle.ob_code.specs.declared.whole.instr.Frame.{Frame}
-use Rattle.ob_code.specs.whole.Machine.{Code, Config, Effect, Moves, Turns, Reads, Fails, Finishes, Misses, procedure_in, lines_of, go, on, with_names, object, elements, within, at_cells, overwritten, put, with_buffer, text_cells, characters_at, on_top, on_two, operated, indexed, stored_text, target_of, number_of, found, invoked, returned, found_in, target_object, kept, perform, act, effect, Point, Going, Standing, Lost, take_effect, after, Comes}
+use Rattle.ob_mean.specs.declared.expression.Callee.{Callee}
+use Rattle.ob_mean.specs.declared.operator.Relation.{Relation}
+use Rattle.ob_mean.specs.declared.outcome.Outcome.{Outcome}
+use Rattle.ob_mean.specs.declared.outcome.Outcome.TheVariants.{Ended, Trapped, Stopped, NeedsLine}
+use Rattle.ob_mean.specs.declared.outcome.TrapKind.{TrapKind}
+use Rattle.ob_mean.specs.declared.outcome.TurnKind.{TurnKind}
+use Rattle.ob_mean.specs.declared.outcome.TurnKind.TheVariants as kind
+use Rattle.ob_mean.specs.Texts.{character, before_zero}
+use Rattle.ob_mean.specs.Arithmetic.{Computed, Gives, Faults, wrap, truth, apply, apply_one, texts_relate}
+use Rattle.ob_mean.specs.Runs.{Supply, supply, choose}
+use Rattle.ob_mean.specs.Input.{mapped}
+use Rattle.ob_mean.specs.Programs.{max_depth}
+use Rattle.ob_code.specs.declared.instr.Root.{Root}
+use Rattle.ob_code.specs.declared.instr.Root.TheVariants.{OfModule, OfImport, OfCall, Named}
+use Rattle.ob_code.specs.declared.instr.Length.{Length}
+use Rattle.ob_code.specs.declared.instr.Length.TheVariants.{Elements, OfName}
+use Rattle.ob_code.specs.declared.instr.Target.{Target}
+use Rattle.ob_code.specs.declared.instr.Target.TheVariants as target
+use Rattle.ob_code.specs.declared.instr.Instr.{Instr}
+use Rattle.ob_code.specs.declared.instr.Instr.TheVariants.{Push, Drop, PushDone, Unary, Operate, Load, Store, LoadAt, StoreAt, AdjustAt, AddOffset, Index, TakeLength, Copy, StoreText, RelateTexts, NamePlace, NameArray, Skip, SkipIfZero, SkipIfWithin, Enter, EnterBack, Trap, Assert, Invoke, OpenInput, CallInput, Read, AskLine, TakeLine, OpenOutput, PutChar, PutText, PutInt, PutLine}
+use Rattle.ob_code.specs.declared.instr.Line.{Line}
+use Rattle.ob_code.specs.declared.instr.Procedure.{Procedure}
+use Rattle.ob_code.specs.declared.instr.Frame.{Frame}
+use Rattle.ob_code.specs.Machine.{Code, Config, Effect, Moves, Turns, Reads, Fails, Finishes, Misses, procedure_in, lines_of, go, on, with_names, object, elements, within, at_cells, overwritten, put, with_buffer, text_cells, characters_at, on_top, on_two, operated, indexed, stored_text, target_of, number_of, found, invoked, returned, found_in, target_object, kept, perform, act, effect, Point, Going, Standing, Lost, take_effect, after, Comes}
 use Rattle.ob_code.proofs.machine.Runs.{stays, goes_on, moves, takes_turn, has_no_turn, takes_line, has_no_line, finishes, fails, after-standing, after-lost}
 
 abbrev standing_supply : Point → Supply → Supply

@@ -2,9 +2,9 @@
 use Rattle.std.proofs.Common.{◌≡◌, ℕ, zero, suc, ◌+◌, ◌≤◌, ℤ, List, [], ◌∷◌, ◌++◌, length, take, drop, refl, ap, arith}
 use Rattle.std.specs.Prelude.{slice_index_or}
 use Rattle.std.proofs.lemmas.List.{length-append, length-take-le, length-drop}
-use Rattle.ob_code.specs.declared.whole.instr.Name.{Name}
-use Rattle.ob_code.specs.whole.Machine.{Memory, no_name, cells_at, overwritten, text_cells}
-use Rattle.ob_code.specs.whole.Sound.{AreWithin}
+use Rattle.ob_code.specs.declared.instr.Name.{Name}
+use Rattle.ob_code.specs.Machine.{Memory, no_name, cells_at, overwritten, text_cells}
+use Rattle.ob_code.specs.Sound.{AreWithin}
 
 pub take_take : {A : Type 0} (i j : ℕ) (xs : List A) → i ≤ j → take i (take j xs) ≡ take i xs
 take_take zero j xs le = refl

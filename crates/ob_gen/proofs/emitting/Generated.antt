@@ -2,23 +2,23 @@
 use Rattle.std.proofs.Common.{◌≡◌, ℕ, zero, suc, ◌+◌, ◌<◌, ◌≤◌, arith, length, drop, map, get_or, List, [], ◌∷◌, ◌++◌, Option, Some, None, refl, sym, ap, ◌∙◌, subst, append_assoc, append-nil}
 use Rattle.std.specs.Prelude.{is_some}
 use Rattle.std.proofs.lemmas.List.{drop_more}
-use Rattle.ob_mean.specs.declared.whole.face.Face.{Face}
-use Rattle.ob_mean.specs.declared.whole.shape.Shape.{Shape}
-use Rattle.ob_mean.specs.declared.whole.module.Parameter.{Parameter}
-use Rattle.ob_mean.specs.declared.whole.module.Parameter.TheVariants as parameter
-use Rattle.ob_mean.specs.declared.whole.module.ModuleVariable.{ModuleVariable}
-use Rattle.ob_mean.specs.declared.whole.module.TypedModule.{TypedModule}
-use Rattle.ob_mean.specs.declared.whole.module.TypedProcedure.{TypedProcedure}
-use Rattle.ob_mean.specs.whole.Values.{size, append}
-use Rattle.ob_mean.specs.whole.Texts.{text_row}
-use Rattle.ob_mean.specs.whole.Shapes.{zero_of, zeros, opening_row, opening_value}
-use Rattle.ob_mean.specs.whole.WellFormed.{is_there, names_in, names_of}
-use Rattle.ob_code.specs.declared.whole.instr.Entries.{Entries}
-use Rattle.ob_code.specs.declared.whole.instr.Procedure.{Procedure}
-use Rattle.ob_gen.specs.whole.Code.{parameter_row, parameter_value}
-use Rattle.ob_gen.specs.whole.Correct.{IsCodeOf, AreCompiled, named_count, parameter_count}
-use Rattle.ob_gen.specs.whole.Generated.{valued_count, AreOfFaces, HasRoom, AllHaveRoom}
-use Rattle.ob_gen.specs.whole.Tables.{row_sizes, cells_in}
+use Rattle.ob_mean.specs.declared.face.Face.{Face}
+use Rattle.ob_mean.specs.declared.shape.Shape.{Shape}
+use Rattle.ob_mean.specs.declared.module.Parameter.{Parameter}
+use Rattle.ob_mean.specs.declared.module.Parameter.TheVariants as parameter
+use Rattle.ob_mean.specs.declared.module.ModuleVariable.{ModuleVariable}
+use Rattle.ob_mean.specs.declared.module.TypedModule.{TypedModule}
+use Rattle.ob_mean.specs.declared.module.TypedProcedure.{TypedProcedure}
+use Rattle.ob_mean.specs.Values.{size, append}
+use Rattle.ob_mean.specs.Texts.{text_row}
+use Rattle.ob_mean.specs.Shapes.{zero_of, zeros, opening_row, opening_value}
+use Rattle.ob_mean.specs.WellFormed.{is_there, names_in, names_of}
+use Rattle.ob_code.specs.declared.instr.Entries.{Entries}
+use Rattle.ob_code.specs.declared.instr.Procedure.{Procedure}
+use Rattle.ob_gen.specs.Code.{parameter_row, parameter_value}
+use Rattle.ob_gen.specs.Correct.{IsCodeOf, AreCompiled, named_count, parameter_count}
+use Rattle.ob_gen.specs.Generated.{valued_count, AreOfFaces, HasRoom, AllHaveRoom}
+use Rattle.ob_gen.specs.Tables.{row_sizes, cells_in}
 
 pub text_size : (n : ℕ) (cs : List ℕ) → size (text_row n cs) ≡ n
 text_size zero cs = refl

@@ -1,17 +1,17 @@
 -- What tables say of names.
 use Rattle.std.proofs.Common.{◌≡◌, ℕ, zero, suc, ◌+◌, ◌-◌, ◌*◌, ◌<◌, ◌≤◌, min, max, arith, length, get_or, List, [], ◌∷◌, map, refl, sym, ap, ◌∙◌, Some}
 use Rattle.std.specs.Prelude.{slice_get}
-use Rattle.ob_mean.specs.declared.whole.face.Face.{Face}
-use Rattle.ob_mean.specs.declared.whole.module.Parameter.{Parameter}
-use Rattle.ob_mean.specs.declared.whole.shape.Shape.{Shape, Row_of-Shape, end_of-Shape, more_of-Shape, items-the_row-Shape, items_hidden-the_row-Shape-1}
-use Rattle.ob_mean.specs.declared.whole.shape.Shape.TheVariants.{Basic, Array, Record, Record'}
-use Rattle.ob_mean.specs.whole.Values.{Value, Cell, Named, Open, Nothing, Beside, row, size, before, item, count}
-use Rattle.ob_mean.specs.whole.Shapes.{zero_of, zeros, at_least_one}
-use Rattle.ob_mean.specs.whole.WellFormed.{Of, elements_in, own_object, value_object, shape_object, element_shape, field_shape, field_at}
-use Rattle.ob_gen.specs.whole.Code.{zero_in, extent_at, face_row, named_one, named_before}
-use Rattle.ob_gen.specs.whole.Tables.{extent_in, row_sizes}
-use Rattle.ob_gen.specs.whole.Known.{face_sizes, object_seen}
-use Rattle.ob_gen.specs.declared.whole.known.Object.{Object as Seen}
+use Rattle.ob_mean.specs.declared.face.Face.{Face}
+use Rattle.ob_mean.specs.declared.module.Parameter.{Parameter}
+use Rattle.ob_mean.specs.declared.shape.Shape.{Shape, Row_of-Shape, end_of-Shape, more_of-Shape, items-the_row-Shape, items_hidden-the_row-Shape-1}
+use Rattle.ob_mean.specs.declared.shape.Shape.TheVariants.{Basic, Array, Record, Record'}
+use Rattle.ob_mean.specs.Values.{Value, Cell, Named, Open, Nothing, Beside, row, size, before, item, count}
+use Rattle.ob_mean.specs.Shapes.{zero_of, zeros, at_least_one}
+use Rattle.ob_mean.specs.WellFormed.{Of, elements_in, own_object, value_object, shape_object, element_shape, field_shape, field_at}
+use Rattle.ob_gen.specs.Code.{zero_in, extent_at, face_row, named_one, named_before}
+use Rattle.ob_gen.specs.Tables.{extent_in, row_sizes}
+use Rattle.ob_gen.specs.Known.{face_sizes, object_seen}
+use Rattle.ob_gen.specs.declared.known.Object.{Object as Seen}
 use Rattle.ob_gen.proofs.emitting.Tables.{array_zero, record_zero, array_size, array_before}
 
 extent_from : (a : ℕ) (r : Value) (x : ℕ) → extent_in a (row_sizes r) x ≡ record { from = a + before r x; cells = size (item r x) }
@@ -56,7 +56,7 @@ own_first (p ∷ ps) shapes (suc x) d lt = own_first ps shapes x d (omega (arith
 -- ---- shapes
 
 pub array_element : (n : ℕ) (element : Shape) → element_shape (Array n element) ≡ Some element
-unfolding Rattle.ob_mean.specs.declared.whole.shape.Shape.TheBlock.hidden-the_row-Shape-0 denote.Hole.Carrier.hidden
+unfolding Rattle.ob_mean.specs.declared.shape.Shape.TheBlock.hidden-the_row-Shape-0 denote.Hole.Carrier.hidden
 array_element n element = refl
 
 row_field : (k : _) (fields : Row_of-Shape k) (i : ℕ) → field_at fields i ≡ shape_object (slice_get (items-the_row-Shape k fields) i)

@@ -4,12 +4,12 @@ use Rattle.std.specs.Prelude.{slice_set, All}
 use Rattle.std.proofs.lemmas.List.{drop_more}
 use Rattle.std.proofs.lemmas.List.Elements.{All-cons}
 use Rattle.std.proofs.Math.Seq.{set-append_seam}
-use Rattle.ob_mean.specs.declared.whole.expression.TypedExpr.{TypedExpr}
-use Rattle.ob_mean.specs.whole.WellFormed.{Names}
-use Rattle.ob_code.specs.declared.whole.instr.Instr.TheVariants as instr
-use Rattle.ob_code.specs.declared.whole.instr.Line.{Line}
-use Rattle.ob_gen.specs.whole.Code.{line, or_code, expr_code}
-use Rattle.ob_gen.specs.whole.Emitted.{every_list, either_list, leading, holed, holes, filled, sides, closed, side}
+use Rattle.ob_mean.specs.declared.expression.TypedExpr.{TypedExpr}
+use Rattle.ob_mean.specs.WellFormed.{Names}
+use Rattle.ob_code.specs.declared.instr.Instr.TheVariants as instr
+use Rattle.ob_code.specs.declared.instr.Line.{Line}
+use Rattle.ob_gen.specs.Code.{line, or_code, expr_code}
+use Rattle.ob_gen.specs.Emitted.{every_list, either_list, leading, holed, holes, filled, sides, closed, side}
 
 -- one piece more
 pub grown : (c c' p q b : List Line) → c' ≡ c ++ p → c ++ (p ++ q) ≡ b → c' ++ q ≡ b

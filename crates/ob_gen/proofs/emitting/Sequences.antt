@@ -3,23 +3,23 @@ use Rattle.std.proofs.Common.{◌≡◌, ℕ, suc, ◌+◌, ◌-◌, ◌≤◌, 
 use Rattle.std.specs.Prelude.{slice_set, All}
 use Rattle.std.proofs.Math.Seq.{set-append_seam}
 use Rattle.std.proofs.lemmas.List.Elements.{All-cons}
-use Rattle.ob_mean.specs.declared.whole.expression.TypedExpr.{TypedExpr}
-use Rattle.ob_mean.specs.declared.whole.outcome.TrapKind.TheVariants as trap
-use Rattle.ob_mean.specs.declared.whole.operator.UnaryOperator.TheVariants.{Not}
-use Rattle.ob_mean.specs.declared.whole.statement.LabelRange.{LabelRange}
-use Rattle.ob_mean.specs.declared.whole.statement.Branch.{Branch}
-use Rattle.ob_mean.specs.declared.whole.statement.ForHead.{ForHead}
-use Rattle.ob_mean.specs.declared.whole.statement.CaseArm.{CaseArm}
-use Rattle.ob_mean.specs.declared.whole.statement.TypedStatement.{TypedStatement, Row_of-TypedStatement, end_of-TypedStatement, more_of-TypedStatement}
-use Rattle.ob_mean.specs.declared.whole.statement.TypedStatement.TheVariants.{If, If', Case, Case', While, While', Repeat, Repeat', For, For'}
-use Rattle.ob_mean.specs.declared.whole.statement.TypedStatement.TheBlock as block
-use Rattle.ob_mean.specs.declared.whole.statement.TypedStatement.TheBlock.{Row_of-Branch, end_of-Branch, more_of-Branch, Row_of-CaseArm, end_of-CaseArm, more_of-CaseArm, items-the_row-TypedStatement, items-the_row-Branch, items-the_row-CaseArm}
-use Rattle.ob_mean.specs.whole.WellFormed.{Names}
-use Rattle.ob_code.specs.declared.whole.instr.Instr.TheVariants as instr
-use Rattle.ob_code.specs.declared.whole.instr.Line.{Line}
-use Rattle.ob_code.specs.declared.whole.instr.Root.{Root}
-use Rattle.ob_gen.specs.whole.Code.{line, expr_code, stat_code, stats_code, branches, arms_code, list_code, first_code, bodies_code, guards_code, loop_code, repeat_code, for_code, for_guard, for_step, root_of, labels_code, arm_code}
-use Rattle.ob_gen.specs.whole.Emitted.{leading, starts, guarded_list, branch_piece, body_piece, arm_piece, arms_list, guards_to}
+use Rattle.ob_mean.specs.declared.expression.TypedExpr.{TypedExpr}
+use Rattle.ob_mean.specs.declared.outcome.TrapKind.TheVariants as trap
+use Rattle.ob_mean.specs.declared.operator.UnaryOperator.TheVariants.{Not}
+use Rattle.ob_mean.specs.declared.statement.LabelRange.{LabelRange}
+use Rattle.ob_mean.specs.declared.statement.Branch.{Branch}
+use Rattle.ob_mean.specs.declared.statement.ForHead.{ForHead}
+use Rattle.ob_mean.specs.declared.statement.CaseArm.{CaseArm}
+use Rattle.ob_mean.specs.declared.statement.TypedStatement.{TypedStatement, Row_of-TypedStatement, end_of-TypedStatement, more_of-TypedStatement}
+use Rattle.ob_mean.specs.declared.statement.TypedStatement.TheVariants.{If, If', Case, Case', While, While', Repeat, Repeat', For, For'}
+use Rattle.ob_mean.specs.declared.statement.TypedStatement.TheBlock as block
+use Rattle.ob_mean.specs.declared.statement.TypedStatement.TheBlock.{Row_of-Branch, end_of-Branch, more_of-Branch, Row_of-CaseArm, end_of-CaseArm, more_of-CaseArm, items-the_row-TypedStatement, items-the_row-Branch, items-the_row-CaseArm}
+use Rattle.ob_mean.specs.WellFormed.{Names}
+use Rattle.ob_code.specs.declared.instr.Instr.TheVariants as instr
+use Rattle.ob_code.specs.declared.instr.Line.{Line}
+use Rattle.ob_code.specs.declared.instr.Root.{Root}
+use Rattle.ob_gen.specs.Code.{line, expr_code, stat_code, stats_code, branches, arms_code, list_code, first_code, bodies_code, guards_code, loop_code, repeat_code, for_code, for_guard, for_step, root_of, labels_code, arm_code}
+use Rattle.ob_gen.specs.Emitted.{leading, starts, guarded_list, branch_piece, body_piece, arm_piece, arms_list, guards_to}
 
 row_code : (names : Names) (k : _) (row : Row_of-TypedStatement k) → stats_code names row ≡ list_code names (items-the_row-TypedStatement k row)
 row_code names k end_of-TypedStatement = refl

@@ -1,26 +1,26 @@
 -- The code of a tree, by its parts and its lists.
 use Rattle.std.proofs.Common.{◌≡◌, ℕ, ◌+◌, List, [], ◌∷◌, ◌++◌, refl, sym, ap, ◌∙◌, Option}
-use Rattle.ob_mean.specs.declared.whole.operator.UnaryOperator.{UnaryOperator}
-use Rattle.ob_mean.specs.declared.whole.expression.TypedExpr.{TypedExpr, Row_of-TypedExpr, end_of-TypedExpr, more_of-TypedExpr}
-use Rattle.ob_mean.specs.declared.whole.expression.TypedExpr.TheVariants.{Unary, Chain, Chain', Every, Every', Either, Either', Function, Function'}
-use Rattle.ob_mean.specs.declared.whole.expression.Designator.{Designator}
-use Rattle.ob_mean.specs.declared.whole.expression.Designator.TheVariants as designator
-use Rattle.ob_mean.specs.declared.whole.expression.Operation.{Operation}
-use Rattle.ob_mean.specs.declared.whole.expression.Argument.{Argument}
-use Rattle.ob_mean.specs.declared.whole.expression.Callee.{Callee}
-use Rattle.ob_mean.specs.declared.whole.expression.Argument.TheBlock.{Row_of-Argument, end_of-Argument, more_of-Argument, items-the_row-Argument, Row_of-Operation, end_of-Operation, more_of-Operation, items-the_row-TypedExpr, items-the_row-Operation, items_hidden-the_row-Operation-2, items_hidden-the_row-TypedExpr-3, items_hidden-the_row-Argument-4}
-use Rattle.ob_mean.specs.whole.Values.{before, size}
-use Rattle.ob_mean.specs.whole.WellFormed.{Object, Names, object_of, shape_object, elements_in, field_in}
-use Rattle.ob_code.specs.declared.whole.instr.Instr.TheVariants as instr
-use Rattle.ob_code.specs.declared.whole.instr.Line.{Line}
-use Rattle.ob_code.specs.declared.whole.instr.Length.{Length}
-use Rattle.ob_code.specs.declared.whole.instr.Root.{Root}
-use Rattle.ob_gen.specs.whole.Code.{line, and_code, or_code, expr_code, read_code, offset_code, operations_code, every_code, either_code, argument_code, arguments_code, passed_code, value_one, name_one, row_values, row_names, list_values, list_names, root_in, length_of, length_in, element_cells, zero_in, zero_element}
-use Rattle.ob_gen.specs.whole.Emitted.{operations_list, every_list, either_list}
+use Rattle.ob_mean.specs.declared.operator.UnaryOperator.{UnaryOperator}
+use Rattle.ob_mean.specs.declared.expression.TypedExpr.{TypedExpr, Row_of-TypedExpr, end_of-TypedExpr, more_of-TypedExpr}
+use Rattle.ob_mean.specs.declared.expression.TypedExpr.TheVariants.{Unary, Chain, Chain', Every, Every', Either, Either', Function, Function'}
+use Rattle.ob_mean.specs.declared.expression.Designator.{Designator}
+use Rattle.ob_mean.specs.declared.expression.Designator.TheVariants as designator
+use Rattle.ob_mean.specs.declared.expression.Operation.{Operation}
+use Rattle.ob_mean.specs.declared.expression.Argument.{Argument}
+use Rattle.ob_mean.specs.declared.expression.Callee.{Callee}
+use Rattle.ob_mean.specs.declared.expression.Argument.TheBlock.{Row_of-Argument, end_of-Argument, more_of-Argument, items-the_row-Argument, Row_of-Operation, end_of-Operation, more_of-Operation, items-the_row-TypedExpr, items-the_row-Operation, items_hidden-the_row-Operation-2, items_hidden-the_row-TypedExpr-3, items_hidden-the_row-Argument-4}
+use Rattle.ob_mean.specs.Values.{before, size}
+use Rattle.ob_mean.specs.WellFormed.{Object, Names, object_of, shape_object, elements_in, field_in}
+use Rattle.ob_code.specs.declared.instr.Instr.TheVariants as instr
+use Rattle.ob_code.specs.declared.instr.Line.{Line}
+use Rattle.ob_code.specs.declared.instr.Length.{Length}
+use Rattle.ob_code.specs.declared.instr.Root.{Root}
+use Rattle.ob_gen.specs.Code.{line, and_code, or_code, expr_code, read_code, offset_code, operations_code, every_code, either_code, argument_code, arguments_code, passed_code, value_one, name_one, row_values, row_names, list_values, list_names, root_in, length_of, length_in, element_cells, zero_in, zero_element}
+use Rattle.ob_gen.specs.Emitted.{operations_list, every_list, either_list}
 use Rattle.ob_gen.proofs.emitting.Lists.{one_more, two_more}
 
 pub unary_code : (names : Names) (h k : ℕ) (op : UnaryOperator) (l : ℕ) (a : TypedExpr) → expr_code names h k (Unary op l a) ≡ expr_code names h k a ++ line (h + 1) k (instr.Unary op l) ∷ []
-unfolding Rattle.ob_mean.specs.declared.whole.expression.Argument.TheBlock.hidden-the_row-TypedExpr-1 denote.Hole.Carrier.hidden
+unfolding Rattle.ob_mean.specs.declared.expression.Argument.TheBlock.hidden-the_row-TypedExpr-1 denote.Hole.Carrier.hidden
 unary_code names h k op l a = refl
 
 row_operations : (names : Names) (h k : ℕ) (n : _) (row : Row_of-Operation n) → operations_code names h k row ≡ operations_list names h k (items-the_row-Operation n row)
@@ -62,7 +62,7 @@ arguments_in (Function' f l k args) = (_, args)
 arguments_in _ = (_, end_of-Argument)
 
 pub chain_code : (names : Names) (h k : ℕ) (a : TypedExpr) (os : List Operation) → expr_code names h k (Chain a os) ≡ expr_code names h k a ++ operations_list names h k os
-unfolding Rattle.ob_mean.specs.declared.whole.expression.Argument.TheBlock.hidden-the_row-TypedExpr-1 denote.Hole.Carrier.hidden
+unfolding Rattle.ob_mean.specs.declared.expression.Argument.TheBlock.hidden-the_row-TypedExpr-1 denote.Hole.Carrier.hidden
 chain_code names h k a os =
     ap (λ x. expr_code names h k a ++ x)
     (row_operations names h k (operations_in (Chain a os)).0 (operations_in (Chain a os)).1 ∙ ap (operations_list names h k) (items_hidden-the_row-Operation-2 os))
@@ -86,35 +86,35 @@ function_code names h k f l args =
 -- ---- designators
 
 pub element_offset : (names : Names) (h k : ℕ) (d : Designator) (l : ℕ) (e : TypedExpr) → offset_code names h k (designator.Element d l e) ≡ offset_code names h k d ++ (expr_code names (h + 1) k e ++ line (h + 2) k (instr.Index (length_of names d) (element_cells names d) l) ∷ [])
-unfolding Rattle.ob_mean.specs.declared.whole.expression.Argument.TheBlock.hidden-the_row-TypedExpr-1 Rattle.ob_mean.specs.declared.whole.expression.Argument.TheBlock.hidden-the_row-Designator-0 denote.Hole.Carrier.hidden
+unfolding Rattle.ob_mean.specs.declared.expression.Argument.TheBlock.hidden-the_row-TypedExpr-1 Rattle.ob_mean.specs.declared.expression.Argument.TheBlock.hidden-the_row-Designator-0 denote.Hole.Carrier.hidden
 element_offset names h k d l e = refl
 
 pub field_offset : (names : Names) (h k : ℕ) (d : Designator) (i : ℕ) → offset_code names h k (designator.Field d i) ≡ offset_code names h k d ++ line (h + 1) k (instr.AddOffset (before (zero_in (object_of names d)) i)) ∷ []
-unfolding Rattle.ob_mean.specs.declared.whole.expression.Argument.TheBlock.hidden-the_row-Designator-0 denote.Hole.Carrier.hidden
+unfolding Rattle.ob_mean.specs.declared.expression.Argument.TheBlock.hidden-the_row-Designator-0 denote.Hole.Carrier.hidden
 field_offset names h k d i = refl
 
 pub element_root : (names : Names) (d : Designator) (l : ℕ) (e : TypedExpr) → root_in names (designator.Element d l e) ≡ root_in names d
-unfolding Rattle.ob_mean.specs.declared.whole.expression.Argument.TheBlock.hidden-the_row-Designator-0 denote.Hole.Carrier.hidden
+unfolding Rattle.ob_mean.specs.declared.expression.Argument.TheBlock.hidden-the_row-Designator-0 denote.Hole.Carrier.hidden
 element_root names d l e = refl
 
 pub field_root : (names : Names) (d : Designator) (i : ℕ) → root_in names (designator.Field d i) ≡ root_in names d
-unfolding Rattle.ob_mean.specs.declared.whole.expression.Argument.TheBlock.hidden-the_row-Designator-0 denote.Hole.Carrier.hidden
+unfolding Rattle.ob_mean.specs.declared.expression.Argument.TheBlock.hidden-the_row-Designator-0 denote.Hole.Carrier.hidden
 field_root names d i = refl
 
 pub element_object : (names : Names) (d : Designator) (l : ℕ) (e : TypedExpr) → object_of names (designator.Element d l e) ≡ shape_object (elements_in (object_of names d))
-unfolding Rattle.ob_mean.specs.declared.whole.expression.Argument.TheBlock.hidden-the_row-Designator-0 denote.Hole.Carrier.hidden
+unfolding Rattle.ob_mean.specs.declared.expression.Argument.TheBlock.hidden-the_row-Designator-0 denote.Hole.Carrier.hidden
 element_object names d l e = refl
 
 pub field_object : (names : Names) (d : Designator) (i : ℕ) → object_of names (designator.Field d i) ≡ field_in (object_of names d) i
-unfolding Rattle.ob_mean.specs.declared.whole.expression.Argument.TheBlock.hidden-the_row-Designator-0 denote.Hole.Carrier.hidden
+unfolding Rattle.ob_mean.specs.declared.expression.Argument.TheBlock.hidden-the_row-Designator-0 denote.Hole.Carrier.hidden
 field_object names d i = refl
 
 pub element_read : (names : Names) (h k : ℕ) (d : Designator) (l : ℕ) (e : TypedExpr) (off : List Line) → read_code names h k (designator.Element d l e) off ≡ off ++ line (h + 1) k (instr.LoadAt (root_in names (designator.Element d l e))) ∷ []
-unfolding Rattle.ob_mean.specs.declared.whole.expression.Argument.TheBlock.hidden-the_row-Designator-0 denote.Hole.Carrier.hidden
+unfolding Rattle.ob_mean.specs.declared.expression.Argument.TheBlock.hidden-the_row-Designator-0 denote.Hole.Carrier.hidden
 element_read names h k d l e off = refl
 
 pub field_read : (names : Names) (h k : ℕ) (d : Designator) (i : ℕ) (off : List Line) → read_code names h k (designator.Field d i) off ≡ off ++ line (h + 1) k (instr.LoadAt (root_in names (designator.Field d i))) ∷ []
-unfolding Rattle.ob_mean.specs.declared.whole.expression.Argument.TheBlock.hidden-the_row-Designator-0 denote.Hole.Carrier.hidden
+unfolding Rattle.ob_mean.specs.declared.expression.Argument.TheBlock.hidden-the_row-Designator-0 denote.Hole.Carrier.hidden
 field_read names h k d i off = refl
 
 -- ---- what was emitted

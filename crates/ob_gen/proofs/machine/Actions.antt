@@ -5,39 +5,39 @@ use Rattle.ob_inout.specs.declared.answer.Answer.{Answer}
 use Rattle.ob_inout.specs.declared.answer.Answer.TheVariants as answer
 use Rattle.ob_inout.specs.Reading.{Line as InputLine, Input, Reading, opened, given, read_char, read_int, read_string, read_name}
 use Rattle.ob_inout.specs.Writing.{int_text, char_text, string_text, line_end}
-use Rattle.ob_mean.specs.declared.whole.expression.Variable.{Variable}
-use Rattle.ob_mean.specs.declared.whole.expression.TypedExpr.{TypedExpr}
-use Rattle.ob_mean.specs.declared.whole.expression.Designator.{Designator}
-use Rattle.ob_mean.specs.declared.whole.expression.Designator.TheVariants as designator
-use Rattle.ob_mean.specs.declared.whole.expression.Argument.{Argument}
-use Rattle.ob_mean.specs.declared.whole.module.Parameter.{Parameter}
-use Rattle.ob_mean.specs.declared.whole.outcome.Outcome.TheVariants.{Stopped, NeedsLine}
-use Rattle.ob_mean.specs.declared.whole.outcome.TrapKind.TheVariants as trap
-use Rattle.ob_mean.specs.declared.whole.outcome.TurnKind.{TurnKind}
-use Rattle.ob_mean.specs.declared.whole.outcome.TurnKind.TheVariants as kind
-use Rattle.ob_mean.specs.declared.whole.shape.Shape.{Shape}
-use Rattle.ob_mean.specs.declared.whole.shape.Shape.TheVariants.{Basic}
-use Rattle.ob_mean.specs.declared.whole.statement.Action.TheVariants as action
-use Rattle.ob_mean.specs.declared.whole.statement.Adjustment.{Adjustment}
-use Rattle.ob_mean.specs.declared.whole.statement.InputCall.{InputCall}
-use Rattle.ob_mean.specs.declared.whole.statement.InputCall.TheVariants as incoming
-use Rattle.ob_mean.specs.declared.whole.statement.OutputCall.{OutputCall}
-use Rattle.ob_mean.specs.declared.whole.statement.OutputCall.TheVariants as outgoing
-use Rattle.ob_mean.specs.declared.whole.statement.Reader.{Reader}
-use Rattle.ob_mean.specs.declared.whole.statement.Reader.TheVariants as reader
-use Rattle.ob_mean.specs.whole.Values.{Place, Value, Cell, Nothing, count, size, get, number, offset, shape, image, row}
-use Rattle.ob_mean.specs.whole.Shapes.{zero_of}
-use Rattle.ob_mean.specs.whole.Texts.{character, characters, text_row}
-use Rattle.ob_mean.specs.whole.Runs.{World, Supply, Run, Goes, Stands, Done, done, and_then, supply, turn, choose, stored, write, with_input}
-use Rattle.ob_mean.specs.whole.Input.{mapped_answer, mapped, finds, answered, reading, kept}
-use Rattle.ob_mean.specs.whole.Expressions.{Scope, traps, passed, value_of, place_of, argument_of}
-use Rattle.ob_mean.specs.whole.Statements.{text_stored, adjusted, input_meaning, output_meaning, action_meaning}
-use Rattle.ob_mean.specs.whole.WellFormed.{Object, Of, Names, variable_object, object_of, elements_in, ListPassed, IsText, IsRead, InputFits, OutputFits, ExprFits, IndexesFit}
-use Rattle.ob_code.specs.declared.whole.instr.Instr.TheVariants as instr
-use Rattle.ob_code.specs.declared.whole.instr.Line.{Line}
-use Rattle.ob_code.specs.declared.whole.instr.Name.{Name}
-use Rattle.ob_code.specs.whole.Machine.{Code, Config, Memory, Effect, Moves, Turns, Fails, Point, Going, Standing, picture, object, elements, within, at_cells, cell, cells_at, overwritten, with_buffer, text_cells, characters_at, stored_text, target_object, found_in, kept as set_from, lines_of, perform, take_effect, Comes}
-use Rattle.ob_gen.specs.whole.Code.{line, root_of, root_in, zero_in, cells_of, length_of, span_of, expr_code, offset_code, argument_code, passed_code, list_values, list_names, value_one, name_one, target_of, input_code, output_code, assign_code}
+use Rattle.ob_mean.specs.declared.expression.Variable.{Variable}
+use Rattle.ob_mean.specs.declared.expression.TypedExpr.{TypedExpr}
+use Rattle.ob_mean.specs.declared.expression.Designator.{Designator}
+use Rattle.ob_mean.specs.declared.expression.Designator.TheVariants as designator
+use Rattle.ob_mean.specs.declared.expression.Argument.{Argument}
+use Rattle.ob_mean.specs.declared.module.Parameter.{Parameter}
+use Rattle.ob_mean.specs.declared.outcome.Outcome.TheVariants.{Stopped, NeedsLine}
+use Rattle.ob_mean.specs.declared.outcome.TrapKind.TheVariants as trap
+use Rattle.ob_mean.specs.declared.outcome.TurnKind.{TurnKind}
+use Rattle.ob_mean.specs.declared.outcome.TurnKind.TheVariants as kind
+use Rattle.ob_mean.specs.declared.shape.Shape.{Shape}
+use Rattle.ob_mean.specs.declared.shape.Shape.TheVariants.{Basic}
+use Rattle.ob_mean.specs.declared.statement.Action.TheVariants as action
+use Rattle.ob_mean.specs.declared.statement.Adjustment.{Adjustment}
+use Rattle.ob_mean.specs.declared.statement.InputCall.{InputCall}
+use Rattle.ob_mean.specs.declared.statement.InputCall.TheVariants as incoming
+use Rattle.ob_mean.specs.declared.statement.OutputCall.{OutputCall}
+use Rattle.ob_mean.specs.declared.statement.OutputCall.TheVariants as outgoing
+use Rattle.ob_mean.specs.declared.statement.Reader.{Reader}
+use Rattle.ob_mean.specs.declared.statement.Reader.TheVariants as reader
+use Rattle.ob_mean.specs.Values.{Place, Value, Cell, Nothing, count, size, get, number, offset, shape, image, row}
+use Rattle.ob_mean.specs.Shapes.{zero_of}
+use Rattle.ob_mean.specs.Texts.{character, characters, text_row}
+use Rattle.ob_mean.specs.Runs.{World, Supply, Run, Goes, Stands, Done, done, and_then, supply, turn, choose, stored, write, with_input}
+use Rattle.ob_mean.specs.Input.{mapped_answer, mapped, finds, answered, reading, kept}
+use Rattle.ob_mean.specs.Expressions.{Scope, traps, passed, value_of, place_of, argument_of}
+use Rattle.ob_mean.specs.Statements.{text_stored, adjusted, input_meaning, output_meaning, action_meaning}
+use Rattle.ob_mean.specs.WellFormed.{Object, Of, Names, variable_object, object_of, elements_in, ListPassed, IsText, IsRead, InputFits, OutputFits, ExprFits, IndexesFit}
+use Rattle.ob_code.specs.declared.instr.Instr.TheVariants as instr
+use Rattle.ob_code.specs.declared.instr.Line.{Line}
+use Rattle.ob_code.specs.declared.instr.Name.{Name}
+use Rattle.ob_code.specs.Machine.{Code, Config, Memory, Effect, Moves, Turns, Fails, Point, Going, Standing, picture, object, elements, within, at_cells, cell, cells_at, overwritten, with_buffer, text_cells, characters_at, stored_text, target_object, found_in, kept as set_from, lines_of, perform, take_effect, Comes}
+use Rattle.ob_gen.specs.Code.{line, root_of, root_in, zero_in, cells_of, length_of, span_of, expr_code, offset_code, argument_code, passed_code, list_values, list_names, value_one, name_one, target_of, input_code, output_code, assign_code}
 use Rattle.ob_code.proofs.machine.Runs.{stays, performs}
 use Rattle.ob_gen.proofs.machine.Reaches.{HasAt, has_front, has_back, Running, conf, here, lines_in, Good, Reaches, AnyNumber, AnyDone, SoMany, ActionRuns, VariablesHold, follows, ties, moved, one_runs, two_runs, Same}
 use Rattle.ob_gen.proofs.machine.Store.{Inside, inside-leads, shape_at, reads, reads_part, writes, keeps_shape, size-shape, length-image}

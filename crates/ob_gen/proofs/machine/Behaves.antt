@@ -1,19 +1,19 @@
 -- The code of a module's body does what the body means.
 use Rattle.std.proofs.Common.{◌≡◌, ℕ, ◌+◌, ◌-◌, List, [], length, Some, None, Bool, true, refl, sym, ap, ◌∙◌, subst, arith, append-nil}
 use Rattle.std.specs.Prelude.{slice_get}
-use Rattle.ob_mean.specs.declared.whole.face.Face.{Face}
-use Rattle.ob_mean.specs.declared.whole.module.TypedModule.{TypedModule}
-use Rattle.ob_mean.specs.whole.Values.{Value, count, shape}
-use Rattle.ob_mean.specs.whole.Runs.{World, Supply, ended}
-use Rattle.ob_mean.specs.whole.Expressions.{Scope}
-use Rattle.ob_mean.specs.whole.Statements.{list_meaning}
-use Rattle.ob_mean.specs.whole.Programs.{Program, opening_store, scope_at, body_in, body_meaning, max_depth}
-use Rattle.ob_mean.specs.whole.WellFormed.{Object, Names, own_object, named_object}
-use Rattle.ob_code.specs.declared.whole.instr.Line.{Line}
-use Rattle.ob_code.specs.declared.whole.instr.Procedure.{Procedure}
-use Rattle.ob_code.specs.whole.Machine.{Code, picture, Going, procedure_in, lines_in as lines_of_procedure, body_number, start}
-use Rattle.ob_gen.specs.whole.Code.{list_code}
-use Rattle.ob_gen.specs.whole.Correct.{IsCodeOf, IsCodeOfProgram, MayBegin, BodyBehaves}
+use Rattle.ob_mean.specs.declared.face.Face.{Face}
+use Rattle.ob_mean.specs.declared.module.TypedModule.{TypedModule}
+use Rattle.ob_mean.specs.Values.{Value, count, shape}
+use Rattle.ob_mean.specs.Runs.{World, Supply, ended}
+use Rattle.ob_mean.specs.Expressions.{Scope}
+use Rattle.ob_mean.specs.Statements.{list_meaning}
+use Rattle.ob_mean.specs.Programs.{Program, opening_store, scope_at, body_in, body_meaning, max_depth}
+use Rattle.ob_mean.specs.WellFormed.{Object, Names, own_object, named_object}
+use Rattle.ob_code.specs.declared.instr.Line.{Line}
+use Rattle.ob_code.specs.declared.instr.Procedure.{Procedure}
+use Rattle.ob_code.specs.Machine.{Code, picture, Going, procedure_in, lines_in as lines_of_procedure, body_number, start}
+use Rattle.ob_gen.specs.Code.{list_code}
+use Rattle.ob_gen.specs.Correct.{IsCodeOf, IsCodeOfProgram, MayBegin, BodyBehaves}
 use Rattle.ob_gen.proofs.machine.Reaches.{HasAt, has_all, here, lines_in, Reaches, AnyDone, moved}
 use Rattle.ob_gen.proofs.machine.Places.{FrameFits}
 use Rattle.ob_gen.proofs.machine.Passing.{CallsRun}

@@ -5,32 +5,32 @@ use Rattle.std.proofs.lemmas.Option.{slice_get_past, get_or_from_slice_get}
 use Rattle.std.proofs.lemmas.Bool.Decides.{nat_tests}
 use Rattle.std.proofs.lemmas.List.{reverse-append, reverse-reverse, length-reverse}
 use Rattle.std.proofs.Math.Seq.{take-append_seam, drop-append_seam}
-use Rattle.ob_mean.specs.declared.whole.expression.Variable.TheVariants as variable
-use Rattle.ob_mean.specs.declared.whole.expression.TypedExpr.{TypedExpr}
-use Rattle.ob_mean.specs.declared.whole.expression.Callee.{Callee}
-use Rattle.ob_mean.specs.declared.whole.outcome.Outcome.TheVariants.{Trapped, Stopped}
-use Rattle.ob_mean.specs.declared.whole.outcome.TrapKind.TheVariants as trap
-use Rattle.ob_mean.specs.declared.whole.outcome.TurnKind.TheVariants as kind
-use Rattle.ob_mean.specs.declared.whole.shape.Shape.{Shape}
-use Rattle.ob_mean.specs.declared.whole.module.Parameter.{Parameter}
-use Rattle.ob_mean.specs.declared.whole.module.Parameter.TheVariants as parameter
-use Rattle.ob_mean.specs.declared.whole.face.Face.{Face}
-use Rattle.ob_mean.specs.declared.whole.face.Heading.{Heading}
+use Rattle.ob_mean.specs.declared.expression.Variable.TheVariants as variable
+use Rattle.ob_mean.specs.declared.expression.TypedExpr.{TypedExpr}
+use Rattle.ob_mean.specs.declared.expression.Callee.{Callee}
+use Rattle.ob_mean.specs.declared.outcome.Outcome.TheVariants.{Trapped, Stopped}
+use Rattle.ob_mean.specs.declared.outcome.TrapKind.TheVariants as trap
+use Rattle.ob_mean.specs.declared.outcome.TurnKind.TheVariants as kind
+use Rattle.ob_mean.specs.declared.shape.Shape.{Shape}
+use Rattle.ob_mean.specs.declared.module.Parameter.{Parameter}
+use Rattle.ob_mean.specs.declared.module.Parameter.TheVariants as parameter
+use Rattle.ob_mean.specs.declared.face.Face.{Face}
+use Rattle.ob_mean.specs.declared.face.Heading.{Heading}
 use Rattle.ob_inout.specs.Reading.{Line as InputLine}
-use Rattle.ob_mean.specs.whole.Values.{Place, Whole, Part, Value, Nothing, Beside, count, size, item, before, get, offset, shape, image, append, first}
-use Rattle.ob_mean.specs.whole.Shapes.{zeros}
-use Rattle.ob_mean.specs.whole.Runs.{World, Supply, supply, Goes, turn, with_store}
-use Rattle.ob_mean.specs.whole.Expressions.{Scope, value_of}
-use Rattle.ob_mean.specs.whole.Statements.{list_meaning}
-use Rattle.ob_mean.specs.whole.Programs.{Program, opening_store, home_of, scope_at, result_of, entered, procedure_meaning, found_meaning, call_at, max_depth}
-use Rattle.ob_mean.specs.whole.WellFormed.{Object, Of, OpenOf, Names, is_there, own_object, named_object, ResultFits, cell_limit}
-use Rattle.ob_code.specs.declared.whole.instr.Instr.TheVariants.{Invoke}
-use Rattle.ob_code.specs.declared.whole.instr.Line.{Line}
-use Rattle.ob_code.specs.declared.whole.instr.Name.{Name}
-use Rattle.ob_code.specs.declared.whole.instr.Root.TheVariants as root
-use Rattle.ob_code.specs.whole.Machine.{Code, Config, Point, Going, Standing, no_name, procedure_in as code_procedure_in, number_of, lines_in as lines_of_procedure, invoked, found as enters, entry_cells, act, take_effect, Comes}
-use Rattle.ob_gen.specs.whole.Code.{line, extent_at, parameter_row, own_row, named_before, list_code, result_code}
-use Rattle.ob_gen.specs.whole.Correct.{IsCodeOfProgram}
+use Rattle.ob_mean.specs.Values.{Place, Whole, Part, Value, Nothing, Beside, count, size, item, before, get, offset, shape, image, append, first}
+use Rattle.ob_mean.specs.Shapes.{zeros}
+use Rattle.ob_mean.specs.Runs.{World, Supply, supply, Goes, turn, with_store}
+use Rattle.ob_mean.specs.Expressions.{Scope, value_of}
+use Rattle.ob_mean.specs.Statements.{list_meaning}
+use Rattle.ob_mean.specs.Programs.{Program, opening_store, home_of, scope_at, result_of, entered, procedure_meaning, found_meaning, call_at, max_depth}
+use Rattle.ob_mean.specs.WellFormed.{Object, Of, OpenOf, Names, is_there, own_object, named_object, ResultFits, cell_limit}
+use Rattle.ob_code.specs.declared.instr.Instr.TheVariants.{Invoke}
+use Rattle.ob_code.specs.declared.instr.Line.{Line}
+use Rattle.ob_code.specs.declared.instr.Name.{Name}
+use Rattle.ob_code.specs.declared.instr.Root.TheVariants as root
+use Rattle.ob_code.specs.Machine.{Code, Config, Point, Going, Standing, no_name, procedure_in as code_procedure_in, number_of, lines_in as lines_of_procedure, invoked, found as enters, entry_cells, act, take_effect, Comes}
+use Rattle.ob_gen.specs.Code.{line, extent_at, parameter_row, own_row, named_before, list_code, result_code}
+use Rattle.ob_gen.specs.Correct.{IsCodeOfProgram}
 use Rattle.ob_code.proofs.machine.Runs.{stays, steps_on, performs}
 use Rattle.ob_gen.proofs.machine.Reaches.{HasAt, has_front, has_back, has_all, Running, conf, here, lines_in, Good, Reaches, AnyNumber, AnyDone, SoMany, follows, binds, ties, moved, BeginsWith, Same, Longer}
 use Rattle.ob_gen.proofs.machine.Store.{Inside, IsRow, length-image, count-shape, size-shape, shape-append, shape_at, size-append, image-append, row-append, row-shape, append-assoc, count-append, item-next, before-next, get-front, leads-front, offset-front, grows, shrinks, shrinks-shape, before-within}

@@ -1,18 +1,18 @@
 -- The code of a list of commands does what they mean.
 use Rattle.std.proofs.Common.{◌≡◌, ℕ, suc, ◌+◌, ℤ, List, [], ◌∷◌, ◌++◌, length, Some, Bool, false, refl, sym, ap, ◌∙◌, subst, arith}
 use Rattle.std.specs.Prelude.{slice_get}
-use Rattle.ob_mean.specs.declared.whole.expression.Callee.{Callee}
-use Rattle.ob_mean.specs.declared.whole.expression.Callee.TheVariants as callee
-use Rattle.ob_mean.specs.declared.whole.outcome.TurnKind.TheVariants as kind
-use Rattle.ob_mean.specs.declared.whole.face.Face.{Face}
-use Rattle.ob_mean.specs.declared.whole.face.Heading.{Heading}
-use Rattle.ob_mean.specs.declared.whole.module.TypedProcedure.{TypedProcedure}
-use Rattle.ob_mean.specs.whole.Values.{Value, Nothing, count, shape}
-use Rattle.ob_mean.specs.whole.Runs.{World, Supply, Goes, done, turn}
-use Rattle.ob_mean.specs.whole.Programs.{Program, Command, opening_store, scope_at, procedure_in, procedure_meaning, found_meaning, call_at, in_turn, commands_meaning, max_depth}
-use Rattle.ob_code.specs.whole.Machine.{Code, picture, procedure_in as code_procedure_in, lines_in as lines_of_procedure, body_number, start}
-use Rattle.ob_gen.specs.whole.Correct.{IsCodeOfProgram, MayBegin}
-use Rattle.ob_gen.specs.whole.Commands.{commands_code, LeadsTo, AllLead, IsCodeOfCommands, CommandsBehave}
+use Rattle.ob_mean.specs.declared.expression.Callee.{Callee}
+use Rattle.ob_mean.specs.declared.expression.Callee.TheVariants as callee
+use Rattle.ob_mean.specs.declared.outcome.TurnKind.TheVariants as kind
+use Rattle.ob_mean.specs.declared.face.Face.{Face}
+use Rattle.ob_mean.specs.declared.face.Heading.{Heading}
+use Rattle.ob_mean.specs.declared.module.TypedProcedure.{TypedProcedure}
+use Rattle.ob_mean.specs.Values.{Value, Nothing, count, shape}
+use Rattle.ob_mean.specs.Runs.{World, Supply, Goes, done, turn}
+use Rattle.ob_mean.specs.Programs.{Program, Command, opening_store, scope_at, procedure_in, procedure_meaning, found_meaning, call_at, in_turn, commands_meaning, max_depth}
+use Rattle.ob_code.specs.Machine.{Code, picture, procedure_in as code_procedure_in, lines_in as lines_of_procedure, body_number, start}
+use Rattle.ob_gen.specs.Correct.{IsCodeOfProgram, MayBegin}
+use Rattle.ob_gen.specs.Commands.{commands_code, LeadsTo, AllLead, IsCodeOfCommands, CommandsBehave}
 use Rattle.ob_code.proofs.machine.Runs.{stays}
 use Rattle.ob_gen.proofs.machine.Reaches.{HasAt, has_all, here, lines_in, Good, Reaches, AnyDone, SoMany, ties, moved}
 use Rattle.ob_gen.proofs.machine.Passing.{PassedFit, no_result}

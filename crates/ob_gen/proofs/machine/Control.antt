@@ -4,19 +4,19 @@ use Rattle.std.specs.Prelude.{slice_get, cond, int_le, int_lt, not, ◌&&◌, �
 use Rattle.std.proofs.lemmas.Bool.Decides.{nat_tests}
 use Rattle.std.specs.Ordering.{int_eq}
 use Rattle.ob_inout.specs.Reading.{Line as InputLine}
-use Rattle.ob_mean.specs.declared.whole.outcome.Outcome.TheVariants.{Stopped}
-use Rattle.ob_mean.specs.declared.whole.outcome.TurnKind.TheVariants.{BodyEntry}
-use Rattle.ob_mean.specs.declared.whole.operator.UnaryOperator.TheVariants.{Not}
-use Rattle.ob_mean.specs.declared.whole.statement.LabelRange.{LabelRange}
-use Rattle.ob_mean.specs.whole.Values.{Value}
-use Rattle.ob_mean.specs.whole.Arithmetic.{truth}
-use Rattle.ob_mean.specs.whole.Runs.{World, Supply, supply, Run, Goes, Stands, Done, done, Piece, and_then, turn, choose}
-use Rattle.ob_mean.specs.whole.Control as meant
-use Rattle.ob_mean.specs.whole.Control.{first_of, nothing, looping, repeating, is_labelled}
-use Rattle.ob_code.specs.declared.whole.instr.Instr.TheVariants.{Skip, SkipIfZero, SkipIfWithin, Enter, EnterBack, Unary, Drop}
-use Rattle.ob_code.specs.declared.whole.instr.Line.{Line}
-use Rattle.ob_code.specs.whole.Machine.{Code, Standing, Comes}
-use Rattle.ob_gen.specs.whole.Code.{line, Guarded, first_code, bodies_code, guards_code, loop_code, repeat_code, labels_code, arm_code}
+use Rattle.ob_mean.specs.declared.outcome.Outcome.TheVariants.{Stopped}
+use Rattle.ob_mean.specs.declared.outcome.TurnKind.TheVariants.{BodyEntry}
+use Rattle.ob_mean.specs.declared.operator.UnaryOperator.TheVariants.{Not}
+use Rattle.ob_mean.specs.declared.statement.LabelRange.{LabelRange}
+use Rattle.ob_mean.specs.Values.{Value}
+use Rattle.ob_mean.specs.Arithmetic.{truth}
+use Rattle.ob_mean.specs.Runs.{World, Supply, supply, Run, Goes, Stands, Done, done, Piece, and_then, turn, choose}
+use Rattle.ob_mean.specs.Control as meant
+use Rattle.ob_mean.specs.Control.{first_of, nothing, looping, repeating, is_labelled}
+use Rattle.ob_code.specs.declared.instr.Instr.TheVariants.{Skip, SkipIfZero, SkipIfWithin, Enter, EnterBack, Unary, Drop}
+use Rattle.ob_code.specs.declared.instr.Line.{Line}
+use Rattle.ob_code.specs.Machine.{Code, Standing, Comes}
+use Rattle.ob_gen.specs.Code.{line, Guarded, first_code, bodies_code, guards_code, loop_code, repeat_code, labels_code, arm_code}
 use Rattle.ob_code.proofs.machine.Runs.{stays, goes_on, performs}
 use Rattle.ob_gen.proofs.machine.Reaches.{HasAt, has_front, has_back, Running, conf, here, lines_in, Good, Reaches, AnyNumber, AnyDone, weaken, follows, ties, then_comes, moved, skips, skip_runs, Same}
 

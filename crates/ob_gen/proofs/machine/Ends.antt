@@ -3,14 +3,14 @@ use Rattle.std.proofs.Common.{◌≡◌, ℕ, List, [], ◌∷◌, length, None,
 use Rattle.std.specs.Prelude.{slice_get}
 use Rattle.std.proofs.lemmas.Option.{slice_get_past}
 use Rattle.ob_inout.specs.Reading.{opened}
-use Rattle.ob_mean.specs.declared.whole.outcome.Outcome.{Outcome}
-use Rattle.ob_mean.specs.declared.whole.outcome.Outcome.TheVariants.{Ended}
-use Rattle.ob_mean.specs.whole.Values.{Value, Nothing, shape, image, count, append, first}
-use Rattle.ob_mean.specs.whole.Runs.{World, Supply, Run, Goes, Stands, Done, ended}
-use Rattle.ob_mean.specs.whole.Programs.{Program, opening_store}
-use Rattle.ob_code.specs.declared.whole.instr.Line.{Line}
-use Rattle.ob_code.specs.whole.Machine.{Code, Config, Memory, picture, Point, Going, Standing, Lost, Comes, body_number, returned, act, take_effect}
-use Rattle.ob_gen.specs.whole.Correct.{MayBegin, StaysOf, Follows}
+use Rattle.ob_mean.specs.declared.outcome.Outcome.{Outcome}
+use Rattle.ob_mean.specs.declared.outcome.Outcome.TheVariants.{Ended}
+use Rattle.ob_mean.specs.Values.{Value, Nothing, shape, image, count, append, first}
+use Rattle.ob_mean.specs.Runs.{World, Supply, Run, Goes, Stands, Done, ended}
+use Rattle.ob_mean.specs.Programs.{Program, opening_store}
+use Rattle.ob_code.specs.declared.instr.Line.{Line}
+use Rattle.ob_code.specs.Machine.{Code, Config, Memory, picture, Point, Going, Standing, Lost, Comes, body_number, returned, act, take_effect}
+use Rattle.ob_gen.specs.Correct.{MayBegin, StaysOf, Follows}
 use Rattle.ob_code.proofs.machine.Runs.{goes_on, steps_on, one_end, after-standing, after-lost}
 use Rattle.ob_gen.proofs.machine.Reaches.{Running, conf, here, lines_in, Reaches, AnyDone, BeginsWith, Same, Longer}
 use Rattle.ob_gen.proofs.machine.Store.{IsRow, shape-row, size-shape, append-nothing, shrinks, shrinks-shape}

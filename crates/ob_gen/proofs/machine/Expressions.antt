@@ -1,34 +1,34 @@
 -- The machine follows expressions, designators and arguments.
 use Rattle.std.proofs.Common.{◌≡◌, ℕ, zero, suc, ◌+◌, ◌-◌, ◌*◌, ◌<◌, ◌≤◌, ℤ, pos, negsuc, ◌+ℤ◌, List, [], ◌∷◌, ◌++◌, length, map, Some, None, Bool, true, false, refl, sym, ap, ◌∙◌, subst, arith, append_assoc, length-append, append-nil}
 use Rattle.std.specs.Prelude.{slice_get, nat_lt, cond, if◌then◌else◌}
-use Rattle.ob_mean.specs.declared.whole.expression.Variable.{Variable}
-use Rattle.ob_mean.specs.declared.whole.expression.TypedExpr.{TypedExpr, Row_of-TypedExpr, end_of-TypedExpr, more_of-TypedExpr}
-use Rattle.ob_mean.specs.declared.whole.expression.TypedExpr.TheVariants.{Constant, Read, InputDone, Unary', Chain', Every', Either', Texts, Length, Function'}
-use Rattle.ob_mean.specs.declared.whole.expression.Designator.{Designator, end_of-Designator, more_of-Designator}
-use Rattle.ob_mean.specs.declared.whole.expression.Designator.TheVariants as designator
-use Rattle.ob_mean.specs.declared.whole.expression.Argument.{Argument}
-use Rattle.ob_mean.specs.declared.whole.expression.Argument.TheVariants as argument
-use Rattle.ob_mean.specs.declared.whole.expression.Argument.TheBlock.{Row_of-Argument, end_of-Argument, more_of-Argument, Row_of-Operation, end_of-Operation, more_of-Operation}
-use Rattle.ob_mean.specs.declared.whole.module.Parameter.{Parameter}
-use Rattle.ob_mean.specs.declared.whole.module.Parameter.TheVariants as parameter
-use Rattle.ob_mean.specs.declared.whole.operator.Relation.{Relation}
-use Rattle.ob_mean.specs.declared.whole.outcome.Outcome.TheVariants.{Trapped}
-use Rattle.ob_mean.specs.declared.whole.outcome.TrapKind.{TrapKind}
-use Rattle.ob_mean.specs.declared.whole.outcome.TrapKind.TheVariants as trap
-use Rattle.ob_mean.specs.declared.whole.shape.Shape.{Shape}
-use Rattle.ob_mean.specs.declared.whole.shape.Shape.TheVariants.{Basic}
-use Rattle.ob_mean.specs.whole.Values.{Place, Part, Value, Cell, Named, Open, Nothing, Beside, count, size, item, before, get, number, offset, shape, image, row}
-use Rattle.ob_mean.specs.whole.Shapes.{zero_of}
-use Rattle.ob_mean.specs.whole.Texts.{character, characters, before_zero, text_of}
-use Rattle.ob_mean.specs.whole.Arithmetic.{Computed, Gives, Faults, truth, wrap, apply, apply_one, texts_relate}
-use Rattle.ob_mean.specs.whole.Runs.{World, Supply, Run, Goes, and_then}
-use Rattle.ob_mean.specs.whole.Expressions.{Scope, computed, chained, every, either, passed, index_in, element, value_of, place_of, argument_of, values, arguments, operations}
-use Rattle.ob_mean.specs.whole.WellFormed.{Object, Of, Names, object_of, elements_in, variable_object, ExprFits, ExprsFit, OperationsFit, IndexesFit, IsPassed, RowPassed, cell_limit}
-use Rattle.ob_code.specs.declared.whole.instr.Instr.TheVariants.{Push, PushDone, Unary, Operate, Load, LoadAt, AddOffset, Index, TakeLength, RelateTexts, NamePlace, NameArray, Skip, SkipIfZero, Invoke}
-use Rattle.ob_code.specs.declared.whole.instr.Line.{Line}
-use Rattle.ob_code.specs.declared.whole.instr.Name.{Name}
-use Rattle.ob_code.specs.whole.Machine.{Code, Config, Effect, Moves, Fails, cell, perform, Point, Going, Standing, object, elements, picture, within, at_cells, operated, indexed, with_names, characters_at, take_effect, Comes}
-use Rattle.ob_gen.specs.whole.Code.{line, root_of, root_in, zero_in, zero_element, cells_of, element_cells, length_of, span_of, and_code, or_code, row_values, row_names, value_one, name_one, expr_code, read_code, offset_code, operations_code, every_code, either_code, argument_code, arguments_code}
+use Rattle.ob_mean.specs.declared.expression.Variable.{Variable}
+use Rattle.ob_mean.specs.declared.expression.TypedExpr.{TypedExpr, Row_of-TypedExpr, end_of-TypedExpr, more_of-TypedExpr}
+use Rattle.ob_mean.specs.declared.expression.TypedExpr.TheVariants.{Constant, Read, InputDone, Unary', Chain', Every', Either', Texts, Length, Function'}
+use Rattle.ob_mean.specs.declared.expression.Designator.{Designator, end_of-Designator, more_of-Designator}
+use Rattle.ob_mean.specs.declared.expression.Designator.TheVariants as designator
+use Rattle.ob_mean.specs.declared.expression.Argument.{Argument}
+use Rattle.ob_mean.specs.declared.expression.Argument.TheVariants as argument
+use Rattle.ob_mean.specs.declared.expression.Argument.TheBlock.{Row_of-Argument, end_of-Argument, more_of-Argument, Row_of-Operation, end_of-Operation, more_of-Operation}
+use Rattle.ob_mean.specs.declared.module.Parameter.{Parameter}
+use Rattle.ob_mean.specs.declared.module.Parameter.TheVariants as parameter
+use Rattle.ob_mean.specs.declared.operator.Relation.{Relation}
+use Rattle.ob_mean.specs.declared.outcome.Outcome.TheVariants.{Trapped}
+use Rattle.ob_mean.specs.declared.outcome.TrapKind.{TrapKind}
+use Rattle.ob_mean.specs.declared.outcome.TrapKind.TheVariants as trap
+use Rattle.ob_mean.specs.declared.shape.Shape.{Shape}
+use Rattle.ob_mean.specs.declared.shape.Shape.TheVariants.{Basic}
+use Rattle.ob_mean.specs.Values.{Place, Part, Value, Cell, Named, Open, Nothing, Beside, count, size, item, before, get, number, offset, shape, image, row}
+use Rattle.ob_mean.specs.Shapes.{zero_of}
+use Rattle.ob_mean.specs.Texts.{character, characters, before_zero, text_of}
+use Rattle.ob_mean.specs.Arithmetic.{Computed, Gives, Faults, truth, wrap, apply, apply_one, texts_relate}
+use Rattle.ob_mean.specs.Runs.{World, Supply, Run, Goes, and_then}
+use Rattle.ob_mean.specs.Expressions.{Scope, computed, chained, every, either, passed, index_in, element, value_of, place_of, argument_of, values, arguments, operations}
+use Rattle.ob_mean.specs.WellFormed.{Object, Of, Names, object_of, elements_in, variable_object, ExprFits, ExprsFit, OperationsFit, IndexesFit, IsPassed, RowPassed, cell_limit}
+use Rattle.ob_code.specs.declared.instr.Instr.TheVariants.{Push, PushDone, Unary, Operate, Load, LoadAt, AddOffset, Index, TakeLength, RelateTexts, NamePlace, NameArray, Skip, SkipIfZero, Invoke}
+use Rattle.ob_code.specs.declared.instr.Line.{Line}
+use Rattle.ob_code.specs.declared.instr.Name.{Name}
+use Rattle.ob_code.specs.Machine.{Code, Config, Effect, Moves, Fails, cell, perform, Point, Going, Standing, object, elements, picture, within, at_cells, operated, indexed, with_names, characters_at, take_effect, Comes}
+use Rattle.ob_gen.specs.Code.{line, root_of, root_in, zero_in, zero_element, cells_of, element_cells, length_of, span_of, and_code, or_code, row_values, row_names, value_one, name_one, expr_code, read_code, offset_code, operations_code, every_code, either_code, argument_code, arguments_code}
 use Rattle.ob_code.proofs.machine.Runs.{stays, goes_on, performs}
 use Rattle.ob_gen.proofs.machine.Reaches.{HasAt, has_front, has_back, Running, conf, here, lines_in, Halts, Good, Reaches, AnyNumber, SoMany, ties, then_comes, moved, skips, skip_runs, one_runs, two_runs, Same}
 use Rattle.ob_gen.proofs.machine.Store.{inside-leads, count-shape, shape_at, reads, reads_part, item-row, before-row, size-row, before-within}

@@ -2,53 +2,53 @@
 use Rattle.std.proofs.Common.{◌≡◌, ℕ, zero, suc, ◌+◌, ◌-◌, ◌<◌, ◌≤◌, pos, List, [], ◌∷◌, ◌++◌, length, Option, Some, None, refl, sym, ap, ◌∙◌, subst, arith}
 use Rattle.std.specs.Prelude.{slice_get, option_map}
 use Rattle.std.proofs.lemmas.Option.{slice_get-map}
-use Rattle.ob_mean.specs.declared.whole.expression.Variable.{Variable}
-use Rattle.ob_mean.specs.declared.whole.expression.Variable.TheVariants as variable
-use Rattle.ob_mean.specs.declared.whole.expression.Callee.{Callee}
-use Rattle.ob_mean.specs.declared.whole.expression.Callee.TheVariants as callee
-use Rattle.ob_mean.specs.declared.whole.expression.TypedExpr.{TypedExpr, Row_of-TypedExpr, end_of-TypedExpr, more_of-TypedExpr}
-use Rattle.ob_mean.specs.declared.whole.expression.TypedExpr.TheVariants as expr
-use Rattle.ob_mean.specs.declared.whole.expression.Designator.{Designator, end_of-Designator, more_of-Designator}
-use Rattle.ob_mean.specs.declared.whole.expression.Designator.TheVariants as designator
-use Rattle.ob_mean.specs.declared.whole.expression.Argument.{Argument}
-use Rattle.ob_mean.specs.declared.whole.expression.Argument.TheVariants as argument
-use Rattle.ob_mean.specs.declared.whole.expression.Argument.TheBlock.{Row_of-Argument, end_of-Argument, more_of-Argument, Row_of-Operation, end_of-Operation, more_of-Operation}
-use Rattle.ob_mean.specs.declared.whole.operator.Operator.TheVariants.{Plus, Compare}
-use Rattle.ob_mean.specs.declared.whole.shape.Shape.{Shape}
-use Rattle.ob_mean.specs.declared.whole.shape.Shape.TheVariants.{Basic}
-use Rattle.ob_mean.specs.declared.whole.face.Face.{Face}
-use Rattle.ob_mean.specs.declared.whole.face.Heading.{Heading}
-use Rattle.ob_mean.specs.declared.whole.module.Parameter.{Parameter}
-use Rattle.ob_mean.specs.declared.whole.module.Parameter.TheVariants as parameter
-use Rattle.ob_mean.specs.declared.whole.module.TypedProcedure.{TypedProcedure}
-use Rattle.ob_mean.specs.declared.whole.module.TypedModule.{TypedModule}
-use Rattle.ob_mean.specs.declared.whole.statement.Action.{Action}
-use Rattle.ob_mean.specs.declared.whole.statement.Action.TheVariants as action
-use Rattle.ob_mean.specs.declared.whole.statement.Reader.{Reader}
-use Rattle.ob_mean.specs.declared.whole.statement.Reader.TheVariants as reader
-use Rattle.ob_mean.specs.declared.whole.statement.InputCall.{InputCall}
-use Rattle.ob_mean.specs.declared.whole.statement.InputCall.TheVariants as incoming
-use Rattle.ob_mean.specs.declared.whole.statement.OutputCall.{OutputCall}
-use Rattle.ob_mean.specs.declared.whole.statement.OutputCall.TheVariants as outgoing
-use Rattle.ob_mean.specs.declared.whole.statement.ForHead.{ForHead}
-use Rattle.ob_mean.specs.declared.whole.statement.TypedStatement.{TypedStatement, Row_of-TypedStatement, end_of-TypedStatement, more_of-TypedStatement}
-use Rattle.ob_mean.specs.declared.whole.statement.TypedStatement.TheBlock.{Row_of-Branch, end_of-Branch, more_of-Branch, Row_of-CaseArm, end_of-CaseArm, more_of-CaseArm}
-use Rattle.ob_mean.specs.declared.whole.statement.TypedStatement.TheVariants.{Simple, If', Case', While', Repeat', For'}
-use Rattle.ob_mean.specs.whole.Values.{size}
-use Rattle.ob_mean.specs.whole.Shapes.{zeros, opening_row}
-use Rattle.ob_mean.specs.whole.WellFormed.{face_object, Object, Of, OpenOf, Names, is_there, object_of, variable_object, named_object, elements_in, called, heading_of, face_heading, IsBasic, IsText, ExprFits, ExprsFit, OperationsFit, IndexesFit, IsPassed, RowPassed, ListPassed, IsRead, InputFits, OutputFits, ActionFits, HeadFits, StatFits, StatsFit, BranchesFit, ArmsFit, ListFits, ResultFits, names_in, names_of, ProceduresFit, AllBelow, IsWellFormed}
-use Rattle.ob_code.specs.declared.whole.instr.Instr.{Instr}
-use Rattle.ob_code.specs.declared.whole.instr.Instr.TheVariants as instr
-use Rattle.ob_code.specs.declared.whole.instr.Line.{Line}
-use Rattle.ob_code.specs.declared.whole.instr.Height.{Height}
-use Rattle.ob_code.specs.declared.whole.instr.Entry.{Entry}
-use Rattle.ob_code.specs.declared.whole.instr.Entries.{Entries}
-use Rattle.ob_code.specs.declared.whole.instr.Procedure.{Procedure}
-use Rattle.ob_code.specs.declared.whole.instr.CodeModule.{CodeModule}
-use Rattle.ob_code.specs.whole.Valid.{height, results, asks, RootFits, LengthFits, SpanFits, TargetFits, own_entry, known_entry, entry_of, Calls, Fits, ProcedureFits, IsBody, IsValid}
-use Rattle.ob_gen.specs.whole.Code.{line, parameter_row, own_row, face_row, named_one, named_before, root_of, root_in, name_number, length_in, length_of, span_of, element_cells, and_code, or_code, value_one, name_one, row_values, row_names, read_code, expr_code, offset_code, operations_code, every_code, either_code, argument_code, arguments_code, list_values, list_names, passed_code, target_of, input_code, output_code, assign_code, action_code, Guarded, loop_code, for_relation, for_guard, for_step, for_code, stat_code, stats_code, branches, arms_code, list_code, result_code, procedure_code}
-use Rattle.ob_gen.specs.whole.Correct.{named_count, parameter_count, IsCodeOf, AreCompiled}
-use Rattle.ob_gen.specs.whole.Generated.{valued_count, heading_entry, IsOfFace, AreOfFaces, most_operands, most_names, HasRoom, AllHaveRoom, IsGenerated}
+use Rattle.ob_mean.specs.declared.expression.Variable.{Variable}
+use Rattle.ob_mean.specs.declared.expression.Variable.TheVariants as variable
+use Rattle.ob_mean.specs.declared.expression.Callee.{Callee}
+use Rattle.ob_mean.specs.declared.expression.Callee.TheVariants as callee
+use Rattle.ob_mean.specs.declared.expression.TypedExpr.{TypedExpr, Row_of-TypedExpr, end_of-TypedExpr, more_of-TypedExpr}
+use Rattle.ob_mean.specs.declared.expression.TypedExpr.TheVariants as expr
+use Rattle.ob_mean.specs.declared.expression.Designator.{Designator, end_of-Designator, more_of-Designator}
+use Rattle.ob_mean.specs.declared.expression.Designator.TheVariants as designator
+use Rattle.ob_mean.specs.declared.expression.Argument.{Argument}
+use Rattle.ob_mean.specs.declared.expression.Argument.TheVariants as argument
+use Rattle.ob_mean.specs.declared.expression.Argument.TheBlock.{Row_of-Argument, end_of-Argument, more_of-Argument, Row_of-Operation, end_of-Operation, more_of-Operation}
+use Rattle.ob_mean.specs.declared.operator.Operator.TheVariants.{Plus, Compare}
+use Rattle.ob_mean.specs.declared.shape.Shape.{Shape}
+use Rattle.ob_mean.specs.declared.shape.Shape.TheVariants.{Basic}
+use Rattle.ob_mean.specs.declared.face.Face.{Face}
+use Rattle.ob_mean.specs.declared.face.Heading.{Heading}
+use Rattle.ob_mean.specs.declared.module.Parameter.{Parameter}
+use Rattle.ob_mean.specs.declared.module.Parameter.TheVariants as parameter
+use Rattle.ob_mean.specs.declared.module.TypedProcedure.{TypedProcedure}
+use Rattle.ob_mean.specs.declared.module.TypedModule.{TypedModule}
+use Rattle.ob_mean.specs.declared.statement.Action.{Action}
+use Rattle.ob_mean.specs.declared.statement.Action.TheVariants as action
+use Rattle.ob_mean.specs.declared.statement.Reader.{Reader}
+use Rattle.ob_mean.specs.declared.statement.Reader.TheVariants as reader
+use Rattle.ob_mean.specs.declared.statement.InputCall.{InputCall}
+use Rattle.ob_mean.specs.declared.statement.InputCall.TheVariants as incoming
+use Rattle.ob_mean.specs.declared.statement.OutputCall.{OutputCall}
+use Rattle.ob_mean.specs.declared.statement.OutputCall.TheVariants as outgoing
+use Rattle.ob_mean.specs.declared.statement.ForHead.{ForHead}
+use Rattle.ob_mean.specs.declared.statement.TypedStatement.{TypedStatement, Row_of-TypedStatement, end_of-TypedStatement, more_of-TypedStatement}
+use Rattle.ob_mean.specs.declared.statement.TypedStatement.TheBlock.{Row_of-Branch, end_of-Branch, more_of-Branch, Row_of-CaseArm, end_of-CaseArm, more_of-CaseArm}
+use Rattle.ob_mean.specs.declared.statement.TypedStatement.TheVariants.{Simple, If', Case', While', Repeat', For'}
+use Rattle.ob_mean.specs.Values.{size}
+use Rattle.ob_mean.specs.Shapes.{zeros, opening_row}
+use Rattle.ob_mean.specs.WellFormed.{face_object, Object, Of, OpenOf, Names, is_there, object_of, variable_object, named_object, elements_in, called, heading_of, face_heading, IsBasic, IsText, ExprFits, ExprsFit, OperationsFit, IndexesFit, IsPassed, RowPassed, ListPassed, IsRead, InputFits, OutputFits, ActionFits, HeadFits, StatFits, StatsFit, BranchesFit, ArmsFit, ListFits, ResultFits, names_in, names_of, ProceduresFit, AllBelow, IsWellFormed}
+use Rattle.ob_code.specs.declared.instr.Instr.{Instr}
+use Rattle.ob_code.specs.declared.instr.Instr.TheVariants as instr
+use Rattle.ob_code.specs.declared.instr.Line.{Line}
+use Rattle.ob_code.specs.declared.instr.Height.{Height}
+use Rattle.ob_code.specs.declared.instr.Entry.{Entry}
+use Rattle.ob_code.specs.declared.instr.Entries.{Entries}
+use Rattle.ob_code.specs.declared.instr.Procedure.{Procedure}
+use Rattle.ob_code.specs.declared.instr.CodeModule.{CodeModule}
+use Rattle.ob_code.specs.Valid.{height, results, asks, RootFits, LengthFits, SpanFits, TargetFits, own_entry, known_entry, entry_of, Calls, Fits, ProcedureFits, IsBody, IsValid}
+use Rattle.ob_gen.specs.Code.{line, parameter_row, own_row, face_row, named_one, named_before, root_of, root_in, name_number, length_in, length_of, span_of, element_cells, and_code, or_code, value_one, name_one, row_values, row_names, read_code, expr_code, offset_code, operations_code, every_code, either_code, argument_code, arguments_code, list_values, list_names, passed_code, target_of, input_code, output_code, assign_code, action_code, Guarded, loop_code, for_relation, for_guard, for_step, for_code, stat_code, stats_code, branches, arms_code, list_code, result_code, procedure_code}
+use Rattle.ob_gen.specs.Correct.{named_count, parameter_count, IsCodeOf, AreCompiled}
+use Rattle.ob_gen.specs.Generated.{valued_count, heading_entry, IsOfFace, AreOfFaces, most_operands, most_names, HasRoom, AllHaveRoom, IsGenerated}
 use Rattle.ob_gen.proofs.machine.Store.{IsRow, size-append, before-within}
 use Rattle.ob_gen.proofs.machine.Places.{some_same, shape_some, elements_some, field_some, open_named}
 use Rattle.ob_gen.proofs.machine.Linked.{heading_found, compiled_at, body_compiled}

@@ -3,15 +3,15 @@ use Rattle.std.proofs.Common.{◌≡◌, ℕ, zero, suc, ◌+◌, ◌-◌, ◌�
 use Rattle.std.specs.Prelude.{slice_get, nat_eq, if◌then◌else◌}
 use Rattle.std.proofs.lemmas.Option.{slice_get_past}
 use Rattle.std.proofs.lemmas.Bool.Decides.{nat_tests}
-use Rattle.ob_mean.specs.declared.whole.statement.LabelRange.{LabelRange}
-use Rattle.ob_mean.specs.declared.whole.operator.UnaryOperator.TheVariants.{Not}
-use Rattle.ob_code.specs.declared.whole.instr.Instr.TheVariants as instr
-use Rattle.ob_code.specs.declared.whole.instr.Line.{Line}
-use Rattle.ob_code.specs.declared.whole.instr.Height.{Height}
-use Rattle.ob_code.specs.declared.whole.instr.Procedure.{Procedure}
-use Rattle.ob_code.specs.declared.whole.instr.CodeModule.{CodeModule}
-use Rattle.ob_code.specs.whole.Valid.{height, results, height_of, height_at, Fits, LinesFit}
-use Rattle.ob_gen.specs.whole.Code.{line, Guarded, first_code, bodies_code, guards_code, loop_code, repeat_code, labels_code, arm_code}
+use Rattle.ob_mean.specs.declared.statement.LabelRange.{LabelRange}
+use Rattle.ob_mean.specs.declared.operator.UnaryOperator.TheVariants.{Not}
+use Rattle.ob_code.specs.declared.instr.Instr.TheVariants as instr
+use Rattle.ob_code.specs.declared.instr.Line.{Line}
+use Rattle.ob_code.specs.declared.instr.Height.{Height}
+use Rattle.ob_code.specs.declared.instr.Procedure.{Procedure}
+use Rattle.ob_code.specs.declared.instr.CodeModule.{CodeModule}
+use Rattle.ob_code.specs.Valid.{height, results, height_of, height_at, Fits, LinesFit}
+use Rattle.ob_gen.specs.Code.{line, Guarded, first_code, bodies_code, guards_code, loop_code, repeat_code, labels_code, arm_code}
 use Rattle.ob_gen.proofs.machine.Reaches.{HasAt, has_front, has_back, has_all}
 
 -- all operands and names are gone

@@ -1,22 +1,22 @@
 -- What stands where in the store: the modules' variables, and those of the running call.
 use Rattle.std.proofs.Common.{◌≡◌, ℕ, zero, suc, ◌+◌, ◌<◌, pos, List, [], ◌∷◌, ◌++◌, length, Some, None, refl, sym, ap, ◌∙◌, subst, arith, length-append}
 use Rattle.std.specs.Prelude.{slice_get}
-use Rattle.ob_mean.specs.declared.whole.shape.Shape.{Shape}
-use Rattle.ob_mean.specs.declared.whole.shape.Shape.TheVariants.{Basic}
-use Rattle.ob_mean.specs.declared.whole.module.ModuleVariable.{ModuleVariable}
-use Rattle.ob_mean.specs.declared.whole.module.ModuleVariable.TheVariants.{Declared, Text}
-use Rattle.ob_mean.specs.declared.whole.module.Parameter.{Parameter}
-use Rattle.ob_mean.specs.declared.whole.module.Parameter.TheVariants as parameter
-use Rattle.ob_mean.specs.declared.whole.module.Loaded.{Loaded}
-use Rattle.ob_mean.specs.whole.Values.{Place, Whole, Part, Value, Cell, Named, Open, Beside, count, size, item, before, get, named, offset, shape, image, append}
-use Rattle.ob_mean.specs.whole.Shapes.{zero_of, zeros, opening_value, opening_row}
-use Rattle.ob_mean.specs.whole.Texts.{text_row}
-use Rattle.ob_mean.specs.whole.Programs.{Program, opening_store}
-use Rattle.ob_mean.specs.whole.WellFormed.{Object, Of, OpenOf, module_object, shape_object, value_object, own_object, named_object, StartWith, cell_limit}
-use Rattle.ob_code.specs.declared.whole.instr.Extent.{Extent}
-use Rattle.ob_code.specs.declared.whole.instr.Name.{Name}
-use Rattle.ob_gen.specs.whole.Code.{extent_at, parameter_value, parameter_row, named_one, named_before}
-use Rattle.ob_gen.specs.whole.Correct.{named_count, parameter_count}
+use Rattle.ob_mean.specs.declared.shape.Shape.{Shape}
+use Rattle.ob_mean.specs.declared.shape.Shape.TheVariants.{Basic}
+use Rattle.ob_mean.specs.declared.module.ModuleVariable.{ModuleVariable}
+use Rattle.ob_mean.specs.declared.module.ModuleVariable.TheVariants.{Declared, Text}
+use Rattle.ob_mean.specs.declared.module.Parameter.{Parameter}
+use Rattle.ob_mean.specs.declared.module.Parameter.TheVariants as parameter
+use Rattle.ob_mean.specs.declared.module.Loaded.{Loaded}
+use Rattle.ob_mean.specs.Values.{Place, Whole, Part, Value, Cell, Named, Open, Beside, count, size, item, before, get, named, offset, shape, image, append}
+use Rattle.ob_mean.specs.Shapes.{zero_of, zeros, opening_value, opening_row}
+use Rattle.ob_mean.specs.Texts.{text_row}
+use Rattle.ob_mean.specs.Programs.{Program, opening_store}
+use Rattle.ob_mean.specs.WellFormed.{Object, Of, OpenOf, module_object, shape_object, value_object, own_object, named_object, StartWith, cell_limit}
+use Rattle.ob_code.specs.declared.instr.Extent.{Extent}
+use Rattle.ob_code.specs.declared.instr.Name.{Name}
+use Rattle.ob_gen.specs.Code.{extent_at, parameter_value, parameter_row, named_one, named_before}
+use Rattle.ob_gen.specs.Correct.{named_count, parameter_count}
 use Rattle.ob_gen.proofs.machine.Store.{Inside, IsRow, size-shape, count-append, item-front, before-front, name_is, open_is}
 use Rattle.ob_gen.proofs.machine.Zeros.{declared_shape, declared_row, shape-opening, shape-opening_value, shape-text_row, zero-array}
 use Rattle.ob_gen.proofs.machine.Places.{IsObject, PlaceFits, some_same}

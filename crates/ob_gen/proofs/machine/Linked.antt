@@ -1,27 +1,27 @@
 -- Modules that are linked: what a text names is there, and its code is where the machine looks for it.
 use Rattle.std.proofs.Common.{◌≡◌, ℕ, zero, suc, ◌+◌, ◌-◌, ◌<◌, List, [], ◌∷◌, length, Option, Some, None, Bool, true, refl, sym, ap, ◌∙◌, subst, arith}
 use Rattle.std.specs.Prelude.{slice_get, slice_index}
-use Rattle.ob_mean.specs.declared.whole.expression.Variable.{Variable}
-use Rattle.ob_mean.specs.declared.whole.expression.Variable.TheVariants as variable
-use Rattle.ob_mean.specs.declared.whole.expression.Callee.{Callee}
-use Rattle.ob_mean.specs.declared.whole.expression.Callee.TheVariants as callee
-use Rattle.ob_mean.specs.declared.whole.shape.Shape.{Shape}
-use Rattle.ob_mean.specs.declared.whole.module.Parameter.{Parameter}
-use Rattle.ob_mean.specs.declared.whole.module.TypedProcedure.{TypedProcedure}
-use Rattle.ob_mean.specs.declared.whole.module.TypedModule.{TypedModule}
-use Rattle.ob_mean.specs.declared.whole.module.Loaded.{Loaded}
-use Rattle.ob_mean.specs.declared.whole.face.Face.{Face}
-use Rattle.ob_mean.specs.declared.whole.face.Heading.{Heading}
-use Rattle.ob_mean.specs.whole.Values.{Whole, Part, Value, size, before}
-use Rattle.ob_mean.specs.whole.Shapes.{zeros, opening_row}
-use Rattle.ob_mean.specs.whole.Expressions.{Scope}
-use Rattle.ob_mean.specs.whole.Programs.{Program, opening_store, imports_in, imports_of, procedure_in, exported_in, home_of, procedure_of, scope_at}
-use Rattle.ob_mean.specs.whole.WellFormed.{Object, Of, Names, face_object, shape_object, variable_object, own_object, named_object, own_heading, face_heading, heading_of, called, names_in, names_of, ProcedureFits, ProceduresFit, FacesFit, AreHeadings, IsFaceOf, Shows, AllShow, cell_limit}
-use Rattle.ob_code.specs.declared.whole.instr.Procedure.{Procedure}
-use Rattle.ob_code.specs.declared.whole.instr.Extent.{Extent}
-use Rattle.ob_code.specs.whole.Machine.{Code, imports_in as code_imports_in, import_number, cells_in, procedure_in as code_procedure_in, exported_number, target_of, number_of, part_of}
-use Rattle.ob_gen.specs.whole.Code.{extent_at, face_row}
-use Rattle.ob_gen.specs.whole.Correct.{IsCodeOf, AreCompiled, AllRun, IsCodeOfProgram}
+use Rattle.ob_mean.specs.declared.expression.Variable.{Variable}
+use Rattle.ob_mean.specs.declared.expression.Variable.TheVariants as variable
+use Rattle.ob_mean.specs.declared.expression.Callee.{Callee}
+use Rattle.ob_mean.specs.declared.expression.Callee.TheVariants as callee
+use Rattle.ob_mean.specs.declared.shape.Shape.{Shape}
+use Rattle.ob_mean.specs.declared.module.Parameter.{Parameter}
+use Rattle.ob_mean.specs.declared.module.TypedProcedure.{TypedProcedure}
+use Rattle.ob_mean.specs.declared.module.TypedModule.{TypedModule}
+use Rattle.ob_mean.specs.declared.module.Loaded.{Loaded}
+use Rattle.ob_mean.specs.declared.face.Face.{Face}
+use Rattle.ob_mean.specs.declared.face.Heading.{Heading}
+use Rattle.ob_mean.specs.Values.{Whole, Part, Value, size, before}
+use Rattle.ob_mean.specs.Shapes.{zeros, opening_row}
+use Rattle.ob_mean.specs.Expressions.{Scope}
+use Rattle.ob_mean.specs.Programs.{Program, opening_store, imports_in, imports_of, procedure_in, exported_in, home_of, procedure_of, scope_at}
+use Rattle.ob_mean.specs.WellFormed.{Object, Of, Names, face_object, shape_object, variable_object, own_object, named_object, own_heading, face_heading, heading_of, called, names_in, names_of, ProcedureFits, ProceduresFit, FacesFit, AreHeadings, IsFaceOf, Shows, AllShow, cell_limit}
+use Rattle.ob_code.specs.declared.instr.Procedure.{Procedure}
+use Rattle.ob_code.specs.declared.instr.Extent.{Extent}
+use Rattle.ob_code.specs.Machine.{Code, imports_in as code_imports_in, import_number, cells_in, procedure_in as code_procedure_in, exported_number, target_of, number_of, part_of}
+use Rattle.ob_gen.specs.Code.{extent_at, face_row}
+use Rattle.ob_gen.specs.Correct.{IsCodeOf, AreCompiled, AllRun, IsCodeOfProgram}
 use Rattle.ob_gen.proofs.machine.Reaches.{Running}
 use Rattle.ob_gen.proofs.machine.Store.{before-within}
 use Rattle.ob_gen.proofs.machine.Zeros.{declared_row}

@@ -1,19 +1,19 @@
 -- What is passed to a procedure: operands for values, names for places.
 use Rattle.std.proofs.Common.{◌≡◌, ℕ, ◌+◌, ◌<◌, ℤ, List, [], ◌∷◌, ◌++◌, length, Bool, true, false, Some, refl, arith}
 use Rattle.std.specs.Prelude.{slice_get}
-use Rattle.ob_mean.specs.declared.whole.expression.Callee.{Callee}
-use Rattle.ob_mean.specs.declared.whole.module.Parameter.{Parameter}
-use Rattle.ob_mean.specs.declared.whole.module.Parameter.TheVariants as parameter
-use Rattle.ob_mean.specs.declared.whole.face.Heading.{Heading}
-use Rattle.ob_mean.specs.whole.Values.{Place, Value, Cell, Named, Open, Nothing, Beside, get, size, offset, image, row}
-use Rattle.ob_mean.specs.whole.Shapes.{zero_of}
-use Rattle.ob_mean.specs.whole.Runs.{World, Supply}
-use Rattle.ob_mean.specs.whole.Expressions.{Scope, only}
-use Rattle.ob_mean.specs.whole.WellFormed.{Names, called, cell_limit}
-use Rattle.ob_code.specs.declared.whole.instr.Instr.TheVariants.{Invoke}
-use Rattle.ob_code.specs.declared.whole.instr.Name.{Name}
-use Rattle.ob_code.specs.whole.Machine.{Code}
-use Rattle.ob_gen.specs.whole.Code.{line}
+use Rattle.ob_mean.specs.declared.expression.Callee.{Callee}
+use Rattle.ob_mean.specs.declared.module.Parameter.{Parameter}
+use Rattle.ob_mean.specs.declared.module.Parameter.TheVariants as parameter
+use Rattle.ob_mean.specs.declared.face.Heading.{Heading}
+use Rattle.ob_mean.specs.Values.{Place, Value, Cell, Named, Open, Nothing, Beside, get, size, offset, image, row}
+use Rattle.ob_mean.specs.Shapes.{zero_of}
+use Rattle.ob_mean.specs.Runs.{World, Supply}
+use Rattle.ob_mean.specs.Expressions.{Scope, only}
+use Rattle.ob_mean.specs.WellFormed.{Names, called, cell_limit}
+use Rattle.ob_code.specs.declared.instr.Instr.TheVariants.{Invoke}
+use Rattle.ob_code.specs.declared.instr.Name.{Name}
+use Rattle.ob_code.specs.Machine.{Code}
+use Rattle.ob_gen.specs.Code.{line}
 use Rattle.ob_gen.proofs.machine.Reaches.{Running, lines_in, here, Good, Reaches, SoMany}
 use Rattle.ob_gen.proofs.machine.Store.{Inside}
 

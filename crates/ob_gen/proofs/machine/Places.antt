@@ -4,27 +4,27 @@ use Rattle.std.specs.Prelude.{slice_get, slice_index_or, nat_lt, nat_le, cond}
 use Rattle.std.specs.Int.{w32, int_wrap}
 use Rattle.std.proofs.lemmas.Int.{int_wrap_fits}
 use Rattle.std.proofs.lemmas.Bool.Decides.{nat_tests}
-use Rattle.ob_mean.specs.declared.whole.expression.Variable.{Variable}
-use Rattle.ob_mean.specs.declared.whole.expression.Variable.TheVariants as variable
-use Rattle.ob_mean.specs.declared.whole.expression.Designator.{Designator, end_of-Designator, more_of-Designator}
-use Rattle.ob_mean.specs.declared.whole.expression.Designator.TheVariants as designator
-use Rattle.ob_mean.specs.declared.whole.shape.Shape.{Shape, Row_of-Shape, end_of-Shape, more_of-Shape}
-use Rattle.ob_mean.specs.declared.whole.shape.Shape.TheVariants.{Basic, Array', Record'}
-use Rattle.ob_mean.specs.declared.whole.module.ModuleVariable.{ModuleVariable}
-use Rattle.ob_mean.specs.declared.whole.module.ModuleVariable.TheVariants.{Declared, Text}
-use Rattle.ob_mean.specs.declared.whole.module.Parameter.{Parameter}
-use Rattle.ob_mean.specs.declared.whole.module.Parameter.TheVariants as parameter
-use Rattle.ob_mean.specs.declared.whole.face.Face.{Face}
-use Rattle.ob_mean.specs.whole.Values.{Place, Part, Value, count, size, item, get, offset, shape, row}
-use Rattle.ob_mean.specs.whole.Shapes.{zero_of, zeros_in, at_least_one}
-use Rattle.ob_mean.specs.whole.Runs.{World}
-use Rattle.ob_mean.specs.whole.Expressions.{Scope, variable_place}
-use Rattle.ob_mean.specs.whole.WellFormed.{Object, Of, OpenOf, Names, module_object, shape_object, face_object, value_object, own_object, variable_object, elements_in, field_at, field_shape, field_in, object_of, cell_limit}
-use Rattle.ob_code.specs.declared.whole.instr.Root.{Root}
-use Rattle.ob_code.specs.declared.whole.instr.Root.TheVariants as root
-use Rattle.ob_code.specs.declared.whole.instr.Name.{Name}
-use Rattle.ob_code.specs.whole.Machine.{Code, import_number, cells_in, no_name, part_of, object, name_at, elements, within}
-use Rattle.ob_gen.specs.whole.Code.{root_of, root_in, name_number, length_in, length_of}
+use Rattle.ob_mean.specs.declared.expression.Variable.{Variable}
+use Rattle.ob_mean.specs.declared.expression.Variable.TheVariants as variable
+use Rattle.ob_mean.specs.declared.expression.Designator.{Designator, end_of-Designator, more_of-Designator}
+use Rattle.ob_mean.specs.declared.expression.Designator.TheVariants as designator
+use Rattle.ob_mean.specs.declared.shape.Shape.{Shape, Row_of-Shape, end_of-Shape, more_of-Shape}
+use Rattle.ob_mean.specs.declared.shape.Shape.TheVariants.{Basic, Array', Record'}
+use Rattle.ob_mean.specs.declared.module.ModuleVariable.{ModuleVariable}
+use Rattle.ob_mean.specs.declared.module.ModuleVariable.TheVariants.{Declared, Text}
+use Rattle.ob_mean.specs.declared.module.Parameter.{Parameter}
+use Rattle.ob_mean.specs.declared.module.Parameter.TheVariants as parameter
+use Rattle.ob_mean.specs.declared.face.Face.{Face}
+use Rattle.ob_mean.specs.Values.{Place, Part, Value, count, size, item, get, offset, shape, row}
+use Rattle.ob_mean.specs.Shapes.{zero_of, zeros_in, at_least_one}
+use Rattle.ob_mean.specs.Runs.{World}
+use Rattle.ob_mean.specs.Expressions.{Scope, variable_place}
+use Rattle.ob_mean.specs.WellFormed.{Object, Of, OpenOf, Names, module_object, shape_object, face_object, value_object, own_object, variable_object, elements_in, field_at, field_shape, field_in, object_of, cell_limit}
+use Rattle.ob_code.specs.declared.instr.Root.{Root}
+use Rattle.ob_code.specs.declared.instr.Root.TheVariants as root
+use Rattle.ob_code.specs.declared.instr.Name.{Name}
+use Rattle.ob_code.specs.Machine.{Code, import_number, cells_in, no_name, part_of, object, name_at, elements, within}
+use Rattle.ob_gen.specs.Code.{root_of, root_in, name_number, length_in, length_of}
 use Rattle.ob_gen.proofs.machine.Reaches.{Running, conf}
 use Rattle.ob_gen.proofs.machine.Store.{Inside, inside-leads, count-row, before-within}
 

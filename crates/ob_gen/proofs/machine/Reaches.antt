@@ -3,23 +3,23 @@ use Rattle.std.proofs.Common.{◌≡◌, ℕ, zero, suc, ◌+◌, ◌<◌, ◌�
 use Rattle.std.specs.Prelude.{slice_get}
 use Rattle.std.proofs.lemmas.Option.{slice_get-get_or}
 use Rattle.std.proofs.Math.Seq.{get_or-append_seam}
-use Rattle.ob_mean.specs.declared.whole.expression.TypedExpr.{TypedExpr}
-use Rattle.ob_mean.specs.declared.whole.expression.Variable.{Variable}
-use Rattle.ob_mean.specs.declared.whole.outcome.Outcome.{Outcome}
-use Rattle.ob_mean.specs.declared.whole.statement.Action.{Action}
-use Rattle.ob_mean.specs.declared.whole.statement.TypedStatement.{TypedStatement}
-use Rattle.ob_mean.specs.declared.whole.shape.Shape.TheVariants.{Basic}
-use Rattle.ob_mean.specs.whole.Values.{Place, Value, Cell, shape, get, number, append}
-use Rattle.ob_mean.specs.whole.Runs.{World, Supply, Run, Goes, Stands, Done, and_then, choose, stored}
-use Rattle.ob_mean.specs.whole.Expressions.{Scope, value_of, variable_place}
-use Rattle.ob_mean.specs.whole.Statements.{action_meaning, list_meaning}
-use Rattle.ob_mean.specs.whole.WellFormed.{Of, Names, variable_object, ExprFits, ActionFits, ListFits}
-use Rattle.ob_code.specs.declared.whole.instr.Instr.TheVariants.{Skip, SkipIfZero, Load, Store}
-use Rattle.ob_code.specs.declared.whole.instr.Line.{Line}
-use Rattle.ob_code.specs.declared.whole.instr.Name.{Name}
-use Rattle.ob_code.specs.declared.whole.instr.Frame.{Frame}
-use Rattle.ob_code.specs.whole.Machine.{Code, Config, picture, Point, Going, Standing, lines_of, Comes}
-use Rattle.ob_gen.specs.whole.Code.{line, root_of, expr_code, action_code, list_code}
+use Rattle.ob_mean.specs.declared.expression.TypedExpr.{TypedExpr}
+use Rattle.ob_mean.specs.declared.expression.Variable.{Variable}
+use Rattle.ob_mean.specs.declared.outcome.Outcome.{Outcome}
+use Rattle.ob_mean.specs.declared.statement.Action.{Action}
+use Rattle.ob_mean.specs.declared.statement.TypedStatement.{TypedStatement}
+use Rattle.ob_mean.specs.declared.shape.Shape.TheVariants.{Basic}
+use Rattle.ob_mean.specs.Values.{Place, Value, Cell, shape, get, number, append}
+use Rattle.ob_mean.specs.Runs.{World, Supply, Run, Goes, Stands, Done, and_then, choose, stored}
+use Rattle.ob_mean.specs.Expressions.{Scope, value_of, variable_place}
+use Rattle.ob_mean.specs.Statements.{action_meaning, list_meaning}
+use Rattle.ob_mean.specs.WellFormed.{Of, Names, variable_object, ExprFits, ActionFits, ListFits}
+use Rattle.ob_code.specs.declared.instr.Instr.TheVariants.{Skip, SkipIfZero, Load, Store}
+use Rattle.ob_code.specs.declared.instr.Line.{Line}
+use Rattle.ob_code.specs.declared.instr.Name.{Name}
+use Rattle.ob_code.specs.declared.instr.Frame.{Frame}
+use Rattle.ob_code.specs.Machine.{Code, Config, picture, Point, Going, Standing, lines_of, Comes}
+use Rattle.ob_gen.specs.Code.{line, root_of, expr_code, action_code, list_code}
 use Rattle.ob_code.proofs.machine.Runs.{goes_on, performs}
 
 -- ---- lines that stand in a procedure

@@ -1,26 +1,26 @@
 -- Statements: where the code of expressions and actions does what those mean, that of all statements does.
 use Rattle.std.proofs.Common.{◌≡◌, ℕ, ◌+◌, ℤ, pos, negsuc, List, [], ◌∷◌, ◌++◌, length, Option, Some, Bool, true, false, refl, sym, ap, subst, arith, length-append}
 use Rattle.std.specs.Prelude.{cond, ◌+ℤ◌}
-use Rattle.ob_mean.specs.declared.whole.expression.TypedExpr.{TypedExpr}
-use Rattle.ob_mean.specs.declared.whole.outcome.Outcome.TheVariants.{Trapped}
-use Rattle.ob_mean.specs.declared.whole.outcome.TrapKind.TheVariants as trap
-use Rattle.ob_mean.specs.declared.whole.operator.Operator.TheVariants.{Plus, Compare}
-use Rattle.ob_mean.specs.declared.whole.statement.ForHead.{ForHead}
-use Rattle.ob_mean.specs.declared.whole.statement.TypedStatement.{TypedStatement, Row_of-TypedStatement, end_of-TypedStatement, more_of-TypedStatement}
-use Rattle.ob_mean.specs.declared.whole.statement.TypedStatement.TheBlock.{Row_of-Branch, end_of-Branch, more_of-Branch, Row_of-CaseArm, end_of-CaseArm, more_of-CaseArm}
-use Rattle.ob_mean.specs.declared.whole.statement.TypedStatement.TheVariants.{Simple, If', Case', While', Repeat', For'}
-use Rattle.ob_mean.specs.whole.Values.{Value, Cell, get, number}
-use Rattle.ob_mean.specs.whole.Arithmetic.{wrap, truth, numbers_relate}
-use Rattle.ob_mean.specs.whole.Runs.{World, Supply, Goes, Done, Piece, stored}
-use Rattle.ob_mean.specs.whole.Expressions.{Scope, value_of, variable_place}
-use Rattle.ob_mean.specs.whole.Control.{in_order, looping, is_labelled, arm_for}
-use Rattle.ob_mean.specs.whole.Statements as meant
-use Rattle.ob_mean.specs.whole.Statements.{not_past, for_body, for_loop, case_body, stat_meaning, pieces, guarded, arms_of, list_meaning}
-use Rattle.ob_mean.specs.whole.WellFormed.{Names, ExprFits, HeadFits, StatFits, StatsFit, BranchesFit, ArmsFit}
-use Rattle.ob_code.specs.declared.whole.instr.Instr.TheVariants.{Push, Operate, Store, Trap}
-use Rattle.ob_code.specs.declared.whole.instr.Line.{Line}
-use Rattle.ob_code.specs.whole.Machine.{Code, Standing}
-use Rattle.ob_gen.specs.whole.Code.{line, root_of, expr_code, stat_code, stats_code, branches, arms_code, list_code, for_relation, for_guard, for_step, for_code, loop_code}
+use Rattle.ob_mean.specs.declared.expression.TypedExpr.{TypedExpr}
+use Rattle.ob_mean.specs.declared.outcome.Outcome.TheVariants.{Trapped}
+use Rattle.ob_mean.specs.declared.outcome.TrapKind.TheVariants as trap
+use Rattle.ob_mean.specs.declared.operator.Operator.TheVariants.{Plus, Compare}
+use Rattle.ob_mean.specs.declared.statement.ForHead.{ForHead}
+use Rattle.ob_mean.specs.declared.statement.TypedStatement.{TypedStatement, Row_of-TypedStatement, end_of-TypedStatement, more_of-TypedStatement}
+use Rattle.ob_mean.specs.declared.statement.TypedStatement.TheBlock.{Row_of-Branch, end_of-Branch, more_of-Branch, Row_of-CaseArm, end_of-CaseArm, more_of-CaseArm}
+use Rattle.ob_mean.specs.declared.statement.TypedStatement.TheVariants.{Simple, If', Case', While', Repeat', For'}
+use Rattle.ob_mean.specs.Values.{Value, Cell, get, number}
+use Rattle.ob_mean.specs.Arithmetic.{wrap, truth, numbers_relate}
+use Rattle.ob_mean.specs.Runs.{World, Supply, Goes, Done, Piece, stored}
+use Rattle.ob_mean.specs.Expressions.{Scope, value_of, variable_place}
+use Rattle.ob_mean.specs.Control.{in_order, looping, is_labelled, arm_for}
+use Rattle.ob_mean.specs.Statements as meant
+use Rattle.ob_mean.specs.Statements.{not_past, for_body, for_loop, case_body, stat_meaning, pieces, guarded, arms_of, list_meaning}
+use Rattle.ob_mean.specs.WellFormed.{Names, ExprFits, HeadFits, StatFits, StatsFit, BranchesFit, ArmsFit}
+use Rattle.ob_code.specs.declared.instr.Instr.TheVariants.{Push, Operate, Store, Trap}
+use Rattle.ob_code.specs.declared.instr.Line.{Line}
+use Rattle.ob_code.specs.Machine.{Code, Standing}
+use Rattle.ob_gen.specs.Code.{line, root_of, expr_code, stat_code, stats_code, branches, arms_code, list_code, for_relation, for_guard, for_step, for_code, loop_code}
 use Rattle.ob_code.proofs.machine.Runs.{goes_on, performs}
 use Rattle.ob_gen.proofs.machine.Reaches.{has_front, has_back, Running, conf, here, lines_in, Reaches, AnyNumber, AnyDone, ExprRuns, ActionRuns, ListRuns, Holds, VariablesHold, follows, ties, moved, one_runs, Same}
 use Rattle.ob_gen.proofs.machine.Control.{le_is, le_back, BodyRuns, TestRuns, BranchesRun, ArmsRun, first_runs, loop_runs, repeat_runs, arm_runs, none_runs, then_runs}

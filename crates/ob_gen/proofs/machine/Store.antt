@@ -2,7 +2,7 @@
 use Rattle.std.proofs.Common.{◌≡◌, ℕ, zero, suc, ◌+◌, ◌*◌, ◌<◌, ◌≤◌, ℤ, pos, List, [], ◌∷◌, ◌++◌, length, take, drop, refl, sym, ap, ◌∙◌, subst, arith, append_assoc, length-append, append-nil}
 use Rattle.std.specs.Prelude.{slice_index_or}
 use Rattle.std.proofs.Math.Seq.{take-append_seam, drop-append_seam, drop-append-add}
-use Rattle.ob_mean.specs.whole.Values.{Place, Whole, Part, Value, Cell, Named, Open, Nothing, Beside, count, size, item, before, with_item, get, set, number, offset, shape, image, append, first, row}
+use Rattle.ob_mean.specs.Values.{Place, Whole, Part, Value, Cell, Named, Open, Nothing, Beside, count, size, item, before, with_item, get, set, number, offset, shape, image, append, first, row}
 
 -- ---- places that are there, and rows
 

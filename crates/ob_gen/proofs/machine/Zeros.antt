@@ -1,20 +1,20 @@
 -- Variables as they begin, and texts: their shapes and their cells.
 use Rattle.std.proofs.Common.{◌≡◌, ℕ, zero, suc, ◌+◌, ◌*◌, ℤ, pos, List, [], ◌∷◌, ◌++◌, length, map, replicate, refl, ap, ◌∙◌, arith}
-use Rattle.ob_mean.specs.declared.whole.shape.Shape.{Shape, Row_of-Shape, end_of-Shape, more_of-Shape}
-use Rattle.ob_mean.specs.declared.whole.shape.Shape.TheVariants.{Basic, Array, Array', Record'}
-use Rattle.ob_mean.specs.declared.whole.module.ModuleVariable.{ModuleVariable}
-use Rattle.ob_mean.specs.declared.whole.module.ModuleVariable.TheVariants.{Declared, Text}
-use Rattle.ob_mean.specs.whole.Values.{Value, Cell, Named, Open, Nothing, Beside, size, shape, image, row}
-use Rattle.ob_mean.specs.whole.Shapes.{at_least_one, zero_of, zeros_in, zeros, opening_value, opening_row}
-use Rattle.ob_mean.specs.whole.Texts.{character, characters, text_row}
-use Rattle.ob_code.specs.whole.Machine.{text_cells}
+use Rattle.ob_mean.specs.declared.shape.Shape.{Shape, Row_of-Shape, end_of-Shape, more_of-Shape}
+use Rattle.ob_mean.specs.declared.shape.Shape.TheVariants.{Basic, Array, Array', Record'}
+use Rattle.ob_mean.specs.declared.module.ModuleVariable.{ModuleVariable}
+use Rattle.ob_mean.specs.declared.module.ModuleVariable.TheVariants.{Declared, Text}
+use Rattle.ob_mean.specs.Values.{Value, Cell, Named, Open, Nothing, Beside, size, shape, image, row}
+use Rattle.ob_mean.specs.Shapes.{at_least_one, zero_of, zeros_in, zeros, opening_value, opening_row}
+use Rattle.ob_mean.specs.Texts.{character, characters, text_row}
+use Rattle.ob_code.specs.Machine.{text_cells}
 use Rattle.ob_gen.proofs.machine.Store.{IsRow, shape-row_of, size-row}
 
 -- ---- zeros
 
 -- an array of strings' characters is an array like any other
 pub zero-array : (n : ℕ) (element : Shape) → zero_of (Array n element) ≡ row n (zero_of element)
-unfolding Rattle.ob_mean.specs.declared.whole.shape.Shape.TheBlock.hidden-the_row-Shape-0 denote.Hole.Carrier.hidden
+unfolding Rattle.ob_mean.specs.declared.shape.Shape.TheBlock.hidden-the_row-Shape-0 denote.Hole.Carrier.hidden
 zero-array n element = refl
 
 mutual

@@ -1,10 +1,10 @@
 use Rattle.std.proofs.Common.{◌≡◌, ℕ, ℤ, Vec, Global, Ok, Err, Some, None, rules, sym, ap, ◌∙◌, subst, to_z, of_z, to_z-of_z, SFits, w32}
-use Rattle.ob_mean.specs.whole.Values.{count, get}
-use Rattle.ob_mean.specs.whole.Arithmetic.{apply_one}
-use Rattle.ob_mean.specs.whole.Runs.{done, and_then}
-use Rattle.ob_mean.specs.whole.Expressions.{value_of, place_of, computed, chained, element, index_in, variable_place}
-use Rattle.ob_mean.specs.whole.Control.{arm_for, chosen, looping, repeating}
-use Rattle.ob_mean.specs.whole.Statements.{action_meaning, stat_meaning, list_meaning, case_body, text_stored, for_loop}
+use Rattle.ob_mean.specs.Values.{count, get}
+use Rattle.ob_mean.specs.Arithmetic.{apply_one}
+use Rattle.ob_mean.specs.Runs.{done, and_then}
+use Rattle.ob_mean.specs.Expressions.{value_of, place_of, computed, chained, element, index_in, variable_place}
+use Rattle.ob_mean.specs.Control.{arm_for, chosen, looping, repeating}
+use Rattle.ob_mean.specs.Statements.{action_meaning, stat_meaning, list_meaning, case_body, text_stored, for_loop}
 use Rattle.ob_reference.specs.Branches.{branch_pieces, arm_pieces, for_pieces, found_arm, PassesAll}
 use Rattle.ob_reference.specs.Kept.{place_of as path_place}
 use Rattle.ob_reference.specs.Lists.{operation_pieces, called}

@@ -1,7 +1,7 @@
 use Rattle.std.proofs.Common.{◌≡◌, ◌-◌, drop}
-use Rattle.ob_mean.specs.whole.Control.{looping, repeating}
-use Rattle.ob_mean.specs.whole.Expressions.{value_of}
-use Rattle.ob_mean.specs.whole.Statements.{list_meaning}
+use Rattle.ob_mean.specs.Control.{looping, repeating}
+use Rattle.ob_mean.specs.Expressions.{value_of}
+use Rattle.ob_mean.specs.Statements.{list_meaning}
 use Rattle.ob_reference.specs.Branches.{branch_pieces, for_pieces}
 use Rattle.ob_reference.specs.Kept.{place_of}
 use Rattle.ob_reference.specs.States.{scope_in, supply_in, world_in}

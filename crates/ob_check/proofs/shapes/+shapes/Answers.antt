@@ -1,5 +1,5 @@
 use Rattle.std.proofs.Common.{ap, sym, ◌∙◌}
-use Rattle.ob_mean.specs.declared.whole.shape.Shape.TheVariants as shape
+use Rattle.ob_mean.specs.declared.shape.Shape.TheVariants as shape
 use Rattle.ob_check.specs.Shapes.{shape_of}
 use Rattle.ob_check.proofs.ShapeForms.{shape_array}
 use Rattle.ob_check.proofs.shapes.+shapes.Goals as goal

@@ -1,5 +1,5 @@
 use Rattle.std.proofs.Common.{ap, sym, ◌∙◌}
-use Rattle.ob_mean.specs.declared.whole.module.Parameter.TheVariants as parameter
+use Rattle.ob_mean.specs.declared.module.Parameter.TheVariants as parameter
 use Rattle.ob_check.specs.Shapes.{shape_of, parameter_of}
 use Rattle.ob_check.proofs.ShapeForms.{parameter_open}
 use Rattle.ob_check.proofs.shapes.parameter_of.Goals as goal

@@ -1,8 +1,8 @@
 use Rattle.std.proofs.Common.{◌≡◌, ◌*◌, ◌<◌, min, length, ap, ◌∙◌, sym, rules}
 use Rattle.ob_types.proofs.Numbers.{product_most}
-use Rattle.ob_mean.specs.whole.Values.{size}
-use Rattle.ob_mean.specs.whole.Shapes.{at_least_one, zero_of, zeros}
-use Rattle.ob_mean.specs.whole.WellFormed.{cell_limit}
+use Rattle.ob_mean.specs.Values.{size}
+use Rattle.ob_mean.specs.Shapes.{at_least_one, zero_of, zeros}
+use Rattle.ob_mean.specs.WellFormed.{cell_limit}
 use Rattle.ob_gen.proofs.emitting.Tables.{array_size, record_size, record_row}
 use Rattle.ob_compile.proofs.room.+cells.Goals as goal
 

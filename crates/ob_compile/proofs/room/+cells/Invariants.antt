@@ -1,6 +1,6 @@
 use Rattle.std.proofs.Common.{◌≡◌, ◌≤◌, ◌+◌, min, drop}
-use Rattle.ob_mean.specs.whole.Values.{size}
-use Rattle.ob_mean.specs.whole.Shapes.{zeros}
+use Rattle.ob_mean.specs.Values.{size}
+use Rattle.ob_mean.specs.Shapes.{zeros}
 use Rattle.ob_compile.proofs.room.+cells.Given as goal
 
 abbrev pub invariant-shapes_cells-loop-shape : goal.invariant-shapes_cells-loop-shape

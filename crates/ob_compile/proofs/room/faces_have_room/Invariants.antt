@@ -1,5 +1,5 @@
 use Rattle.std.specs.Prelude.{◌↔◌, drop}
-use Rattle.ob_mean.specs.whole.WellFormed.{FacesFit}
+use Rattle.ob_mean.specs.WellFormed.{FacesFit}
 use Rattle.ob_compile.proofs.room.faces_have_room.Given as goal
 
 abbrev pub invariant-loop-face : goal.invariant-loop-face

@@ -1,6 +1,6 @@
 use Rattle.std.proofs.Common.{◌≡◌, ◌≤◌, ◌+◌, min, drop}
-use Rattle.ob_mean.specs.whole.Values.{size}
-use Rattle.ob_mean.specs.whole.Shapes.{opening_row}
+use Rattle.ob_mean.specs.Values.{size}
+use Rattle.ob_mean.specs.Shapes.{opening_row}
 use Rattle.ob_compile.proofs.room.module_cells.Given as goal
 
 abbrev pub invariant-loop-variable : goal.invariant-loop-variable

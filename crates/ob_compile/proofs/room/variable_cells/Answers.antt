@@ -1,7 +1,7 @@
 use Rattle.std.proofs.Common.{min, ap, ◌∙◌, sym}
-use Rattle.ob_mean.specs.whole.Values.{size}
-use Rattle.ob_mean.specs.whole.Shapes.{opening_value}
-use Rattle.ob_mean.specs.whole.WellFormed.{cell_limit}
+use Rattle.ob_mean.specs.Values.{size}
+use Rattle.ob_mean.specs.Shapes.{opening_value}
+use Rattle.ob_mean.specs.WellFormed.{cell_limit}
 use Rattle.ob_gen.proofs.emitting.Generated.{text_size}
 use Rattle.ob_compile.proofs.room.variable_cells.Goals as goal
 

@@ -1,5 +1,5 @@
 use Rattle.std.proofs.Common.{◌≡◌, ◌++◌, take, drop}
-use Rattle.ob_mean.specs.whole.Texts.{before_zero}
+use Rattle.ob_mean.specs.Texts.{before_zero}
 use Rattle.ob_declare.proofs.texts.before_zero.Given as goal
 
 abbrev pub invariant-loop-c : goal.invariant-loop-c

@@ -1,5 +1,5 @@
 use Rattle.std.proofs.Common.{◌≡◌, ◌++◌, length, take, drop}
-use Rattle.ob_code.specs.whole.Linked.{all_cells}
+use Rattle.ob_code.specs.Linked.{all_cells}
 use Rattle.ob_linked.specs.Compiled.{laid}
 use Rattle.ob_image.proofs.laying.lay.Given as goal
 

@@ -1,8 +1,8 @@
 use Rattle.std.proofs.Common.{◌≡◌, ◌++◌, sym, ap, ◌∙◌, subst, List, ℤ}
 use Rattle.std.specs.Prelude.{OnOk}
-use Rattle.ob_mean.specs.declared.whole.shape.Shape.{Shape}
-use Rattle.ob_mean.specs.whole.Shapes.{zero_of}
-use Rattle.ob_mean.specs.whole.Values.{image, row}
+use Rattle.ob_mean.specs.declared.shape.Shape.{Shape}
+use Rattle.ob_mean.specs.Shapes.{zero_of}
+use Rattle.ob_mean.specs.Values.{image, row}
 use Rattle.ob_image.proofs.Begins.{array_image, put_more, row_image, zeros_image}
 use Rattle.ob_image.proofs.opening.+zeros.Goals as goal
 

@@ -1,6 +1,6 @@
 use Rattle.std.proofs.Common.{◌≡◌, ◌++◌, take}
-use Rattle.ob_mean.specs.whole.Values.{image, row}
-use Rattle.ob_mean.specs.whole.Shapes.{zero_of, zeros}
+use Rattle.ob_mean.specs.Values.{image, row}
+use Rattle.ob_mean.specs.Shapes.{zero_of, zeros}
 use Rattle.ob_image.proofs.opening.+zeros.Given as goal
 
 abbrev pub invariant-push_elements-loop-number : goal.invariant-push_elements-loop-number

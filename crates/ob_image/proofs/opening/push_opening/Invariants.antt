@@ -1,6 +1,6 @@
 use Rattle.std.proofs.Common.{◌≡◌, ◌++◌, take}
-use Rattle.ob_mean.specs.whole.Values.{image}
-use Rattle.ob_mean.specs.whole.Shapes.{opening_row}
+use Rattle.ob_mean.specs.Values.{image}
+use Rattle.ob_mean.specs.Shapes.{opening_row}
 use Rattle.ob_image.proofs.opening.push_opening.Given as goal
 
 abbrev pub invariant-loop-variable : goal.invariant-loop-variable

@@ -1,5 +1,5 @@
 use Rattle.std.proofs.Common.{◌≡◌, ◌++◌, take}
-use Rattle.ob_code.specs.whole.Machine.{text_cells}
+use Rattle.ob_code.specs.Machine.{text_cells}
 use Rattle.ob_image.proofs.opening.push_text.Given as goal
 
 abbrev pub invariant-loop-number : goal.invariant-loop-number

@@ -1,5 +1,5 @@
 use Rattle.std.proofs.Common.{ℕ, ◌+◌, List, Some, take, sym, ap, ◌∙◌, subst, arith}
-use Rattle.ob_mean.specs.whole.Programs.{Command}
+use Rattle.ob_mean.specs.Programs.{Command}
 use Rattle.ob_linked.specs.Compiled.{runs_in}
 use Rattle.ob_linked.specs.CommandsCode.{AllCallable, IsCallable}
 use Rattle.ob_load.proofs.Called.{callable_next, callable_with, run_with}

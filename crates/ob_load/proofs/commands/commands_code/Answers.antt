@@ -1,7 +1,7 @@
 use Rattle.std.proofs.Common.{List, sym, subst}
-use Rattle.ob_mean.specs.declared.whole.face.Face.{Face}
-use Rattle.ob_mean.specs.whole.WellFormed.{IsWellFormed}
-use Rattle.ob_gen.specs.whole.Generated.{IsGenerated}
+use Rattle.ob_mean.specs.declared.face.Face.{Face}
+use Rattle.ob_mean.specs.WellFormed.{IsWellFormed}
+use Rattle.ob_gen.specs.Generated.{IsGenerated}
 use Rattle.ob_load.proofs.Called.{tree_formed, code_of, homes_within}
 use Rattle.ob_load.proofs.commands.commands_code.Goals as goal
 

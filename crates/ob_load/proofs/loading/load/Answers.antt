@@ -1,8 +1,8 @@
 use Rattle.std.proofs.Common.{◌<◌, length, ap, sym, ◌∙◌, subst, arith}
 use Rattle.ob_types.specs.InterfaceTree.{InterfaceTree}
-use Rattle.ob_code.specs.declared.whole.instr.CodeModule.{CodeModule}
-use Rattle.ob_code.specs.whole.Machine.{Code}
-use Rattle.ob_gen.specs.whole.Generated.{IsGenerated}
+use Rattle.ob_code.specs.declared.instr.CodeModule.{CodeModule}
+use Rattle.ob_code.specs.Machine.{Code}
+use Rattle.ob_gen.specs.Generated.{IsGenerated}
 use Rattle.ob_session.specs.Session.{name_of, place_of}
 use Rattle.ob_load.specs.Loading.{IsPrepared}
 use Rattle.ob_load.proofs.Loaded.{code_many, is_ready, known_many, many_put, may_begin, place_within}

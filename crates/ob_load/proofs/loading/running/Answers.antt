@@ -1,6 +1,6 @@
 use Rattle.std.proofs.Common.{Bool, List, length, ap, ◌∙◌}
 use Rattle.std.proofs.lemmas.List.{length-map}
-use Rattle.ob_code.specs.whole.Linked.{runs_of}
+use Rattle.ob_code.specs.Linked.{runs_of}
 use Rattle.ob_linked.proofs.Imports.{flags_run}
 use Rattle.ob_load.proofs.loading.running.Goals as goal
 

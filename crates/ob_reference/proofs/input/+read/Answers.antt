@@ -1,9 +1,9 @@
 use Rattle.std.proofs.Common.{◌≡◌, length, pos, arith, ◌<◌, true, Err, rules, sym, ap, ◌∙◌, subst, option_map}
-use Rattle.ob_mean.specs.whole.Values.{Cell, row}
-use Rattle.ob_mean.specs.whole.Input.{finds}
-use Rattle.ob_mean.specs.declared.whole.outcome.Outcome.TheVariants.{Stopped}
-use Rattle.ob_mean.specs.declared.whole.outcome.TurnKind.TheVariants.{LineAsked}
-use Rattle.ob_mean.specs.whole.Runs.{Stands}
+use Rattle.ob_mean.specs.Values.{Cell, row}
+use Rattle.ob_mean.specs.Input.{finds}
+use Rattle.ob_mean.specs.declared.outcome.Outcome.TheVariants.{Stopped}
+use Rattle.ob_mean.specs.declared.outcome.TurnKind.TheVariants.{LineAsked}
+use Rattle.ob_mean.specs.Runs.{Stands}
 use Rattle.ob_reference.specs.Kept.{value_in}
 use Rattle.ob_reference.specs.Reads.{Finds, GivesLine}
 use Rattle.ob_reference.specs.States.{Follows, supply_in, world_in}

@@ -1,5 +1,5 @@
 use Rattle.std.proofs.Common.{sym, subst}
-use Rattle.ob_mean.specs.whole.Input.{finds}
+use Rattle.ob_mean.specs.Input.{finds}
 use Rattle.ob_reference.specs.Reads.{Finds}
 use Rattle.ob_reference.proofs.input.find.Goals as goal
 

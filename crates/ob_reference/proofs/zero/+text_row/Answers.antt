@@ -1,6 +1,6 @@
 use Rattle.std.proofs.Common.{pos, get_or, ap, ◌∙◌, arith}
 use Rattle.ob_reference.specs.Kept.{value_in}
-use Rattle.ob_mean.specs.whole.Values.{Cell, Beside}
+use Rattle.ob_mean.specs.Values.{Cell, Beside}
 use Rattle.ob_reference.proofs.Zeros.{text_front}
 use Rattle.ob_reference.proofs.Follow.{if_ok}
 use Rattle.ob_reference.proofs.zero.+text_row.Goals as goal

@@ -1,6 +1,6 @@
 use Rattle.std.proofs.Common.{sym, ap, ◌∙◌}
-use Rattle.ob_mean.specs.whole.Values.{row}
-use Rattle.ob_mean.specs.whole.Shapes.{zero_of}
+use Rattle.ob_mean.specs.Values.{row}
+use Rattle.ob_mean.specs.Shapes.{zero_of}
 use Rattle.ob_reference.proofs.Zeros.{array_zero}
 use Rattle.ob_reference.proofs.zero.+zero.Goals as goal
 

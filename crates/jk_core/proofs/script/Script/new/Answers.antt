@@ -1,8 +1,9 @@
-use Rattle.std.proofs.Common.{Some, ◌≡◌, subst, sym, ap, arith}
+use Rattle.std.proofs.Common.{Some, ◌≡◌, [], subst, sym, ap, arith}
 use Rattle.std.specs.Prelude.{reverse, slice_get}
-use Rattle.jk_core.specs.Log.{Log, arrivals}
-use Rattle.jk_core.specs.State.{Ascends, last_leave}
+use Rattle.jk_core.specs.Log.{Log, arrivals, ended}
+use Rattle.jk_core.specs.State.{Ascends, PassedBy, last_leave}
 use Rattle.jk_core.proofs.Logs.{zeros_get}
+use Rattle.jk_core.proofs.Orders.{passed_none}
 use Rattle.jk_core.proofs.script.Script.new.Goals as goal
 
 pub invariant_of-result : goal.invariant_of-result
@@ -12,6 +13,8 @@ invariant_of-result g c =
       shown = omega arith;
       taken = sym (ap arrivals empty);
       order = subst (Ascends 0 0) (sym c.new-2.ensures.items) (omega arith);
+      passed = subst (PassedBy 0 0) (sym c.new-2.ensures.items) (passed_none 0 []);
+      ended = sym (ap ended empty);
       left = λ seat h. subst (λ (log : Log). slice_get c.none.result seat ≡ Some (last_leave seat log)) (sym empty)
           (zeros_get seat c.none.result (let seats = c.none.ensures.seats in omega (arith, h)) c.none.ensures.none);
     }

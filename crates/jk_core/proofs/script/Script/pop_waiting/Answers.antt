@@ -1,6 +1,6 @@
-use Rattle.std.proofs.Common.{sym, subst}
-use Rattle.jk_core.specs.State.{Ascends}
-use Rattle.jk_core.proofs.Orders.{popped}
+use Rattle.std.proofs.Common.{ℕ, drop, sym, subst}
+use Rattle.jk_core.specs.State.{Ascends, PassedBy}
+use Rattle.jk_core.proofs.Orders.{passed_drop, popped}
 use Rattle.jk_core.proofs.script.Script.pop_waiting.Goals as goal
 
 pub invariant_of-self : goal.invariant_of-self
@@ -8,5 +8,7 @@ invariant_of-self g c = record {
   shown = c.self.invariant.shown;
   taken = c.self.invariant.taken;
   order = subst (Ascends 0 c.self.inside.taken) (sym c.pop_front.ensures.rest) (popped 0 c.self.inside.taken c.self.inside.waiting.items c.self.invariant.order);
+  passed = subst (PassedBy c.self.inside.given c.saturating_sub-self-inside.result) (sym c.pop_front.ensures.rest) (subst (λ (n : ℕ). PassedBy c.self.inside.given n (drop 1 c.self.inside.waiting.items)) (sym c.saturating_sub-self-inside.ensures) (passed_drop c.self.inside.given c.self.inside.passed c.self.inside.waiting.items c.self.invariant.passed));
+  ended = c.self.invariant.ended;
   left = c.self.invariant.left;
 }

@@ -1,4 +1,4 @@
-use Rattle.ob_vm.specs.whole.Images.{IsOf}
+use Rattle.ob_vm.specs.Images.{IsOf}
 use Rattle.machine_tests.proofs.compiled.run.run.Given as goal
 
 abbrev pub invariant-loop : goal.invariant-loop

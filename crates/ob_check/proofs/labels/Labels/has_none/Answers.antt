@@ -1,5 +1,5 @@
 use Rattle.std.proofs.Common.{◌≡◌, ℤ, List, reverse, false, sym, ◌∙◌, ap, subst, Some, int_cmp, int_lt, is_gt, to_z, of_z, to_z-of_z, w32}
-use Rattle.ob_mean.specs.declared.whole.statement.LabelRange.{LabelRange}
+use Rattle.ob_mean.specs.declared.statement.LabelRange.{LabelRange}
 use Rattle.ob_check.specs.Labels.{is_free}
 use Rattle.ob_check.specs.LabelIndex.{last_from}
 use Rattle.ob_check.proofs.Ranges.{none_below, greatest_below, found_at_most, not_above, from_not_above}

@@ -1,6 +1,6 @@
 use Rattle.std.proofs.Common.{◌≡◌, sym, ◌∙◌}
 use Rattle.std.proofs.lemmas.Result.{IfOk-weaker}
-use Rattle.ob_mean.specs.whole.Values.{Value}
+use Rattle.ob_mean.specs.Values.{Value}
 use Rattle.ob_session.specs.Cells as cells
 use Rattle.ob_link.specs.Looking.{ready_seen, in_store, storeless}
 use Rattle.ob_link.proofs.LookedUp.{all_stored}

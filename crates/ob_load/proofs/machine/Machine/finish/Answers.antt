@@ -1,11 +1,11 @@
 use Rattle.std.proofs.Common.{◌≡◌, ◌-◌, min, ap, sym, subst, ◌∙◌, ℕ, ℤ, List, Bool, length, take, arith}
-use Rattle.ob_code.specs.whole.Linked.{all_cells, runs_of, IsLinked}
-use Rattle.ob_code.specs.whole.Machine.{Code}
+use Rattle.ob_code.specs.Linked.{all_cells, runs_of, IsLinked}
+use Rattle.ob_code.specs.Machine.{Code}
 use Rattle.ob_session.specs.Session.{Session}
 use Rattle.ob_store.specs.Stores.{store_of}
 use Rattle.ob_linked.specs.Compiled.{AreCompiled}
-use Rattle.ob_vm.specs.whole.Images as vm
-use Rattle.ob_vm.specs.whole.Steps.{SliceDone}
+use Rattle.ob_vm.specs.Images as vm
+use Rattle.ob_vm.specs.Steps.{SliceDone}
 use Rattle.ob_load.specs.Kept.{IsKept, IsHeld}
 use Rattle.jk_language.specs.MachineState.{here}
 use Rattle.ob_load.specs.MachineState.{MachineState, state_of}

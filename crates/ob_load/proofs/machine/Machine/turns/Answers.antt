@@ -1,9 +1,9 @@
 use Rattle.std.proofs.Common.{◌≡◌, ◌+◌, ◌-◌, ◌<◌, List, min, true, false, ap, subst, sym, arith, ◌∙◌, ℕ}
-use Rattle.ob_mean.specs.declared.whole.outcome.Outcome.TheVariants as why
+use Rattle.ob_mean.specs.declared.outcome.Outcome.TheVariants as why
 use Rattle.std.specs.Prelude.{slice_get}
-use Rattle.ob_vm.specs.whole.Images as vm
-use Rattle.ob_vm.specs.whole.Steps.{SliceDone}
-use Rattle.ob_vm.specs.declared.whole.run.Turned.TheVariants as slice
+use Rattle.ob_vm.specs.Images as vm
+use Rattle.ob_vm.specs.Steps.{SliceDone}
+use Rattle.ob_vm.specs.declared.run.Turned.TheVariants as slice
 use Rattle.jk_language.specs.Runs.{HasTurned}
 use Rattle.jk_language.specs.declared.outcome.Turned.TheVariants as turned
 use Rattle.ob_session.specs.Session.{Module}

@@ -1,9 +1,9 @@
 use Rattle.std.proofs.Common.{◌≡◌, ℤ, Bool, true, false, List, [], ◌∷◌, ◌++◌, length, refl, sym, ap, ◌∙◌, subst, Vec, Global, vec_capacity}
 use Rattle.ob_inout.specs.Reading.{Line, opened}
-use Rattle.ob_code.specs.declared.whole.instr.LinkedModule.{LinkedModule}
-use Rattle.ob_code.specs.whole.Linked.{all_cells, runs_of, IsLinked}
-use Rattle.ob_code.specs.whole.Machine.{Code, start}
-use Rattle.ob_vm.specs.whole.Images as vm
+use Rattle.ob_code.specs.declared.instr.LinkedModule.{LinkedModule}
+use Rattle.ob_code.specs.Linked.{all_cells, runs_of, IsLinked}
+use Rattle.ob_code.specs.Machine.{Code, start}
+use Rattle.ob_vm.specs.Images as vm
 use Rattle.ob_session.specs.Session.{Session, Module}
 use Rattle.ob_store.specs.Stores.{store_of, session_of}
 use Rattle.ob_load.specs.Commanded.{AreReady}

@@ -1,9 +1,9 @@
 use Rattle.std.proofs.Common.{◌≡◌, ℕ, ℤ, Bool, List, ap, sym, ◌∙◌, subst, arith, length}
 use Rattle.ob_types.specs.InterfaceTree.{InterfaceTree}
-use Rattle.ob_mean.specs.whole.Values.{Value}
-use Rattle.ob_code.specs.whole.Linked.{runs_of}
-use Rattle.ob_code.specs.whole.Machine.{Code}
-use Rattle.ob_vm.specs.whole.Images as vm
+use Rattle.ob_mean.specs.Values.{Value}
+use Rattle.ob_code.specs.Linked.{runs_of}
+use Rattle.ob_code.specs.Machine.{Code}
+use Rattle.ob_vm.specs.Images as vm
 use Rattle.ob_session.specs.Session.{Session, Module, installed, name_of, place_of, with_module}
 use Rattle.ob_store.specs.Stores.{loaded_cells, session_of}
 use Rattle.ob_linked.specs.Compiled.{Known}

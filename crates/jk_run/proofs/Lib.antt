@@ -1,0 +1,4 @@
+pub mod Acting
+pub mod Giving
+pub mod Around
+pub mod Rounds

@@ -1,0 +1,77 @@
+-- What a clause sees of a driver.
+use Rattle.std.specs.Prelude.{◌≡◌, ◌≢◌, ◌⊎◌, true, List, [], ◌++◌, length, Option, None, Some}
+use Rattle.std.specs.declared.vec.Vec.{Vec}
+use Rattle.std.specs.declared.alloc.Global.{Global}
+use Rattle.crossbeam_queue.specs.Fifo.{Held}
+use Rattle.jk_language.specs.Spoken.{Spoken}
+use Rattle.jk_core.specs.declared.entry.Entry.{Entry}
+use Rattle.jk_core.specs.declared.job.Job.{Job}
+use Rattle.jk_core.specs.declared.kernel.Work.{Work}
+use Rattle.jk_core.specs.declared.kernel.Work.TheVariants.{NoMemory}
+use Rattle.jk_core.specs.Log.{Log, ended}
+use Rattle.jk_core.specs.State.{KernelState, joined}
+use Rattle.jk_core.specs.Steps.{Works, first_after, without}
+use Rattle.jk_queues.specs.Ends.{taker_view, taker_inbox}
+use Rattle.jk_queues.specs.Inbox.{Stands}
+use Rattle.jk_queues.specs.Pool.{offered_by, collected_by, IsSamePool}
+use Rattle.jk_queues.specs.declared.part.Part.{Part}
+use Rattle.jk_board.specs.Ends.{published}
+use Rattle.jk_run.specs.declared.driver.Driver.{Driver}
+use Rattle.jk_run.specs.Acts.{DriverState, driven, Leads, MovesBoard}
+use Rattle.jk_run.specs.Hand.{hand}
+
+-- the kernel in which what is pending and in hand is all pending still
+abbrev pub Pends : {T : Type 0} → Option (Vec Entry Global) → KernelState T → KernelState T → Type 0
+Pends None all now = now ≡ all
+Pends (Some entries) all now = (now ≡ without (length all.pending) all) × (entries.items ≡ joined all.pending)
+
+-- by acts that move the kernel and the board, where entries that found no memory are in hand
+abbrev pub Publishes : {S T : Type 0} → Spoken S T → KernelState T → List Entry → Option (Vec Entry Global) → KernelState T → List Entry → Type 0
+Publishes {T = T} spoken old board entries new more =
+    (m : KernelState T) × Pends entries m new × MovesBoard spoken old board m more
+
+-- the inbox was empty at a moment, or the kernel was shut down and takes nothing more
+abbrev pub IsEmptied : Log → Part → Type 0
+IsEmptied log view = (ended log ≡ true) ⊎ Held 0 (Stands view)
+
+-- each request that waits was given, or a job is in hand
+abbrev pub HasGiven : {T : Type 0} → Option Job → KernelState T → Type 0
+HasGiven None k = first_after k.given k.waits ≡ None
+HasGiven (Some job) k = Unit {0}
+
+-- by a slice that answered this, and a publication of all that was pending
+abbrev pub HasWorked : {S T : Type 0} → Spoken S T → Work → KernelState T → Type 0
+HasWorked {T = T} spoken answer k =
+    (before : KernelState T) × (after : KernelState T)
+    × Works spoken 1000 before answer after × (k ≡ without (length after.pending) after)
+
+module _ {L S T M : Type 0} where
+  -- what the driver has moved, where its kernel is this: a job in hand was given, an arrival in hand was not taken
+  abbrev pub state_of : KernelState T → Driver L S T M → DriverState T
+  state_of kernel d = driven kernel (published d.publisher) (offered_by d.pool ++ hand d.job) (collected_by d.pool)
+
+  -- From one driver to another by a list of acts. Entries in hand are pending still.
+  abbrev pub HasDriven : Spoken S T → Driver L S T M → Driver L S T M → Type 0
+  HasDriven spoken old new =
+      (k : KernelState T) → Pends old.entries k old.kernel
+      → (m : KernelState T) × Pends new.entries m new.kernel × Leads spoken (state_of k old) (state_of m new)
+
+  -- the driver's ends are of the same inbox and pool
+  pub record AreSameEnds (old new : Driver L S T M) : Type 0 where
+    pub inbox : taker_inbox new.taker ≡ taker_inbox old.taker
+    pub pool : IsSamePool old.pool new.pool
+
+  -- All that there was to do was done: nothing is in hand but perhaps a job, the inbox was empty at a moment or the
+  -- kernel was shut down, each request that waits was given or its job is in hand, nothing is pending, and the last
+  -- slice answered this.
+  pub record HasDone (spoken : Spoken S T) (answer : Work) (d : Driver L S T M) : Type 0 where
+    pub arrival : d.arrival ≡ None
+    pub inbox : IsEmptied d.kernel.log (taker_view d.taker)
+    pub given : HasGiven d.job d.kernel
+    pub entries : d.entries ≡ None
+    pub pending : d.kernel.pending ≡ []
+    pub worked : HasWorked spoken answer d.kernel
+
+  -- unless a call was refused for memory
+  abbrev pub IsRound : Spoken S T → Work → Driver L S T M → Type 0
+  IsRound spoken answer d = answer ≢ NoMemory → HasDone spoken answer d

@@ -1,0 +1,4 @@
+pub mod Hand
+pub mod Acts
+pub mod Around
+pub mod Driver

@@ -1,0 +1,78 @@
+//! Publishing what is pending.
+ghost use Rattle.std.specs.Prelude.{◌≡◌, ◌++◌, true, None, Some, length, MatchOption};
+ghost use Rattle.jk_core.specs.Render.{render};
+ghost use Rattle.jk_core.specs.State.{joined};
+ghost use Rattle.jk_core.specs.Steps.{without};
+ghost use Rattle.jk_board.specs.Ends.{published};
+ghost use Rattle.jk_run.specs.Driver.{Publishes};
+ghost use Rattle.jk_run.specs.Hand.{hand_entries};
+
+use jk_board::Publisher;
+use jk_core::{Entry, Kernel};
+use jk_language::Language;
+use std::alloc::Global;
+use std::sync::Wait;
+
+/// Publishes all that is pending. It says whether it did: entries that find no memory on the board are in hand after it, or
+/// are pending still.
+pub(crate) fn publish_pending<L: Language, R: Wait>(
+    rt: &R,
+    alloc: Global,
+    kernel: &mut Kernel<L>,
+    publisher: Publisher<L>,
+) -> (Publisher<L>, Option<Vec<Entry>>, bool)
+    requires { published publisher ++ joined kernel.old.pending ≡ render kernel.old.log }
+    ensures log { kernel.new.log ≡ kernel.old.log }
+    ensures shown { published result.0 ++ (hand_entries result.1 ++ joined kernel.new.pending) ≡ render kernel.new.log }
+    ensures all { result.2 ≡ true → (result.1 ≡ None) × (kernel.new ≡ without (length kernel.old.pending) kernel.old) }
+    ensures acts { Publishes L.spoken kernel.old (published publisher) result.1 kernel.new (published result.0) }
+{
+    let marks = kernel.pending_marks();
+    match kernel.take_pending(marks) {
+        Ok(entries) => {
+            let (publisher, back) = publish(rt, alloc, kernel, publisher, entries);
+            let all = back.is_none();
+            (publisher, back, all)
+        }
+        Err(_) => (publisher, None, false),
+    }
+}
+
+/// Publishes the entries in hand, if there are any. Those that find no memory are in hand still.
+pub(crate) fn publish_hand<L: Language, R: Wait>(
+    rt: &R,
+    alloc: Global,
+    kernel: &Kernel<L>,
+    publisher: Publisher<L>,
+    entries: Option<Vec<Entry>>,
+) -> (Publisher<L>, Option<Vec<Entry>>)
+    requires { published publisher ++ (hand_entries entries ++ joined kernel.now.pending) ≡ render kernel.now.log }
+    ensures { MatchOption result.1 (published result.0 ≡ published publisher ++ hand_entries entries) (λ back. (entries ≡ Some back) × (published result.0 ≡ published publisher)) }
+{
+    match entries {
+        Some(entries) => publish(rt, alloc, kernel, publisher, entries),
+        None => (publisher, None),
+    }
+}
+
+/// Publishes entries. They come back where memory is refused.
+fn publish<L: Language, R: Wait>(
+    rt: &R,
+    alloc: Global,
+    kernel: &Kernel<L>,
+    publisher: Publisher<L>,
+    entries: Vec<Entry>,
+) -> (Publisher<L>, Option<Vec<Entry>>)
+    requires { published publisher ++ (entries.items ++ joined kernel.now.pending) ≡ render kernel.now.log }
+    ensures { MatchOption result.1 (published result.0 ≡ published publisher ++ entries.items) (λ back. (back ≡ entries) × (published result.0 ≡ published publisher)) }
+{
+    if entries.is_empty() {
+        return (publisher, None);
+    }
+    kernel.legal();
+    let (publisher, done) = publisher.publish(rt, alloc, entries);
+    match done {
+        Ok(()) => (publisher, None),
+        Err((back, _)) => (publisher, Some(back)),
+    }
+}

@@ -1,0 +1,99 @@
+//! What a driver holds.
+ghost use Rattle.std.specs.Prelude.{◌≡◌, ◌++◌, [], None};
+ghost use Rattle.jk_core.specs.Log.{takes};
+ghost use Rattle.jk_core.specs.Render.{render};
+ghost use Rattle.jk_core.specs.State.{fresh, joined};
+ghost use Rattle.jk_queues.specs.Ends.{taken_by};
+ghost use Rattle.jk_board.specs.Ends.{published};
+ghost use Rattle.jk_run.specs.Hand.{hand, hand_entries};
+
+use jk_board::Publisher;
+use jk_core::{Arrival, Entry, Job, Kernel, ParsedCell};
+use jk_language::Language;
+use jk_queues::{Pool, Taker};
+use std::alloc::Global;
+
+/// A kernel with its driver's ends of the inbox, the pool and the board. In hand is at most one arrival that found no
+/// memory in the kernel, one job that found no room in the pool, and one list of entries that found no memory on the
+/// board. A result is never in hand, since handing it to the kernel takes no memory.
+pub struct Driver<L: Language> {
+    pub(crate) alloc: Global,
+    pub(crate) kernel: Kernel<L>,
+    pub(crate) taker: Taker,
+    pub(crate) pool: Pool<ParsedCell<L>>,
+    pub(crate) publisher: Publisher<L>,
+    pub(crate) arrival: Option<Arrival>,
+    pub(crate) job: Option<Job>,
+    pub(crate) entries: Option<Vec<Entry>>,
+    /// The arrivals that the kernel took, and then the one in hand, are those that the taker took.
+    ghost took: { takes kernel.log ++ hand arrival ≡ taken_by taker },
+    /// What was published, what is in hand and what is pending are what is shown of the log.
+    ghost shown: { published publisher ++ (hand_entries entries ++ joined kernel.pending) ≡ render kernel.log },
+}
+
+/// What a driver was made of, and what it has in hand.
+pub struct Parts<L: Language> {
+    pub kernel: Kernel<L>,
+    pub taker: Taker,
+    pub pool: Pool<ParsedCell<L>>,
+    pub publisher: Publisher<L>,
+    pub arrival: Option<Arrival>,
+    pub job: Option<Job>,
+    pub entries: Option<Vec<Entry>>,
+}
+
+impl<L: Language> Driver<L> {
+    /// The driver of a kernel that has taken nothing, with new ends.
+    pub fn new(
+        alloc: Global,
+        kernel: Kernel<L>,
+        taker: Taker,
+        pool: Pool<ParsedCell<L>>,
+        publisher: Publisher<L>,
+    ) -> Driver<L>
+        requires kernel { kernel ≡ fresh }
+        requires taker { taken_by taker ≡ [] }
+        requires publisher { published publisher ≡ [] }
+        ensures kernel { result.kernel ≡ kernel }
+        ensures ends { (result.taker ≡ taker) × (result.pool ≡ pool) × (result.publisher ≡ publisher) }
+        ensures hands { (result.arrival ≡ None) × (result.job ≡ None) × (result.entries ≡ None) }
+    {
+        Driver {
+            alloc,
+            kernel,
+            taker,
+            pool,
+            publisher,
+            arrival: None,
+            job: None,
+            entries: None,
+        }
+    }
+
+    /// Takes the driver apart. Its publisher has to be ended.
+    pub fn into_parts(self) -> Parts<L>
+        ensures kernel { result.kernel ≡ self.kernel }
+        ensures ends { (result.taker ≡ self.taker) × (result.pool ≡ self.pool) × (result.publisher ≡ self.publisher) }
+        ensures hands { (result.arrival ≡ self.arrival) × (result.job ≡ self.job) × (result.entries ≡ self.entries) }
+    {
+        let Driver {
+            alloc: _,
+            kernel,
+            taker,
+            pool,
+            publisher,
+            arrival,
+            job,
+            entries,
+        } = self;
+        Parts {
+            kernel,
+            taker,
+            pool,
+            publisher,
+            arrival,
+            job,
+            entries,
+        }
+    }
+}

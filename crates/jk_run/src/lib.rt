@@ -1,0 +1,16 @@
+//! The driver of a kernel: it takes what seats send, gives jobs to the pool, hands results to the kernel, works, and
+//! publishes.
+#![tactic(auto)]
+
+mod arrivals;
+mod board;
+mod driver;
+mod jobs;
+mod law;
+mod round;
+mod running;
+
+pub use driver::{Driver, Parts};
+pub use law::act_law;
+pub use round::drive_some;
+pub use running::drive;

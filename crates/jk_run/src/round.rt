@@ -1,0 +1,123 @@
+//! Rounds of a driver.
+ghost use Rattle.std.specs.Prelude.{◌≡◌, ◌≢◌, ◌≤◌, true, None};
+ghost use Rattle.jk_core.specs.Legal.{IsLegal};
+ghost use Rattle.jk_core.specs.declared.kernel.Work.TheVariants.{NoMemory};
+ghost use Rattle.jk_run.specs.Driver.{HasDriven, AreSameEnds, IsRound};
+
+use crate::arrivals::take_arrivals;
+use crate::board::{publish_hand, publish_pending};
+use crate::driver::Driver;
+use crate::jobs::{give_jobs, hand_results};
+use jk_core::Work;
+use jk_language::Language;
+use std::sync::Wait;
+
+/// The turns of a slice.
+const SLICE: u64 = 1_000;
+
+/// Makes so many rounds, and answers the slice of the last one, or `NoMemory` where a call of that round was refused for
+/// memory. A round takes what arrived, gives jobs, hands results to the kernel, works one slice and publishes.
+pub fn drive_some<L: Language, R: Wait>(rt: &R, rounds: u64, driver: Driver<L>) -> (Driver<L>, Work)
+    requires { 1 ≤ rounds }
+    ensures acts { HasDriven L.spoken driver result.0 }
+    ensures same { AreSameEnds driver result.0 }
+    ensures done { IsRound L.spoken result.1 result.0 }
+    ensures legal { IsLegal L.spoken result.0.kernel.log }
+{
+    let (mut driver, mut work) = round(rt, driver);
+    for _ in 1..rounds {
+        let (next, answer) = round(rt, driver);
+        driver = next;
+        work = answer;
+    }
+    driver.kernel.legal();
+    (driver, work)
+}
+
+/// One round. Where entries in hand find no memory again, it is over.
+pub(crate) fn round<L: Language, R: Wait>(rt: &R, driver: Driver<L>) -> (Driver<L>, Work)
+    ensures acts { HasDriven L.spoken driver result.0 }
+    ensures same { AreSameEnds driver result.0 }
+    ensures done { IsRound L.spoken result.1 result.0 }
+{
+    let driver = show_hand(rt, driver);
+    if driver.entries.is_some() {
+        return (driver, Work::NoMemory);
+    }
+    go_round(rt, driver)
+}
+
+/// Publishes the entries in hand.
+fn show_hand<L: Language, R: Wait>(rt: &R, driver: Driver<L>) -> Driver<L>
+    ensures acts { HasDriven L.spoken driver result }
+    ensures same { AreSameEnds driver result }
+{
+    let Driver {
+        alloc,
+        kernel,
+        taker,
+        pool,
+        publisher,
+        arrival,
+        job,
+        entries,
+    } = driver;
+    let (publisher, entries) = publish_hand(rt, alloc, &kernel, publisher, entries);
+    Driver {
+        alloc,
+        kernel,
+        taker,
+        pool,
+        publisher,
+        arrival,
+        job,
+        entries,
+    }
+}
+
+/// A round of a driver with no entries in hand.
+fn go_round<L: Language, R: Wait>(rt: &R, driver: Driver<L>) -> (Driver<L>, Work)
+    requires { driver.entries ≡ None }
+    ensures acts { HasDriven L.spoken driver result.0 }
+    ensures same { AreSameEnds driver result.0 }
+    ensures done { IsRound L.spoken result.1 result.0 }
+{
+    let Driver {
+        alloc,
+        mut kernel,
+        taker,
+        mut pool,
+        publisher,
+        arrival,
+        job,
+        entries: _,
+    } = driver;
+    let (taker, arrival) = take_arrivals(rt, &mut kernel, taker, arrival);
+    let (job, gave) = give_jobs(rt, &mut kernel, &mut pool, job);
+    hand_results(rt, &mut kernel, &mut pool);
+    let work = kernel.work(SLICE);
+    let (publisher, entries, shown) = publish_pending(rt, alloc, &mut kernel, publisher);
+    let taken = arrival.is_none();
+    let next = Driver {
+        alloc,
+        kernel,
+        taker,
+        pool,
+        publisher,
+        arrival,
+        job,
+        entries,
+    };
+    (next, answer_of(taken, gave, shown, work))
+}
+
+/// What a round answers: that of its slice, where memory was there for all else.
+fn answer_of(taken: bool, gave: bool, shown: bool, work: Work) -> Work
+    ensures { result ≢ NoMemory → (taken ≡ true) × (gave ≡ true) × (shown ≡ true) × (result ≡ work) }
+{
+    if taken && gave && shown {
+        work
+    } else {
+        Work::NoMemory
+    }
+}

@@ -1,0 +1,174 @@
+-- Which answer a request has, over the tables, the kernels that run and the shelf.
+use Rattle.std.specs.Prelude.{◌≡◌, ◌⊎◌, ◌==◌, ℕ, List, [], Option, Some, None, Result, Ok, Err, get_or}
+use Rattle.std.specs.List.{before_first}
+use Rattle.js_http.specs.Targets.{segments_of}
+use Rattle.js_http.specs.declared.method.Method.{Method}
+use Rattle.js_http.specs.declared.method.Method.TheVariants.{Get, Post, Put, Patch, Delete, Other}
+use Rattle.js_http.specs.declared.request.Request.{Request}
+use Rattle.js_http.specs.declared.response.ErrorStatus.{ErrorStatus}
+use Rattle.js_http.specs.declared.response.ErrorStatus.TheVariants.{NotFound, MethodNotAllowed, InternalServerError, NotImplemented}
+use Rattle.js_http.specs.declared.response.Response.TheVariants.{Refused}
+use Rattle.js_shelf.specs.Shelves.{Contents, Same}
+use Rattle.js_tables.specs.declared.given.Given.{Given}
+use Rattle.js_tables.specs.declared.plan.Answer.{Answer}
+use Rattle.js_tables.specs.declared.plan.Answer.TheVariants.{Reply}
+use Rattle.js_tables.specs.declared.plan.Command.{Command}
+use Rattle.js_tables.specs.declared.plan.Plan.{Plan}
+use Rattle.js_tables.specs.declared.refusal.Refusal.{Refusal}
+use Rattle.js_tables.specs.Plans.{Gives, updated, status_of}
+use Rattle.js_tables.specs.Tables.{Rows}
+use Rattle.js_rest.specs.declared.route.Route.{Route}
+use Rattle.js_rest.specs.declared.route.Route.TheVariants as route
+use Rattle.js_rest.specs.declared.untold.Untold.{Untold}
+use Rattle.js_rest.specs.Changes.{Tries, TriesAlone}
+use Rattle.js_rest.specs.Kernels as kernels
+use Rattle.js_rest.specs.Routes.{route_of}
+use Rattle.js_rest.specs.Sessions as sessions
+
+-- the path of a request, and its segments with their escapes read
+abbrev pub path_of : Request → List ℕ
+path_of request = before_first (λ byte. byte == 63) request.target
+
+abbrev pub segment : Request → ℕ → List ℕ
+segment request place = get_or (segments_of (path_of request)) place []
+
+-- ---- the methods of each route: what is not named is 405
+
+abbrev pub version_plan : Method → Result Plan ErrorStatus
+version_plan Get = kernels.version_plan
+version_plan Post = Err MethodNotAllowed
+version_plan Put = Err MethodNotAllowed
+version_plan Patch = Err MethodNotAllowed
+version_plan Delete = Err MethodNotAllowed
+version_plan Other = Err MethodNotAllowed
+
+abbrev pub kernelspecs_plan : Method → Result Plan ErrorStatus
+kernelspecs_plan Get = kernels.kernelspecs_plan
+kernelspecs_plan Post = Err MethodNotAllowed
+kernelspecs_plan Put = Err MethodNotAllowed
+kernelspecs_plan Patch = Err MethodNotAllowed
+kernelspecs_plan Delete = Err MethodNotAllowed
+kernelspecs_plan Other = Err MethodNotAllowed
+
+abbrev pub kernels_plan : Method → Rows → Given → Request → Result Plan ErrorStatus
+kernels_plan Get r given request = kernels.all_plan r
+kernels_plan Post r given request = kernels.create_plan given request.body r
+kernels_plan Put r given request = Err MethodNotAllowed
+kernels_plan Patch r given request = Err MethodNotAllowed
+kernels_plan Delete r given request = Err MethodNotAllowed
+kernels_plan Other r given request = Err MethodNotAllowed
+
+abbrev pub kernel_plan : Method → List ℕ → Rows → Result Plan ErrorStatus
+kernel_plan Get id r = kernels.one_plan id r
+kernel_plan Post id r = Err MethodNotAllowed
+kernel_plan Put id r = Err MethodNotAllowed
+kernel_plan Patch id r = Err MethodNotAllowed
+kernel_plan Delete id r = kernels.end_plan id r
+kernel_plan Other id r = Err MethodNotAllowed
+
+abbrev pub interrupt_plan : Method → List ℕ → Rows → Result Plan ErrorStatus
+interrupt_plan Get id r = Err MethodNotAllowed
+interrupt_plan Post id r = kernels.interrupt_plan id r
+interrupt_plan Put id r = Err MethodNotAllowed
+interrupt_plan Patch id r = Err MethodNotAllowed
+interrupt_plan Delete id r = Err MethodNotAllowed
+interrupt_plan Other id r = Err MethodNotAllowed
+
+abbrev pub restart_plan : Method → List ℕ → Rows → Result Plan ErrorStatus
+restart_plan Get id r = Err MethodNotAllowed
+restart_plan Post id r = kernels.restart_plan id r
+restart_plan Put id r = Err MethodNotAllowed
+restart_plan Patch id r = Err MethodNotAllowed
+restart_plan Delete id r = Err MethodNotAllowed
+restart_plan Other id r = Err MethodNotAllowed
+
+abbrev pub channels_plan : Method → List ℕ → Rows → Result Plan ErrorStatus
+channels_plan Get id r = kernels.channels_plan id r
+channels_plan Post id r = Err MethodNotAllowed
+channels_plan Put id r = Err MethodNotAllowed
+channels_plan Patch id r = Err MethodNotAllowed
+channels_plan Delete id r = Err MethodNotAllowed
+channels_plan Other id r = Err MethodNotAllowed
+
+abbrev pub sessions_plan : Method → Rows → Result Plan ErrorStatus
+sessions_plan Get r = sessions.all_plan r
+sessions_plan Post r = Err NotImplemented
+sessions_plan Put r = Err MethodNotAllowed
+sessions_plan Patch r = Err MethodNotAllowed
+sessions_plan Delete r = Err MethodNotAllowed
+sessions_plan Other r = Err MethodNotAllowed
+
+abbrev pub session_plan : Method → List ℕ → List ℕ → Rows → Result Plan ErrorStatus
+session_plan Get id body r = sessions.one_plan id r
+session_plan Post id body r = Err MethodNotAllowed
+session_plan Put id body r = Err MethodNotAllowed
+session_plan Patch id body r = sessions.change_plan id body r
+session_plan Delete id body r = sessions.end_plan id r
+session_plan Other id body r = Err MethodNotAllowed
+
+-- ---- all routes
+
+abbrev pub tables_plan : Route → Rows → Given → Request → Result Plan ErrorStatus
+tables_plan route.Version r given request = version_plan request.method
+tables_plan route.Kernelspecs r given request = kernelspecs_plan request.method
+tables_plan route.Kernels r given request = kernels_plan request.method r given request
+tables_plan route.Kernel r given request = kernel_plan request.method (segment request 3) r
+tables_plan route.Interrupt r given request = interrupt_plan request.method (segment request 3) r
+tables_plan route.Restart r given request = restart_plan request.method (segment request 3) r
+tables_plan route.Channels r given request = channels_plan request.method (segment request 3) r
+tables_plan route.Sessions r given request = sessions_plan request.method r
+tables_plan route.Session r given request = session_plan request.method (segment request 3) request.body r
+tables_plan route.Contents r given request = Err NotImplemented
+
+abbrev pub plan_at : Option Route → Rows → Given → Request → Result Plan ErrorStatus
+plan_at None r given request = Err NotFound
+plan_at (Some route) r given request = tables_plan route r given request
+
+-- the plan of a request, or the status that refuses it
+abbrev pub plan_of : Rows → Given → Request → Result Plan ErrorStatus
+plan_of r given request = plan_at (route_of (path_of request)) r given request
+
+-- ---- what becomes of a plan
+
+-- where the change succeeded the tables change too, and else nothing has changed but what the change says
+abbrev pub Ends : Plan → Result (Unit {0}) ErrorStatus → Rows → Rows → Answer → Type 0
+Ends plan (Ok done) r s answer = (s ≡ updated plan.update r) × (answer ≡ plan.answer)
+Ends plan (Err status) r s answer = (s ≡ r) × (answer ≡ Reply (Refused status))
+
+module _ {L : Type 0} (begins : L → List ℕ → L → Type 0) (tells : L → List ℕ → Command → Result (Unit {0}) Untold → L → Type 0) where
+  -- nothing has changed
+  abbrev pub Stays : Rows → Rows → L → L → Contents → Contents → Type 0
+  Stays r s l k m n = (s ≡ r) × (k ≡ l) × Same m n
+
+  -- there was no memory, or the change was tried
+  abbrev pub CarriesOut : Plan → Rows → Rows → L → L → Answer → Contents → Contents → Type 0
+  CarriesOut plan r s l k answer m n =
+      ((answer ≡ Reply (Refused InternalServerError)) × Stays r s l k m n)
+      ⊎ ((done : Result (Unit {0}) ErrorStatus) × Tries begins tells plan.change done l k m n × Ends plan done r s answer)
+
+  -- what was found is carried out, or its status is the answer
+  abbrev pub Follows : Result Plan Refusal → Rows → Rows → L → L → Answer → Contents → Contents → Type 0
+  Follows (Ok plan) r s l k answer m n = CarriesOut plan r s l k answer m n
+  Follows (Err refusal) r s l k answer m n = (answer ≡ Reply (Refused (status_of refusal))) × Stays r s l k m n
+
+  -- the answer to a request
+  abbrev pub IsAnswer : Given → Request → Rows → Rows → L → L → Answer → Contents → Contents → Type 0
+  IsAnswer given request r s l k answer m n =
+      (found : Result Plan Refusal) × Gives found (plan_of r given request) × Follows found r s l k answer m n
+
+  -- the same without a word on the shelf
+  abbrev pub StaysAlone : Rows → Rows → L → L → Type 0
+  StaysAlone r s l k = (s ≡ r) × (k ≡ l)
+
+  abbrev pub CarriesOutAlone : Plan → Rows → Rows → L → L → Answer → Type 0
+  CarriesOutAlone plan r s l k answer =
+      ((answer ≡ Reply (Refused InternalServerError)) × StaysAlone r s l k)
+      ⊎ ((done : Result (Unit {0}) ErrorStatus) × TriesAlone begins tells plan.change done l k × Ends plan done r s answer)
+
+  abbrev pub FollowsAlone : Result Plan Refusal → Rows → Rows → L → L → Answer → Type 0
+  FollowsAlone (Ok plan) r s l k answer = CarriesOutAlone plan r s l k answer
+  FollowsAlone (Err refusal) r s l k answer = (answer ≡ Reply (Refused (status_of refusal))) × StaysAlone r s l k
+
+  abbrev pub IsAnswerAlone : Given → Request → Rows → Rows → L → L → Answer → Type 0
+  IsAnswerAlone given request r s l k answer =
+      (found : Result Plan Refusal) × Gives found (plan_of r given request) × FollowsAlone found r s l k answer

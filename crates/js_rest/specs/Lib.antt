@@ -1,0 +1,5 @@
+pub mod Routes
+pub mod Kernels
+pub mod Sessions
+pub mod Changes
+pub mod Answers

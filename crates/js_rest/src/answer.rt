@@ -1,0 +1,283 @@
+//! The answer to a request.
+ghost use Rattle.std.specs.Prelude.{◌≡◌, get_or, [], IfOk};
+ghost use Rattle.js_http.specs.Targets.{segments_of};
+ghost use Rattle.js_shelf.specs.Shelves.{Tells};
+ghost use Rattle.js_rest.specs.Answers as spec;
+ghost use Rattle.js_rest.specs.Changes.{Tries, TriesAlone, told, told_command};
+ghost use Rattle.js_rest.specs.Routes.{table};
+ghost use Rattle.js_tables.specs.Plans.{Gives};
+ghost use Rattle.js_tables.specs.Tables.{rows, no_rows};
+
+use crate::route::{Route, find, routes};
+use crate::running::Running;
+use crate::untold::Untold;
+use crate::{kernels, sessions};
+use js_http::{ErrorStatus, Method, Request, Response, path_segments};
+use js_shelf::{Shelf, ShelfRefusal};
+use js_tables::{Answer, Change, Given, Plan, Refusal, Tables};
+use json_form::Text;
+use matchit::{InsertError, Router};
+use std::alloc::Global;
+
+/// The server's tables, the kernels that run, and the table of routes.
+#[derive(Drop)]
+pub struct Manager<L: Running> {
+    router: Router<Route>,
+    pub tables: Tables,
+    pub running: L,
+    ghost routed: { router ≡ table },
+}
+
+// ---- carrying a plan out
+
+fn told_of(answer: Result<(), ShelfRefusal>) -> Result<(), ErrorStatus>
+    ensures { result ≡ told answer }
+{
+    match answer {
+        Ok(()) => Ok(()),
+        Err(cause) => Err(Refusal::from(cause).status()),
+    }
+}
+
+fn status_of(answer: Result<(), Untold>) -> Result<(), ErrorStatus>
+    ensures { result ≡ told_command answer }
+{
+    match answer {
+        Ok(()) => Ok(()),
+        Err(Untold::Full) => Err(ErrorStatus::ServiceUnavailable),
+        Err(Untold::Memory) => Err(ErrorStatus::InternalServerError),
+    }
+}
+
+fn try_change<L: Running, S: Shelf>(
+    running: &mut L,
+    shelf: &mut S,
+    change: Change,
+) -> Result<(), ErrorStatus>
+    ensures shelf { Tells (S.contents shelf.old) (S.contents shelf.new)
+        (Tries L.begins L.tells change result running.old running.new) }
+    ensures alone { TriesAlone L.begins L.tells change result running.old running.new }
+{
+    match change {
+        Change::Nothing => Ok(()),
+        Change::Put(path, item) => told_of(shelf.put(path.as_str(), item)),
+        Change::Delete(path) => told_of(shelf.delete(path.as_str())),
+        Change::Rename(from, to) => told_of(shelf.rename(from.as_str(), to.as_str())),
+        Change::Begin(id) => match running.begin(id.as_str()) {
+            Ok(()) => Ok(()),
+            Err(_) => Err(ErrorStatus::InternalServerError),
+        },
+        Change::Tell(id, command) => status_of(running.tell(id.as_str(), command)),
+    }
+}
+
+// ---- finding the plan
+
+fn version(alloc: Global, method: Method) -> Result<Plan, Refusal>
+    ensures { Gives result (spec.version_plan method) }
+{
+    match method {
+        Method::Get => kernels::version(alloc),
+        _ => Err(Refusal::Status(ErrorStatus::MethodNotAllowed)),
+    }
+}
+
+fn kernelspecs(alloc: Global, method: Method) -> Result<Plan, Refusal>
+    ensures { Gives result (spec.kernelspecs_plan method) }
+{
+    match method {
+        Method::Get => kernels::kernelspecs(alloc),
+        _ => Err(Refusal::Status(ErrorStatus::MethodNotAllowed)),
+    }
+}
+
+fn all_kernels(
+    alloc: Global,
+    tables: &Tables,
+    given: &Given,
+    request: &Request,
+) -> Result<Plan, Refusal>
+    ensures { Gives result (spec.kernels_plan request.now.method (rows tables.now) given.now request.now) }
+{
+    match request.method {
+        Method::Get => kernels::all(alloc, tables),
+        Method::Post => kernels::create(alloc, tables, given, request.body.as_slice()),
+        _ => Err(Refusal::Status(ErrorStatus::MethodNotAllowed)),
+    }
+}
+
+fn one_kernel(alloc: Global, tables: &Tables, method: Method, id: &[u8]) -> Result<Plan, Refusal>
+    ensures { Gives result (spec.kernel_plan method id.now (rows tables.now)) }
+{
+    match method {
+        Method::Get => kernels::one(alloc, tables, id),
+        Method::Delete => kernels::end(tables, id),
+        _ => Err(Refusal::Status(ErrorStatus::MethodNotAllowed)),
+    }
+}
+
+fn interrupt(tables: &Tables, method: Method, id: &[u8]) -> Result<Plan, Refusal>
+    ensures { Gives result (spec.interrupt_plan method id.now (rows tables.now)) }
+{
+    match method {
+        Method::Post => kernels::interrupt(tables, id),
+        _ => Err(Refusal::Status(ErrorStatus::MethodNotAllowed)),
+    }
+}
+
+fn restart(alloc: Global, tables: &Tables, method: Method, id: &[u8]) -> Result<Plan, Refusal>
+    ensures { Gives result (spec.restart_plan method id.now (rows tables.now)) }
+{
+    match method {
+        Method::Post => kernels::restart(alloc, tables, id),
+        _ => Err(Refusal::Status(ErrorStatus::MethodNotAllowed)),
+    }
+}
+
+fn channels(tables: &Tables, method: Method, id: &[u8]) -> Result<Plan, Refusal>
+    ensures { Gives result (spec.channels_plan method id.now (rows tables.now)) }
+{
+    match method {
+        Method::Get => kernels::channels(tables, id),
+        _ => Err(Refusal::Status(ErrorStatus::MethodNotAllowed)),
+    }
+}
+
+fn all_sessions(alloc: Global, tables: &Tables, method: Method) -> Result<Plan, Refusal>
+    ensures { Gives result (spec.sessions_plan method (rows tables.now)) }
+{
+    match method {
+        Method::Get => sessions::all(alloc, tables),
+        Method::Post => Err(Refusal::Status(ErrorStatus::NotImplemented)),
+        _ => Err(Refusal::Status(ErrorStatus::MethodNotAllowed)),
+    }
+}
+
+fn one_session(
+    alloc: Global,
+    tables: &Tables,
+    request: &Request,
+    id: &[u8],
+) -> Result<Plan, Refusal>
+    ensures { Gives result (spec.session_plan request.now.method id.now request.now.body (rows tables.now)) }
+{
+    match request.method {
+        Method::Get => sessions::one(alloc, tables, id),
+        Method::Patch => sessions::patch(alloc, tables, id, request.body.as_slice()),
+        Method::Delete => sessions::end(tables, id),
+        _ => Err(Refusal::Status(ErrorStatus::MethodNotAllowed)),
+    }
+}
+
+// A segment of the path of a request, or no bytes.
+fn segment(segments: &[js_http::Bytes], place: usize) -> &[u8]
+    ensures { result.now ≡ get_or segments.now place [] }
+{
+    match segments.get(place) {
+        Some(bytes) => bytes.as_slice(),
+        None => &[],
+    }
+}
+
+// The plan of a request on what stands in the tables alone.
+fn tables_plan(
+    alloc: Global,
+    route: Route,
+    tables: &Tables,
+    given: &Given,
+    request: &Request,
+    segments: &[js_http::Bytes],
+) -> Result<Plan, Refusal>
+    requires { segments.now ≡ segments_of (spec.path_of request.now) }
+    ensures { Gives result (spec.tables_plan route (rows tables.now) given.now request.now) }
+{
+    let id = segment(segments, 3);
+    match route {
+        Route::Version => version(alloc, request.method),
+        Route::Kernelspecs => kernelspecs(alloc, request.method),
+        Route::Kernels => all_kernels(alloc, tables, given, request),
+        Route::Kernel => one_kernel(alloc, tables, request.method, id),
+        Route::Interrupt => interrupt(tables, request.method, id),
+        Route::Restart => restart(alloc, tables, request.method, id),
+        Route::Channels => channels(tables, request.method, id),
+        Route::Sessions => all_sessions(alloc, tables, request.method),
+        Route::Session => one_session(alloc, tables, request, id),
+        Route::Contents => Err(Refusal::Status(ErrorStatus::NotImplemented)),
+    }
+}
+
+// The plan of a request.
+fn find_plan(
+    alloc: Global,
+    router: &Router<Route>,
+    tables: &Tables,
+    given: &Given,
+    request: &Request,
+) -> Result<Plan, Refusal>
+    requires { router.now ≡ table }
+    ensures { Gives result (spec.plan_of (rows tables.now) given.now request.now) }
+{
+    let segments = path_segments(alloc, request.path())?;
+    match find(router, request.path()) {
+        None => Err(Refusal::Status(ErrorStatus::NotFound)),
+        Some(route) => tables_plan(alloc, route, tables, given, request, segments.as_slice()),
+    }
+}
+
+impl<L: Running> Manager<L> {
+    /// No kernels, at the moment of the server's start, in microseconds since 1970.
+    ///
+    /// # Errors
+    /// Where there is no memory.
+    pub fn new(alloc: Global, start: Text, running: L) -> Result<Manager<L>, InsertError>
+        ensures tables { IfOk result (λ manager. rows manager.tables ≡ no_rows start) }
+        ensures running { IfOk result (λ manager. manager.running ≡ running) }
+    {
+        Ok(Manager {
+            router: routes(alloc)?,
+            tables: Tables::new(alloc, start),
+            running,
+        })
+    }
+
+    fn carry_out<S: Shelf>(&mut self, shelf: &mut S, plan: Plan) -> Answer
+        ensures shelf { Tells (S.contents shelf.old) (S.contents shelf.new)
+            (spec.CarriesOut L.begins L.tells plan (rows self.old.tables) (rows self.new.tables) self.old.running self.new.running result) }
+        ensures alone { spec.CarriesOutAlone L.begins L.tells plan (rows self.old.tables) (rows self.new.tables) self.old.running self.new.running result }
+    {
+        let Plan {
+            change,
+            update,
+            answer,
+        } = plan;
+        if self.tables.make_room().is_err() {
+            return Answer::Reply(Response::Refused(ErrorStatus::InternalServerError));
+        }
+        match try_change(&mut self.running, shelf, change) {
+            Ok(()) => {
+                self.tables.update(update);
+                answer
+            }
+            Err(status) => Answer::Reply(Response::Refused(status)),
+        }
+    }
+
+    /// Answers a request.
+    pub fn answer<S: Shelf>(
+        &mut self,
+        alloc: Global,
+        shelf: &mut S,
+        given: &Given,
+        request: &Request,
+    ) -> Answer
+        ensures shelf { Tells (S.contents shelf.old) (S.contents shelf.new)
+            (spec.IsAnswer L.begins L.tells given.now request.now (rows self.old.tables) (rows self.new.tables) self.old.running self.new.running result) }
+        // The same is so of the answer, the tables and the kernels whatever the shelf tells.
+        ensures alone { spec.IsAnswerAlone L.begins L.tells given.now request.now (rows self.old.tables) (rows self.new.tables) self.old.running self.new.running result }
+    {
+        match find_plan(alloc, &self.router, &self.tables, given, request) {
+            Ok(plan) => self.carry_out(shelf, plan),
+            Err(refusal) => Answer::Reply(Response::Refused(refusal.status())),
+        }
+    }
+}

@@ -1,0 +1,16 @@
+//! The routes of the server (Jupyter Server REST API): a request is answered over the tables, the kernels that run and a
+//! shelf of files.
+#![tactic(auto)]
+
+mod answer;
+mod kernels;
+mod route;
+mod running;
+mod sessions;
+mod untold;
+
+pub use answer::Manager;
+pub use kernels::MAX_KERNELS;
+pub use route::{Route, routes_law};
+pub use running::Running;
+pub use untold::Untold;

@@ -1,0 +1,4 @@
+pub mod Rows
+pub mod Giving
+pub mod Dates
+pub mod SessionForms

@@ -1,0 +1,68 @@
+-- The tables, as lists.
+use Rattle.std.specs.Prelude.{ℕ, ◌<◌, vec_len, vec_capacity, List, [], ◌∷◌, ◌++◌, filter, not, Option, Some, None}
+use Rattle.std.specs.List.{find}
+use Rattle.std.specs.Str.{bytes_eq}
+use Rattle.js_tables.specs.declared.tables.Kernel.{Kernel}
+use Rattle.js_tables.specs.declared.tables.Dated.{Dated}
+use Rattle.js_tables.specs.declared.tables.Recording.{Recording}
+use Rattle.js_tables.specs.declared.tables.Tables.{Tables}
+
+pub record Rows : Type 0 where
+  pub start : List ℕ
+  pub kernels : List Kernel
+  pub dates : List Dated
+  pub recordings : List Recording
+
+abbrev pub rows : Tables → Rows
+rows t = record { start = t.start; kernels = t.kernels.items; dates = t.dates.items; recordings = t.recordings.items }
+
+abbrev pub no_rows : List ℕ → Rows
+no_rows start = record { start = start; kernels = []; dates = []; recordings = [] }
+
+-- there is room for one more row in each table
+pub record HasRoom (t : Tables) : Type 0 where
+  pub kernels : vec_len t.kernels < vec_capacity t.kernels
+  pub dates : vec_len t.dates < vec_capacity t.dates
+  pub recordings : vec_len t.recordings < vec_capacity t.recordings
+
+-- ---- kernels
+
+-- the first kernel of that identifier
+abbrev pub find_kernel : List ℕ → List Kernel → Option Kernel
+find_kernel id ks = find (λ k. bytes_eq k.id id) ks
+
+-- a recorder that came with a new session, if there is one
+abbrev pub with_recording : Option Recording → List Recording → List Recording
+with_recording None cs = cs
+with_recording (Some c) cs = cs ++ c ∷ []
+
+abbrev pub add_kernel : Kernel → Option Recording → Rows → Rows
+add_kernel k c r = record r { kernels = r.kernels ++ k ∷ []; recordings = with_recording c r.recordings }
+
+abbrev pub set_kernels : List Kernel → Option Recording → Rows → Rows
+set_kernels ks c r = record r { kernels = ks; recordings = with_recording c r.recordings }
+
+-- the rows without that kernel, its session and its recorder
+abbrev pub drop_kernel : List ℕ → Rows → Rows
+drop_kernel id r = record r {
+  kernels = filter (λ k. not (bytes_eq k.id id)) r.kernels;
+  recordings = filter (λ c. not (bytes_eq c.kernel id)) r.recordings;
+}
+
+-- ---- dates
+
+abbrev pub date_or : List ℕ → Option Dated → List ℕ
+date_or start None = start
+date_or start (Some d) = d.date
+
+-- the date of the last put of the file at a path, or else of the server's start
+abbrev pub date_at : List ℕ → Rows → List ℕ
+date_at path r = date_or r.start (find (λ d. bytes_eq d.path path) r.dates)
+
+abbrev pub drop_date : List ℕ → Rows → Rows
+drop_date path r = record r { dates = filter (λ d. not (bytes_eq d.path path)) r.dates }
+
+-- the rows with that date at the path
+abbrev pub set_date : List ℕ → List ℕ → Rows → Rows
+set_date path date r =
+    record r { dates = (drop_date path r).dates ++ (record { path = path; date = date }) ∷ [] }

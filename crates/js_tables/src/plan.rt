@@ -1,0 +1,73 @@
+//! What is to be done for a request, once it has been judged.
+ghost use Rattle.std.specs.Prelude.{◌≡◌};
+ghost use Rattle.js_tables.specs.Plans as spec;
+
+use crate::tables::{Dated, Kernel, Recording};
+use js_http::Response;
+use js_shelf::Item;
+use json_form::Text;
+use nb_doc::Listed;
+
+/// A change of the tables, which needs no memory.
+#[derive(Drop)]
+pub enum Update {
+    Same,
+    /// A kernel, with the recorder of its session.
+    AddKernel(Kernel, Option<Recording>),
+    /// The kernel goes, with its session and its recorder.
+    DropKernel(Text),
+    /// The sessions of kernels have changed, and there is one more recorder or none.
+    SetKernels(Listed<Kernel>, Option<Recording>),
+    /// The date of a path.
+    SetDate(Text, Text),
+    DropDate(Text),
+    /// Paths of sessions and of dates have changed.
+    Move(Listed<Kernel>, Listed<Dated>),
+}
+
+/// What a kernel is told on its control channel.
+#[derive(Clone, Copy, Debug, PartialEq, Eq)]
+pub enum Command {
+    Interrupt,
+    Restart,
+    Shutdown,
+}
+
+/// The one call that a request makes on what stands outside the tables, and that may be refused.
+#[derive(Drop)]
+pub enum Change {
+    Nothing,
+    Put(Text, Item),
+    Delete(Text),
+    Rename(Text, Text),
+    /// A kernel of that identifier is made.
+    Begin(Text),
+    Tell(Text, Command),
+}
+
+/// What a request is answered.
+#[derive(Drop)]
+pub enum Answer {
+    Reply(Response),
+    /// The channels of the kernel of that identifier are to be opened.
+    Channels(Text),
+}
+
+/// The change that is tried first, and what follows where it succeeds.
+#[derive(Drop)]
+pub struct Plan {
+    pub change: Change,
+    pub update: Update,
+    pub answer: Answer,
+}
+
+/// A plan that changes nothing.
+pub fn reply(response: Response) -> Plan
+    ensures { result ≡ spec.reply response }
+{
+    Plan {
+        change: Change::Nothing,
+        update: Update::Same,
+        answer: Answer::Reply(response),
+    }
+}

@@ -1,0 +1,223 @@
+//! What the server knows of its kernels, sessions and files, as plain data.
+ghost use Rattle.std.specs.Prelude.{◌≡◌, ◌<◌, ◌≤◌, vec_len, vec_capacity, filter, not, OnOk};
+ghost use Rattle.std.specs.List.{find};
+ghost use Rattle.std.specs.Str.{bytes_eq};
+ghost use Rattle.std.specs.Option.{option_copied};
+ghost use Rattle.js_tables.specs.Tables as spec;
+ghost use Rattle.js_tables.specs.Plans as plans;
+
+use crate::plan::Update;
+use json_form::Text;
+use nb_record::Recorder;
+use std::alloc::{AllocError, Global};
+
+/// What the last status that was found says of a kernel.
+#[derive(Clone, Copy, Debug, PartialEq, Eq)]
+pub enum State {
+    Busy,
+    Idle,
+}
+
+/// A session: a document that a kernel belongs to.
+pub struct Session {
+    pub id: Text,
+    pub path: Text,
+    pub name: Text,
+    pub kind: Text,
+}
+
+// Written out, so that a proof of a caller has one step for it.
+impl Drop for Session {
+    fn drop(self) {
+        let Session {
+            id: _,
+            path: _,
+            name: _,
+            kind: _,
+        } = self;
+    }
+}
+
+/// A kernel, with its session if it has one.
+pub struct Kernel {
+    pub id: Text,
+    /// The date of the call that made it or found its last entries.
+    pub last_activity: Text,
+    pub state: State,
+    pub connections: u64,
+    pub session: Option<Session>,
+}
+
+impl Drop for Kernel {
+    fn drop(self) {
+        let Kernel {
+            id: _,
+            last_activity: _,
+            state: _,
+            connections: _,
+            session: _,
+        } = self;
+    }
+}
+
+/// The date of a file's last put.
+#[derive(Drop)]
+pub struct Dated {
+    pub path: Text,
+    pub date: Text,
+}
+
+/// The recorder of a kernel.
+pub struct Recording {
+    pub kernel: Text,
+    pub recorder: Recorder,
+}
+
+impl Drop for Recording {
+    fn drop(self) {
+        let Recording {
+            kernel: _,
+            recorder: _,
+        } = self;
+    }
+}
+
+/// The tables. Kernels stand in the order in which they were made. A file without a date of its own has that of the
+/// server's start.
+#[derive(Drop)]
+pub struct Tables {
+    pub start: Text,
+    pub kernels: Vec<Kernel>,
+    pub dates: Vec<Dated>,
+    pub recordings: Vec<Recording>,
+}
+
+/// The kernel of that identifier.
+pub fn find_kernel<'k>(kernels: &'k [Kernel], id: &[u8]) -> Option<&'k Kernel>
+    ensures { option_copied result ≡ spec.find_kernel id.now kernels.now }
+{
+    kernels
+        .iter()
+        .find(|kernel| kernel.id.as_str().as_bytes() == id)
+}
+
+fn find_date<'d>(dates: &'d [Dated], path: &str) -> Option<&'d Dated>
+    ensures { option_copied result ≡ find (λ d. bytes_eq d.path path.now) dates.now }
+{
+    dates.iter().find(|dated| dated.path.as_str() == path)
+}
+
+fn remove_kernels(kernels: &mut Vec<Kernel>, id: &Text)
+    ensures { kernels.new.items ≡ filter (λ k. not (bytes_eq k.id id.now)) kernels.old.items }
+{
+    kernels.retain(|kernel| kernel.id.as_str() != id.as_str());
+}
+
+fn remove_recordings(recordings: &mut Vec<Recording>, kernel: &Text)
+    ensures { recordings.new.items ≡ filter (λ c. not (bytes_eq c.kernel kernel.now)) recordings.old.items }
+{
+    recordings.retain(|recording| recording.kernel.as_str() != kernel.as_str());
+}
+
+fn remove_dates(dates: &mut Vec<Dated>, path: &Text)
+    ensures items { dates.new.items ≡ filter (λ d. not (bytes_eq d.path path.now)) dates.old.items }
+    ensures len { vec_len dates.new ≤ vec_len dates.old }
+    ensures capacity { vec_capacity dates.new ≡ vec_capacity dates.old }
+{
+    dates.retain(|dated| dated.path.as_str() != path.as_str());
+}
+
+fn add_recording(recordings: &mut Vec<Recording>, recording: Option<Recording>)
+    requires { vec_len recordings.old < vec_capacity recordings.old }
+    ensures { recordings.new.items ≡ spec.with_recording recording recordings.old.items }
+{
+    if let Some(recording) = recording {
+        recordings.push_reserved(recording);
+    }
+}
+
+impl Tables {
+    /// No kernel and no file, at the date of the server's start.
+    pub fn new(alloc: Global, start: Text) -> Tables
+        ensures { spec.rows result ≡ spec.no_rows start }
+    {
+        Tables {
+            start,
+            kernels: Vec::new(alloc),
+            dates: Vec::new(alloc),
+            recordings: Vec::new(alloc),
+        }
+    }
+
+    /// The date of the last put of the file at a path, or else of the server's start.
+    pub fn date_of(&self, path: &str) -> &str
+        ensures { result.now ≡ spec.date_at path.now (spec.rows self.now) }
+    {
+        match find_date(&self.dates, path) {
+            Some(dated) => dated.date.as_str(),
+            None => self.start.as_str(),
+        }
+    }
+
+    /// Room for one more row in each table.
+    ///
+    /// # Errors
+    /// Where there is no memory. The rows are as they were.
+    pub fn make_room(&mut self) -> Result<(), AllocError>
+        ensures same { spec.rows self.new ≡ spec.rows self.old }
+        ensures room { OnOk result (spec.HasRoom self.new) }
+    {
+        self.kernels.reserve(1)?;
+        self.recordings.reserve(1)?;
+        self.dates.reserve(1)
+    }
+
+    // What follows takes no memory.
+
+    fn drop_kernel(&mut self, id: &Text)
+        ensures { spec.rows self.new ≡ spec.drop_kernel id.now (spec.rows self.old) }
+    {
+        remove_kernels(&mut self.kernels, id);
+        remove_recordings(&mut self.recordings, id);
+    }
+
+    fn drop_date(&mut self, path: &Text)
+        ensures rows { spec.rows self.new ≡ spec.drop_date path.now (spec.rows self.old) }
+        ensures room { spec.HasRoom self.old → spec.HasRoom self.new }
+    {
+        remove_dates(&mut self.dates, path);
+    }
+
+    fn set_date(&mut self, path: Text, date: Text)
+        requires { spec.HasRoom self.old }
+        ensures { spec.rows self.new ≡ spec.set_date path date (spec.rows self.old) }
+    {
+        self.drop_date(&path);
+        self.dates.push_reserved(Dated { path, date });
+    }
+
+    /// Makes a change, for which there is room. It takes no memory.
+    pub fn update(&mut self, update: Update)
+        requires { spec.HasRoom self.old }
+        ensures { spec.rows self.new ≡ plans.updated update (spec.rows self.old) }
+    {
+        match update {
+            Update::Same => (),
+            Update::AddKernel(kernel, recording) => {
+                self.kernels.push_reserved(kernel);
+                add_recording(&mut self.recordings, recording);
+            }
+            Update::DropKernel(id) => self.drop_kernel(&id),
+            Update::SetKernels(kernels, recording) => {
+                self.kernels = kernels.into_vec();
+                add_recording(&mut self.recordings, recording);
+            }
+            Update::SetDate(path, date) => self.set_date(path, date),
+            Update::DropDate(path) => self.drop_date(&path),
+            Update::Move(kernels, dates) => {
+                self.kernels = kernels.into_vec();
+                self.dates = dates.into_vec();
+            }
+        }
+    }
+}

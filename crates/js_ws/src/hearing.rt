@@ -1,0 +1,105 @@
+//! What a message of a WebSocket comes to.
+ghost use Rattle.std.specs.Prelude.{◌≡◌, IfOk, true, false};
+ghost use Rattle.js_ws.specs.Hearing.{Hears, HearsText, IsTimeLimit, is_fault, is_quiet, on_channel};
+
+use jk_core::What;
+use jp_msg::{Bad, Channel, Message as Said, read_message};
+use json_form::Shared;
+use std::alloc::{AllocError, Global};
+use std::io::ErrorKind;
+use tungstenite::{Error, Message};
+
+/// What a read came to.
+#[derive(Drop)]
+pub(crate) enum Heard {
+    /// What the seat sends.
+    Said(What),
+    /// A message that is dropped.
+    Other,
+    /// The stream's time limit ended the read.
+    Quiet,
+    /// The stream failed, or there was no memory.
+    Fault,
+}
+
+impl Heard {
+    pub(crate) fn is_fault(&self) -> bool
+        ensures { result ≡ is_fault self.now }
+    {
+        match self {
+            Heard::Fault => true,
+            Heard::Said(_) | Heard::Other | Heard::Quiet => false,
+        }
+    }
+
+    pub(crate) fn is_quiet(&self) -> bool
+        ensures { result ≡ is_quiet self.now }
+    {
+        match self {
+            Heard::Quiet => true,
+            Heard::Said(_) | Heard::Other | Heard::Fault => false,
+        }
+    }
+}
+
+/// Whether the stream's time limit ended the read.
+fn is_time_limit(error: &Error) -> bool
+    ensures yes { result ≡ true → IsTimeLimit error.now }
+    ensures no { result ≡ false → ¬ (IsTimeLimit error.now) }
+{
+    match error {
+        Error::Io(cause) => cause.kind() == ErrorKind::WouldBlock,
+        _ => false,
+    }
+}
+
+/// The message on its channel.
+fn channelled(alloc: Global, message: Said) -> Result<What, AllocError>
+    ensures { IfOk result (λ what. what ≡ on_channel message.channel message) }
+{
+    let channel = message.channel;
+    let Ok(shared) = Shared::share(alloc, message) else {
+        return Err(AllocError);
+    };
+    match channel {
+        Channel::Shell => Ok(What::Shell(shared)),
+        Channel::Control => Ok(What::Control(shared)),
+        Channel::Stdin => Ok(What::Stdin(shared)),
+        // No message that was read is on this one.
+        Channel::Iopub => Ok(What::Shell(shared)),
+    }
+}
+
+/// What a text comes to.
+fn heard_in(alloc: Global, text: &str) -> Heard
+    ensures { HearsText text.now result }
+{
+    match read_message(alloc, text) {
+        Ok(message) => match channelled(alloc, message) {
+            Ok(what) => Heard::Said(what),
+            Err(_) => Heard::Fault,
+        },
+        Err(Bad::Fault(_)) => Heard::Other,
+        Err(Bad::Memory) => Heard::Fault,
+    }
+}
+
+/// What the answer of a socket's read comes to.
+pub(crate) fn heard_of(alloc: Global, read: &Result<Message, Error>) -> Heard
+    ensures { Hears read.now result }
+{
+    match read {
+        Ok(Message::Text(text)) => heard_in(alloc, text.as_str()),
+        Ok(Message::Binary(_)) => Heard::Other,
+        Ok(Message::Ping(_)) => Heard::Other,
+        Ok(Message::Pong(_)) => Heard::Other,
+        Ok(Message::Close(_)) => Heard::Other,
+        Err(error) => {
+            if is_time_limit(error) {
+                Heard::Quiet
+            } else {
+                Heard::Fault
+            }
+        }
+    }
+}

@@ -1,0 +1,80 @@
+//! One turn of a channel.
+ghost use Rattle.std.specs.Prelude.{◌≡◌, true, false};
+ghost use Rattle.jk_queues.specs.Ends.{seat_inbox};
+ghost use Rattle.js_ws.specs.Turns.{Listened, IsTurn, over};
+
+use crate::channel::{Channel, Turn};
+use crate::outbox::Outbox;
+use crate::wire::Wire;
+use jk_language::Language;
+use std::alloc::Global;
+use std::io::{Read, Write};
+use std::sync::Wait;
+
+/// Submits what is in hand. Where nothing is left in hand and the stream has not failed, reads one message, and submits it
+/// where it is something that the seat sends. Whether the read ended by the stream's time limit.
+fn listen<R: Wait, S: Read + Write + Drop>(
+    rt: &R,
+    alloc: Global,
+    wire: &mut Wire<S>,
+    outbox: Outbox,
+) -> (Outbox, bool)
+    ensures listened { Listened S.remaining wire.old wire.new outbox result.0 result.1 }
+    ensures seat { (result.0.seat.place ≡ outbox.seat.place) × (seat_inbox result.0.seat ≡ seat_inbox outbox.seat) }
+    ensures leaving { result.0.leaving ≡ outbox.leaving }
+    ensures same { (wire.new.names ≡ wire.old.names) × (wire.new.sent ≡ wire.old.sent) }
+{
+    let ready = outbox.submit(rt);
+    if wire.has_failed() {
+        return (ready, false);
+    }
+    if ready.waits() {
+        return (ready, false);
+    }
+    let heard = wire.hear(alloc);
+    let quiet = heard.is_quiet();
+    let said = ready.say(rt, heard);
+    (said, quiet)
+}
+
+/// One turn of a channel, which is handed back.
+///
+/// It submits what waits for room in the inbox. Where nothing waits any more, it reads one message: a text that is a message of
+/// "Messaging in Jupyter" 5.4 is one arrival, and other messages are dropped. Then it takes what the follower gives, sends what
+/// is due to this connection, with this date, and holds what could not be sent. Where the stream has failed, it submits the
+/// connection's `Leave` once nothing else waits. Want of memory in reading is a fault of the stream.
+///
+/// The answer is `Closed` once that `Leave` is submitted, and also once the idle of a shutdown without restart was found and
+/// all is sent or the stream has failed. Then the inbox is left alone, and further turns do nothing.
+pub fn channel_turn<R: Wait, S: Read + Write + Drop, L: Language>(
+    rt: &R,
+    date: &str,
+    channel: Channel<S, L>,
+) -> (Channel<S, L>, Turn)
+    ensures over { over channel ≡ true → result ≡ (channel, Turn.Closed 0) }
+    ensures turn { over channel ≡ false → IsTurn S.remaining S.contents date.now channel result.0 result.1 }
+{
+    if channel.is_over() {
+        return (channel, Turn::Closed(0));
+    }
+    let Channel {
+        alloc,
+        mut wire,
+        outbox,
+        feed,
+    } = channel;
+    let place = outbox.seat.place();
+    let heard = listen(rt, alloc, &mut wire, outbox);
+    let (outbox, quiet) = heard;
+    let mut feed = feed.take(alloc, place);
+    let count = wire.send_held(alloc, date, &mut feed.held);
+    let left = outbox.leave(rt, wire.failed, feed.ended);
+    let next = Channel {
+        alloc,
+        wire,
+        outbox: left,
+        feed,
+    };
+    let turn = next.answer(quiet, count);
+    (next, turn)
+}

@@ -1,0 +1,62 @@
+//! Which entries a connection is sent.
+ghost use Rattle.std.specs.Prelude.{◌≡◌};
+ghost use Rattle.js_ws.specs.Views as spec;
+ghost use Rattle.js_ws.specs.Shutdowns as last;
+
+use jk_core::{Entry, To, Told};
+use jp_msg::{Content, Message, Output, Request, State};
+
+/// Whether an entry that goes there goes to the seat.
+pub(crate) fn goes_to(to: To, seat: u8) -> bool
+    ensures { result ≡ spec.goes_to seat to }
+{
+    match to {
+        To::All => true,
+        To::Seat(place) => place == seat,
+        To::Nobody => false,
+    }
+}
+
+/// Whether the entry is the join of that seat with that number.
+pub(crate) fn is_join(entry: &Entry, seat: u8, number: u64) -> bool
+    ensures { result ≡ spec.is_join seat number entry.now }
+{
+    match &entry.content {
+        Told::Joined {
+            seat: place,
+            number: its,
+        } => *place == seat && *its == number,
+        Told::Left { .. } | Told::Output(_) => false,
+    }
+}
+
+/// Whether it tells that the kernel is idle.
+fn tells_idle(told: &Told) -> bool
+    ensures { result ≡ last.tells_idle told.now }
+{
+    match told {
+        Told::Output(Output::Status(State::Idle)) => true,
+        _ => false,
+    }
+}
+
+/// Whether the request asks the kernel to end and not to start again.
+fn ends_kernel(message: &Message) -> bool
+    ensures { result ≡ last.content_ends message.now.content }
+{
+    match &message.content {
+        Content::Request(Request::Shutdown { restart }) => !*restart,
+        _ => false,
+    }
+}
+
+/// Whether the entry is the idle of a shutdown without restart.
+pub(crate) fn is_last(entry: &Entry) -> bool
+    ensures { result ≡ last.is_last entry.now }
+{
+    tells_idle(&entry.content)
+        && match &entry.parent {
+            Some(parent) => ends_kernel(parent.value()),
+            None => false,
+        }
+}

@@ -1,0 +1,186 @@
+//! The stream of a channel: messages are read from it, and entries are sent over it.
+ghost use Rattle.std.specs.Prelude.{◌≡◌, ◌+◌, ◌≤◌, ◌++◌, List, Result, true, false, length, take, option_map, string_bytes, []};
+ghost use Rattle.websocket.specs.declared.protocol.config.Role.TheVariants.{Server};
+
+use crate::hearing::{Heard, heard_of};
+use crate::names::Names;
+use crate::text::{Naming, write_entry};
+use jk_core::Entry;
+use std::alloc::Global;
+use std::io::{Read, Write};
+use tungstenite::{Error, Message, NoMask, Role, WebSocket};
+
+/// A WebSocket of a server, and what its messages are named by.
+#[derive(Drop)]
+pub struct Wire<S> {
+    pub(crate) socket: WebSocket<S, NoMask>,
+    pub(crate) names: Names,
+    /// How many messages were sent.
+    pub(crate) sent: u64,
+    /// Whether the stream has failed.
+    pub(crate) failed: bool,
+    ghost serves: { failed ≡ false → socket.conn.role ≡ Server },
+}
+
+/// What sending came to.
+#[derive(Clone, Copy, PartialEq, Eq)]
+pub(crate) enum Sending {
+    Sent,
+    /// There was no memory, and nothing was done.
+    Held,
+    Failed,
+}
+
+impl<S: Read + Write + Drop> Wire<S> {
+    ghost use Rattle.tungstenite.specs.declared.error.Error.{Error};
+    ghost use Rattle.tungstenite.specs.declared.message.Message.{Message};
+    ghost use Rattle.tungstenite.specs.Socket.{Reads, IsFresh};
+    ghost use Rattle.jk_core.specs.declared.entry.Entry.{Entry};
+    ghost use Rattle.js_ws.specs.Hearing.{Hears, is_fault};
+    ghost use Rattle.js_ws.specs.Frames.{SentAll, frame_of, frame_or_none, text_frame};
+    ghost use Rattle.js_ws.specs.Wires.{Sends};
+
+    /// A wire over a stream on which nothing was read or sent since its handshake was answered.
+    pub(crate) fn new(alloc: Global, stream: S, names: Names) -> Wire<S>
+        ensures fresh { IsFresh result.socket stream Server }
+        ensures names { result.names ≡ names }
+        ensures none { result.sent ≡ 0 }
+        ensures good { result.failed ≡ false }
+    {
+        Wire {
+            socket: WebSocket::from_raw_socket(alloc, stream, NoMask, Role::Server, None),
+            names,
+            sent: 0,
+            failed: false,
+        }
+    }
+
+    /// Whether the stream has failed.
+    pub(crate) fn has_failed(&self) -> bool
+        ensures { result ≡ self.now.failed }
+    {
+        self.failed
+    }
+
+    /// Reads one message.
+    pub(crate) fn hear(&mut self, alloc: Global) -> Heard
+        requires good { self.old.failed ≡ false }
+        ensures heard { (r : Result Message Error) × Reads S.remaining self.old.socket self.new.socket r × Hears r result }
+        ensures failed { self.new.failed ≡ is_fault result }
+        ensures same { (self.new.names ≡ self.old.names) × (self.new.sent ≡ self.old.sent) }
+    {
+        let read = self.socket.read();
+        let heard = heard_of(alloc, &read);
+        self.failed = heard.is_fault();
+        heard
+    }
+
+    /// Sends what waits.
+    fn flush(&mut self) -> Sending
+        requires good { self.old.failed ≡ false }
+        ensures sends { Sends S.contents self.old self.new [] result }
+        ensures same { (self.new.names ≡ self.old.names) × (self.new.sent ≡ self.old.sent) }
+    {
+        match self.socket.flush() {
+            Ok(()) => Sending::Sent,
+            Err(_) => {
+                self.failed = true;
+                Sending::Failed
+            }
+        }
+    }
+
+    /// Sends a text.
+    fn send_text(&mut self, alloc: Global, text: &str) -> Sending
+        requires good { self.old.failed ≡ false }
+        ensures sends { Sends S.contents self.old self.new (text_frame text.now) result }
+        ensures same { (self.new.names ≡ self.old.names) × (self.new.sent ≡ self.old.sent) }
+    {
+        let Ok(message) = Message::text(alloc, text) else {
+            return Sending::Held;
+        };
+        match self.socket.send(message) {
+            Ok(()) => Sending::Sent,
+            Err(Error::OutOfMemory) => Sending::Held,
+            Err(_) => {
+                self.failed = true;
+                Sending::Failed
+            }
+        }
+    }
+
+    /// Sends the text of an entry, or where it has none, what waits.
+    fn send_made(&mut self, alloc: Global, made: Option<String>) -> Sending
+        requires good { self.old.failed ≡ false }
+        ensures sends { Sends S.contents self.old self.new (frame_or_none (option_map string_bytes made)) result }
+        ensures same { (self.new.names ≡ self.old.names) × (self.new.sent ≡ self.old.sent) }
+    {
+        match made {
+            Some(text) => self.send_text(alloc, text.as_str()),
+            None => self.flush(),
+        }
+    }
+
+    /// Sends one entry.
+    fn send_entry(&mut self, alloc: Global, date: &str, entry: &Entry) -> Sending
+        requires good { self.old.failed ≡ false }
+        ensures sends { Sends S.contents self.old self.new (frame_of self.old.names date.now self.old.sent entry.now) result }
+        ensures count { result ≡ Sending.Sent → self.new.sent ≡ self.old.sent + 1 }
+        ensures held { result ≡ Sending.Held → self.new.sent ≡ self.old.sent }
+        ensures names { self.new.names ≡ self.old.names }
+    {
+        let Some(next) = self.sent.checked_add(1) else {
+            return Sending::Held;
+        };
+        let naming = Naming {
+            names: &self.names,
+            date,
+            number: self.sent,
+        };
+        let Ok(made) = write_entry(alloc, naming, entry) else {
+            return Sending::Held;
+        };
+        match self.send_made(alloc, made) {
+            Sending::Sent => {
+                self.sent = next;
+                Sending::Sent
+            }
+            Sending::Held => Sending::Held,
+            Sending::Failed => Sending::Failed,
+        }
+    }
+
+    /// Sends entries in order, as far as that goes. How many were sent.
+    fn send_all(&mut self, alloc: Global, date: &str, held: &[Entry]) -> usize
+        requires good { self.old.failed ≡ false }
+        ensures within { result ≤ length held.now }
+        ensures sent { self.new.failed ≡ false → SentAll S.contents self.old.names date.now self.old.sent self.old.socket self.new.socket (take result held.now) }
+        ensures count { self.new.failed ≡ false → self.new.sent ≡ self.old.sent + result }
+        ensures names { self.new.names ≡ self.old.names }
+    {
+        for (count, entry) in held.iter().enumerate() {
+            match self.send_entry(alloc, date, entry) {
+                Sending::Sent => {}
+                Sending::Held => return count,
+                Sending::Failed => return count,
+            }
+        }
+        held.len()
+    }
+
+    /// Sends the held entries in order, as far as that goes, and holds the others. How many were sent.
+    pub(crate) fn send_held(&mut self, alloc: Global, date: &str, held: &mut Vec<Entry>) -> usize
+        ensures first { (front : List Entry) × (held.old.items ≡ front ++ held.new.items) × (length front ≡ result)
+            × (self.new.failed ≡ false → SentAll S.contents self.old.names date.now self.old.sent self.old.socket self.new.socket front) }
+        ensures count { self.new.failed ≡ false → self.new.sent ≡ self.old.sent + result }
+        ensures failed { self.old.failed ≡ true → self.new.failed ≡ true }
+        ensures names { self.new.names ≡ self.old.names }
+    {
+        if self.failed {
+            return 0;
+        }
+        let count = self.send_all(alloc, date, held.as_slice());
+        drop(held.drain(..count));
+        count
+    }
+}

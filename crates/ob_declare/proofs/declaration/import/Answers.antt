@@ -1,0 +1,13 @@
+use Rattle.std.proofs.Common.{rules, ◌≡◌, None, ap}
+use Rattle.ob_base.specs.declared.fault.Code.TheVariants as code
+use Rattle.ob_declare.specs.Block.{find}
+use Rattle.ob_declare.specs.Declarations as spec
+use Rattle.ob_declare.proofs.Exact.{judged_needs}
+use Rattle.ob_declare.proofs.declaration.import.Goals as goal
+
+pub returns : goal.returns
+unfolding spec.import_rule
+returns c =
+    let absent : find c.args.so_far.block c.args.import.now.name.name ≡ None = search rules in
+    judged_needs (spec.is_new (find c.args.so_far.block c.args.import.now.name.name)) code.DeclaredTwice
+    (spec.new_import c.args.modules.now c.args.so_far c.args.import.now) c.new_import.result (ap spec.is_new absent) c.new_import.ensures

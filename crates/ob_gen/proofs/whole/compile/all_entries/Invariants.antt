@@ -1,7 +1,0 @@
-use Rattle.std.proofs.Common.{List, ◌++◌, drop}
-use Rattle.ob_code.specs.declared.whole.instr.Entries.{Entries}
-use Rattle.ob_gen.specs.whole.Generated.{AreOfFaces}
-use Rattle.ob_gen.proofs.whole.compile.all_entries.Given as goal
-
-abbrev pub invariant-loop-face : goal.invariant-loop-face
-invariant-loop-face l = (rest : List Entries) → AreOfFaces (drop l.face-index l.faces) rest → AreOfFaces l.faces (l.imports.items ++ rest)

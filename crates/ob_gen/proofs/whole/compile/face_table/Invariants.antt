@@ -1,7 +1,0 @@
-use Rattle.std.proofs.Common.{◌≡◌, ◌++◌, drop}
-use Rattle.ob_mean.specs.whole.Shapes.{zeros}
-use Rattle.ob_gen.specs.whole.Tables.{row_sizes}
-use Rattle.ob_gen.proofs.whole.compile.face_table.Given as goal
-
-abbrev pub invariant-loop-shape : goal.invariant-loop-shape
-invariant-loop-shape l = l.table ++ row_sizes (zeros (drop l.shape-index l.shapes)) ≡ row_sizes (zeros l.shapes)

@@ -1,5 +1,0 @@
-use Rattle.ob_gen.proofs.machine.Behaves.{body_behaves}
-use Rattle.ob_gen.proofs.whole.laws.body_law.Goals as goal
-
-pub returns : goal.returns
-returns c = body_behaves

@@ -1,5 +1,0 @@
-use Rattle.ob_gen.proofs.machine.Commands.{commands_behave}
-use Rattle.ob_gen.proofs.whole.laws.commands_law.Goals as goal
-
-pub returns : goal.returns
-returns c = commands_behave

@@ -1,7 +1,0 @@
-use Rattle.std.proofs.Common.{subst}
-use Rattle.ob_code.specs.whole.Linked.{runs_of}
-use Rattle.ob_vm.specs.whole.Images.{ImageState, AreValid}
-use Rattle.ob_vm.proofs.whole.image.Image.into_parts.Goals as goal
-
-pub returns-clause-valid : goal.returns-clause-valid
-returns-clause-valid c = subst (λ (i : ImageState). AreValid i.code (runs_of i.may_run)) c.self.view_is c.self.invariant.3

@@ -1,6 +1,0 @@
-pub mod States
-pub mod Rooms
-pub mod Needs
-pub mod Rows
-pub mod Steps
-pub mod Images
