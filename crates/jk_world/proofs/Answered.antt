@@ -163,7 +163,7 @@ past_none : (past : Log) (at : ℕ) → eqb (length past) at ≡ true → arriva
 past_none past at e = let same : length past ≡ at = eqb-true (length past) at e in arrival_past past at (omega (arith, same))
 
 -- each entry is for the arrival at its mark's place
-addressed : (log : Log) (at : ℕ) → AreFor (arrival_at at log) (shown_at at log)
+pub addressed : (log : Log) (at : ℕ) → AreFor (arrival_at at log) (shown_at at log)
 addressed [] at = refl
 addressed (Took a ∷ past) at =
     took_for (eqb (length past) at) (arrival_at at past) (Some a) (shown_at at past) (past_none past at) (addressed past at)

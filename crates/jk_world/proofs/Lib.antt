@@ -15,3 +15,4 @@ pub mod Answered
 pub mod Counted
 pub mod Texts
 pub mod Asks
+pub mod Replied

@@ -19,7 +19,7 @@ use Rattle.jk_core.specs.declared.mark.Ending.TheVariants.{Completed, Trapped, R
 use Rattle.jk_core.specs.declared.mark.Cause.{Cause}
 use Rattle.jk_core.specs.declared.mark.Cause.TheVariants.{Memory, Interrupted, Restarted}
 use Rattle.jk_core.specs.Log.{Log, Running, running, waiting, waiting_after, waits_as, execute_at, asker}
-use Rattle.jk_core.specs.Legal.{ends_due, line_due, Due, MarkDue, AnswerDue, FlushDue, StopDue, due_by, due_of, waiting_dues, EachFollows, MayMark, JustFlushedBy, IsForced, owed, dues_of, dues_after, dues_after_end, dues_after_stop, fails_due}
+use Rattle.jk_core.specs.Legal.{ends_due, line_due, Due, MarkDue, AnswerDue, FlushDue, StopDue, due_by, due_of, EachFollows, MayMark, JustFlushedBy, IsForced, owed, dues_of, dues_after, dues_after_end, dues_after_stop, fails_due}
 use Rattle.jk_core.proofs.Logs.{by_sort, execute_grows}
 use Rattle.jk_world.specs.Cells.{times_answered}
 
@@ -314,3 +314,9 @@ module _ {S T : Type 0} (spoken : Spoken S T) where
       let drops = dropped at at (waiting log) e in
       let one : is_at at at ≡ 1 = ap (λ (b : Bool). cond b 1 0) (eq-eqb at at refl) in
       omega (arith, few, drops, one)
+
+  -- nothing is answered before it was taken
+  pub not_answered_yet : (log : Log) → EachFollows spoken log → (at : ℕ) → length log ≤ at → times_answered at log ≡ 0
+  not_answered_yet log each at h =
+      let none = (is_once at log each).late h in
+      omega (arith, none)

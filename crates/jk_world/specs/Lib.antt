@@ -7,3 +7,4 @@ pub mod Input
 pub mod Requests
 pub mod View
 pub mod Parents
+pub mod Answers

@@ -1,7 +1,10 @@
 //! The laws of a kernel and the world round it, for Oberon: a legal log is here one of the written meaning of Oberon-07.
 
 ghost use Rattle.std.specs.Prelude.{◌≡◌, List, ℕ, None, Some};
-ghost use Rattle.jk_core.specs.Log.{Log};
+ghost use Rattle.jp_msg.specs.declared.message.Request.{Request};
+ghost use Rattle.jk_core.specs.declared.arrival.Arrival.{Arrival};
+ghost use Rattle.jk_core.specs.Asked.{query_in};
+ghost use Rattle.jk_core.specs.Log.{Log, arrival_at};
 ghost use Rattle.jk_core.specs.Legal.{IsLegal};
 ghost use Rattle.jk_core.specs.Render.{render};
 ghost use Rattle.jk_world.specs.World.{World, Event, opening, Run, IsTrueWorld, HasGoneOn};
@@ -12,6 +15,7 @@ ghost use Rattle.jk_world.specs.Input.{IsInputRight};
 ghost use Rattle.jk_world.specs.Counts.{TellCounts};
 ghost use Rattle.jk_world.specs.Requests.{IsShownRight};
 ghost use Rattle.jk_world.specs.Parents.{ParentsFit};
+ghost use Rattle.jk_world.specs.Answers.{IsShownOnce};
 ghost use Rattle.ob_parse.specs.declared.tree.Cell.{Cell};
 ghost use Rattle.ob_session.specs.Session.{Session};
 ghost use Rattle.ob_cell.specs.Oberon.{spoken_oberon};
@@ -82,6 +86,14 @@ pub fn shown_law()
     ensures { (log : Log) (at : ℕ) → IsLegal spoken_oberon log → IsShownRight log at }
 {
     jk_world::shown_law::<Oberon>()
+}
+
+/// What is shown of a request that waits and is no cell.
+pub fn answer_law()
+    ensures { (log : Log) (at : ℕ) (a : Arrival) (asked : Request) → IsLegal spoken_oberon log
+        → arrival_at at log ≡ Some a → query_in a.what ≡ Some asked → IsShownOnce spoken_oberon log at a asked }
+{
+    jk_world::answer_law::<Oberon>()
 }
 
 /// Whose each stream and error is.

@@ -1,4 +1,4 @@
-//! Slices, several seats, silent cells, interrupts and shutdowns.
+//! Slices, several seats, errors, silent cells and interrupts.
 
 use crate::replays::assert_shows;
 use crate::sent::Sent::{Cell, CellWith, Interrupt, Line, Run};
@@ -44,8 +44,13 @@ const DIVIDES: &str =
 
 const BY_ZERO: &str = "trap 2 in D, line 1";
 
+const ASTRAY: &str =
+    "MODULE F; VAR a: ARRAY 3 OF INTEGER; i: INTEGER; BEGIN i := 3; a[i] := 1 END F.";
+
+/// An error aborts what waits, from any seat, and nothing that comes later. One that stops nothing aborts nothing. A silent
+/// cell shows its reply alone and is not counted.
 #[test]
-fn an_error_aborts_what_waits(rt: HostRuntime) -> Result<(), Fail> {
+fn errors(rt: HostRuntime) -> Result<(), Fail> {
     assert_shows(
         &rt,
         &[
@@ -68,14 +73,7 @@ fn an_error_aborts_what_waits(rt: HostRuntime) -> Result<(), Fail> {
             ("m3", 2, Ended(2)),
             ("m3", 2, Idle),
         ],
-    )
-}
-
-const ASTRAY: &str =
-    "MODULE F; VAR a: ARRAY 3 OF INTEGER; i: INTEGER; BEGIN i := 3; a[i] := 1 END F.";
-
-#[test]
-fn an_error_that_stops_nothing(rt: HostRuntime) -> Result<(), Fail> {
+    )?;
     assert_shows(
         &rt,
         &[
@@ -92,11 +90,7 @@ fn an_error_that_stops_nothing(rt: HostRuntime) -> Result<(), Fail> {
             ("m2", 0, Ended(2)),
             ("m2", 0, Idle),
         ],
-    )
-}
-
-#[test]
-fn a_silent_cell(rt: HostRuntime) -> Result<(), Fail> {
+    )?;
     assert_shows(
         &rt,
         &[

@@ -16,6 +16,8 @@ mod programs;
 #[cfg(test)]
 mod replays;
 #[cfg(test)]
+mod requests;
+#[cfg(test)]
 mod sent;
 #[cfg(test)]
 mod shown;

@@ -15,6 +15,8 @@ pub enum Sent<'a> {
     Leave(u8),
     /// A seat sends a line that was asked for.
     Line(u8, &'a str),
+    /// A seat sends on the shell channel, under a name, a request of this type, without its ending, and content.
+    Query(u8, &'a str, &'a str, &'a str),
     /// Seat 0 interrupts, under a name.
     Interrupt(&'a str),
     /// Seat 0 shuts the kernel down, under a name, and asks whether it is to begin anew.
@@ -47,6 +49,17 @@ fn cell(alloc: Global, seat: u8, id: &str, code: &str, more: &str) -> Result<Str
     )
 }
 
+fn query(
+    alloc: Global,
+    seat: u8,
+    id: &str,
+    kind: &str,
+    content: &str,
+) -> Result<String, AllocError> {
+    let kind = format!(in alloc; "{kind}_request")?;
+    message(alloc, seat, "shell", kind.as_str(), id, content)
+}
+
 fn reply(alloc: Global, seat: u8, line: &str) -> Result<String, AllocError> {
     let content = format!(in alloc; "{{\"value\":\"{line}\"}}")?;
     message(alloc, seat, "stdin", "input_reply", "r", content.as_str())
@@ -71,6 +84,7 @@ fn line(alloc: Global, sent: Sent<'_>) -> Result<String, AllocError> {
         Sent::Run(turns) => format!(in alloc; "{{\"run\":{turns}}}\n"),
         Sent::Leave(seat) => format!(in alloc; "{{\"leave\":{seat}}}\n"),
         Sent::Line(seat, text) => reply(alloc, seat, text),
+        Sent::Query(seat, id, kind, content) => query(alloc, seat, id, kind, content),
         Sent::Interrupt(id) => message(alloc, 0, "control", "interrupt_request", id, "{}"),
         Sent::Shutdown(id, restart) => shutdown(alloc, id, restart),
     }

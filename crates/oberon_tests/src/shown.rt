@@ -20,6 +20,8 @@ pub enum Shown<'a> {
     /// That error, and the reply.
     Failed(u64, &'a str, &'a str),
     Aborted,
+    /// The reply on the shell channel of this type, without its ending, and content.
+    Reply(&'a str, &'a str),
     Interrupted,
     /// The reply to a shutdown, and whether the kernel begins anew.
     Shut(bool),
@@ -115,6 +117,17 @@ fn asks(alloc: Global, seat: u8, id: &str) -> Result<String, AllocError> {
     to_seat(alloc, seat, id, "stdin", "input_request", content)
 }
 
+fn reply(
+    alloc: Global,
+    seat: u8,
+    id: &str,
+    kind: &str,
+    content: &str,
+) -> Result<String, AllocError> {
+    let kind = format!(in alloc; "{kind}_reply")?;
+    to_seat(alloc, seat, id, "shell", kind.as_str(), content)
+}
+
 fn shut(alloc: Global, seat: u8, id: &str, restart: bool) -> Result<String, AllocError> {
     let content = format!(in alloc; "{{\"restart\":{restart},\"status\":\"ok\"}}")?;
     to_seat(
@@ -148,6 +161,7 @@ fn line(alloc: Global, id: &str, seat: u8, shown: Shown<'_>) -> Result<String, A
                 "{\"status\":\"aborted\"}",
             )
         }
+        Shown::Reply(kind, content) => reply(alloc, seat, id, kind, content),
         Shown::Interrupted => {
             to_seat(
                 alloc,

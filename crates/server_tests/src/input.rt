@@ -1,212 +1,108 @@
-use crate::shown::{read_all, shows, take, take_cell, take_interrupt, take_line, works};
-use jk_core::{Kernel, What, Work};
-use jk_language::Language;
-use std::alloc::Global;
-use std::process::Abort;
+//! Lines that cells ask for.
+
+use crate::plays::Step::{Cell, CellWith, Control, Leave, Line, Pends, Read, Rests, Shows, Turns};
+use crate::plays::play;
+use jk_core::Work::{NeedsLine, Ran, Rest};
 use std::test::Fail;
-use test_language::TestLanguage;
 
-/// A cell asks its seat, and reads the first line of that seat.
-fn asks<L: Language>(rt: &impl Abort, alloc: Global, kernel: &mut Kernel<L>) -> Result<(), Fail> {
-    take_cell(alloc, kernel, 2, "m1", "a?$", "")?;
-    read_all(alloc, kernel)?;
-    assert!(rt; works(kernel, 10, Work::NeedsLine));
-    assert!(rt;
-        shows(
-            alloc,
-            kernel,
-            "busy for m1 to 8\ninput 1 for m1 to 8\nstream a for m1 to 8\ninput_request for m1 to 2\n"
-        )?
-    );
-    assert!(rt; works(kernel, 10, Work::NeedsLine));
-    assert_eq!(rt; kernel.pending_marks(), 0);
-    assert!(rt; !kernel.is_at_rest());
-    take_line(alloc, kernel, 1, "another seat")?;
-    assert!(rt; works(kernel, 10, Work::NeedsLine));
-    take_line(alloc, kernel, 2, "xyz")?;
-    take_line(alloc, kernel, 2, "too late")?;
-    assert!(rt; shows(alloc, kernel, "")?);
-    assert!(rt; works(kernel, 10, Work::Ran));
-    assert!(rt;
-        shows(
-            alloc,
-            kernel,
-            "stream x for m1 to 8\nok 1 for m1 to 2\nidle for m1 to 8\n"
-        )?
-    );
-    assert!(rt; works(kernel, 10, Work::Rest));
-    Ok(())
-}
-
-/// A cell that may not ask goes on without a line, and what it wrote before and after is one stream.
-fn forbidden<L: Language>(
-    rt: &impl Abort,
-    alloc: Global,
-    kernel: &mut Kernel<L>,
-) -> Result<(), Fail> {
-    take_cell(alloc, kernel, 2, "m1", "a?b??c", ",\"allow_stdin\":false")?;
-    read_all(alloc, kernel)?;
-    assert!(rt; works(kernel, 10, Work::Ran));
-    assert!(rt;
-        shows(
-            alloc,
-            kernel,
-            "busy for m1 to 8\ninput 1 for m1 to 8\nstream abc for m1 to 8\nok 1 for m1 to 2\nidle for m1 to 8\n"
-        )?
-    );
-    Ok(())
-}
-
-/// The seat leaves while it is asked.
-fn leaves_when_asked<L: Language>(
-    rt: &impl Abort,
-    alloc: Global,
-    kernel: &mut Kernel<L>,
-) -> Result<(), Fail> {
-    take_cell(alloc, kernel, 2, "m1", "a?b", "")?;
-    read_all(alloc, kernel)?;
-    assert!(rt; works(kernel, 10, Work::NeedsLine));
-    take(kernel, 1, What::Leave)?;
-    assert!(rt; works(kernel, 10, Work::NeedsLine));
-    take(kernel, 2, What::Leave)?;
-    take_line(alloc, kernel, 2, "too late")?;
-    assert!(rt; works(kernel, 10, Work::Ran));
-    assert!(rt;
-        shows(
-            alloc,
-            kernel,
-            "busy for m1 to 8\ninput 1 for m1 to 8\nstream a for m1 to 8\ninput_request for m1 to 2\nleft 1 1 for nothing to 9\nleft 2 1 for nothing to 9\nstream b for m1 to 8\nok 1 for m1 to 2\nidle for m1 to 8\n"
-        )?
-    );
-    Ok(())
-}
-
-/// The seat has left before the cell begins.
-fn left_before<L: Language>(
-    rt: &impl Abort,
-    alloc: Global,
-    kernel: &mut Kernel<L>,
-) -> Result<(), Fail> {
-    take_cell(alloc, kernel, 2, "m1", "?b", "")?;
-    take(kernel, 2, What::Leave)?;
-    read_all(alloc, kernel)?;
-    assert!(rt; works(kernel, 10, Work::Ran));
-    assert!(rt;
-        shows(
-            alloc,
-            kernel,
-            "left 2 1 for nothing to 9\nbusy for m1 to 8\ninput 1 for m1 to 8\nstream b for m1 to 8\nok 1 for m1 to 2\nidle for m1 to 8\n"
-        )?
-    );
-    Ok(())
-}
-
-/// A line that an interrupt finds unread is not read: the session keeps what the cell before left.
-fn unread_at_interrupt<L: Language>(
-    rt: &impl Abort,
-    alloc: Global,
-    kernel: &mut Kernel<L>,
-) -> Result<(), Fail> {
-    take_cell(alloc, kernel, 1, "m1", "k", "")?;
-    take_cell(alloc, kernel, 1, "m2", "?$", "")?;
-    read_all(alloc, kernel)?;
-    assert!(rt; works(kernel, 10, Work::Ran));
-    assert!(rt; works(kernel, 10, Work::NeedsLine));
-    take_line(alloc, kernel, 1, "x")?;
-    take_interrupt(alloc, kernel, 0)?;
-    assert!(rt;
-        shows(
-            alloc,
-            kernel,
-            "busy for m1 to 8\ninput 1 for m1 to 8\nstream k for m1 to 8\nok 1 for m1 to 1\nidle for m1 to 8\nbusy for m2 to 8\ninput 2 for m2 to 8\ninput_request for m2 to 1\nbusy for i1 to 8\ninterrupt_reply for i1 to 0\nidle for i1 to 8\nerror Interrupted  for m2 to 8\nerr 2 Interrupted for m2 to 1\nidle for m2 to 8\n"
-        )?
-    );
-    take_cell(alloc, kernel, 1, "m3", "$", "")?;
-    read_all(alloc, kernel)?;
-    assert!(rt; works(kernel, 10, Work::Ran));
-    assert!(rt;
-        shows(
-            alloc,
-            kernel,
-            "busy for m3 to 8\ninput 3 for m3 to 8\nstream k for m3 to 8\nok 3 for m3 to 1\nidle for m3 to 8\n"
-        )?
-    );
-    Ok(())
-}
-
-/// A silent cell asks all the same.
-fn silent_asks<L: Language>(
-    rt: &impl Abort,
-    alloc: Global,
-    kernel: &mut Kernel<L>,
-) -> Result<(), Fail> {
-    take_cell(alloc, kernel, 1, "m1", "a?b", ",\"silent\":true")?;
-    read_all(alloc, kernel)?;
-    assert!(rt; works(kernel, 10, Work::NeedsLine));
-    assert!(rt;
-        shows(
-            alloc,
-            kernel,
-            "busy for m1 to 8\ninput_request for m1 to 1\n"
-        )?
-    );
-    take_line(alloc, kernel, 1, "")?;
-    assert!(rt; works(kernel, 10, Work::Ran));
-    assert!(rt; shows(alloc, kernel, "ok 0 for m1 to 1\nidle for m1 to 8\n")?);
-    Ok(())
-}
-
-/// What is played on a kernel.
-#[derive(Clone, Copy)]
-enum Play {
-    Asks,
-    Forbidden,
-    LeavesWhenAsked,
-    LeftBefore,
-    UnreadAtInterrupt,
-    SilentAsks,
-}
-
-/// Plays on a kernel that has taken nothing.
-fn play_anew(rt: &impl Abort, alloc: Global, play: Play) -> Result<(), Fail> {
-    let mut kernel: Kernel<TestLanguage> = Kernel::new(alloc)?;
-    let kernel = &mut kernel;
-    match play {
-        Play::Asks => asks(rt, alloc, kernel),
-        Play::Forbidden => forbidden(rt, alloc, kernel),
-        Play::LeavesWhenAsked => leaves_when_asked(rt, alloc, kernel),
-        Play::LeftBefore => left_before(rt, alloc, kernel),
-        Play::UnreadAtInterrupt => unread_at_interrupt(rt, alloc, kernel),
-        Play::SilentAsks => silent_asks(rt, alloc, kernel),
-    }
+#[test]
+fn a_cell_that_asks(rt: HostRuntime) -> Result<(), Fail> {
+    // It reads the first line of its seat.
+    play(
+        &rt,
+        &[
+            Cell(2, "m1", "a?$"),
+            Read,
+            Turns(10, NeedsLine),
+            Shows("busy for m1, input 1 for m1, stream a for m1, input_request for m1 to 2"),
+            Turns(10, NeedsLine),
+            Pends(0),
+            Rests(false),
+            Line(1, "another seat"),
+            Turns(10, NeedsLine),
+            Line(2, "xyz"),
+            Line(2, "too late"),
+            Shows(""),
+            Turns(10, Ran),
+            Shows("stream x for m1, ok 1 for m1 to 2, idle for m1"),
+            Turns(10, Rest),
+        ],
+    )?;
+    // A silent cell asks all the same.
+    play(
+        &rt,
+        &[
+            CellWith(1, "m1", "a?b", ",\"silent\":true"),
+            Read,
+            Turns(10, NeedsLine),
+            Shows("busy for m1, input_request for m1 to 1"),
+            Line(1, ""),
+            Turns(10, Ran),
+            Shows("ok 0 for m1 to 1, idle for m1"),
+        ],
+    )?;
+    // A line that an interrupt finds unread is not read: the session keeps what the cell before left.
+    play(
+        &rt,
+        &[
+            Cell(1, "m1", "k"),
+            Cell(1, "m2", "?$"),
+            Read,
+            Turns(10, Ran),
+            Turns(10, NeedsLine),
+            Line(1, "x"),
+            Control(0, "i1", "interrupt_request", ""),
+            Shows(
+                "busy for m1, input 1 for m1, stream k for m1, ok 1 for m1 to 1, idle for m1, busy for m2, input 2 for m2, input_request for m2 to 1, busy for i1, interrupt_reply for i1 to 0, idle for i1, error Interrupted:  for m2, err 2 Interrupted for m2 to 1, idle for m2",
+            ),
+            Cell(1, "m3", "$"),
+            Read,
+            Turns(10, Ran),
+            Shows("busy for m3, input 3 for m3, stream k for m3, ok 3 for m3 to 1, idle for m3"),
+        ],
+    )
 }
 
 #[test]
-fn a_cell_asks(rt: HostRuntime) -> Result<(), Fail> {
-    play_anew(&rt, rt.alloc(), Play::Asks)
-}
-
-#[test]
-fn a_cell_that_may_not_ask(rt: HostRuntime) -> Result<(), Fail> {
-    play_anew(&rt, rt.alloc(), Play::Forbidden)
-}
-
-#[test]
-fn a_seat_that_leaves_when_asked(rt: HostRuntime) -> Result<(), Fail> {
-    play_anew(&rt, rt.alloc(), Play::LeavesWhenAsked)
-}
-
-#[test]
-fn a_seat_that_left_before(rt: HostRuntime) -> Result<(), Fail> {
-    play_anew(&rt, rt.alloc(), Play::LeftBefore)
-}
-
-#[test]
-fn a_line_unread_at_an_interrupt(rt: HostRuntime) -> Result<(), Fail> {
-    play_anew(&rt, rt.alloc(), Play::UnreadAtInterrupt)
-}
-
-#[test]
-fn a_silent_cell_that_asks(rt: HostRuntime) -> Result<(), Fail> {
-    play_anew(&rt, rt.alloc(), Play::SilentAsks)
+fn a_cell_without_a_line(rt: HostRuntime) -> Result<(), Fail> {
+    // It may not ask. What it wrote before and after is one stream.
+    play(
+        &rt,
+        &[
+            CellWith(2, "m1", "a?b??c", ",\"allow_stdin\":false"),
+            Read,
+            Turns(10, Ran),
+            Shows("busy for m1, input 1 for m1, stream abc for m1, ok 1 for m1 to 2, idle for m1"),
+        ],
+    )?;
+    // Its seat leaves while it is asked.
+    play(
+        &rt,
+        &[
+            Cell(2, "m1", "a?b"),
+            Read,
+            Turns(10, NeedsLine),
+            Leave(1),
+            Turns(10, NeedsLine),
+            Leave(2),
+            Line(2, "too late"),
+            Turns(10, Ran),
+            Shows(
+                "busy for m1, input 1 for m1, stream a for m1, input_request for m1 to 2, left 1 1 to nobody, left 2 1 to nobody, stream b for m1, ok 1 for m1 to 2, idle for m1",
+            ),
+        ],
+    )?;
+    // Its seat has left before it begins.
+    play(
+        &rt,
+        &[
+            Cell(2, "m1", "?b"),
+            Leave(2),
+            Read,
+            Turns(10, Ran),
+            Shows(
+                "left 2 1 to nobody, busy for m1, input 1 for m1, stream b for m1, ok 1 for m1 to 2, idle for m1",
+            ),
+        ],
+    )
 }

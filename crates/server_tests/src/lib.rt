@@ -8,6 +8,8 @@ mod input;
 mod kernel;
 mod lines;
 #[cfg(test)]
+mod plays;
+#[cfg(test)]
 mod recorder;
 #[cfg(test)]
 mod replays;
