@@ -22,4 +22,6 @@ mod parse;
 #[cfg(test)]
 mod scan;
 #[cfg(test)]
+mod several;
+#[cfg(test)]
 mod types;
