@@ -33,6 +33,29 @@ fn reads_whole_numbers_alone(rt: HostRuntime) -> Result<(), Fail> {
     Ok(())
 }
 
+// Of equal keys the last stays, and the numbers under the others count too.
+#[test]
+fn judges_numbers_under_equal_keys(rt: HostRuntime) -> Result<(), Fail> {
+    let not_whole = Some(Bad::Fault(Fault::NotWhole));
+    let texts = [
+        "{\"n\":1.5,\"n\":1}",
+        "{\"n\":1,\"n\":1e0}",
+        "{\"n\":-0,\"n\":0}",
+        "{\"n\":18446744073709551616,\"n\":1}",
+        "{\"n\":-9223372036854775809,\"n\":1}",
+        "{\"o\":{\"n\":1.5,\"n\":1}}",
+        "[{\"o\":{\"n\":[0.0]},\"o\":{}}]",
+    ];
+    for text in texts {
+        assert_eq!(rt; refused(&rt, text), not_whole);
+    }
+    let not_json = "{\"n\":1.5,\"n\":1";
+    assert_eq!(rt; refused(&rt, not_json), Some(Bad::Fault(Fault::NotJson)));
+    let text_and_key = "{\"n\":\"1.5\",\"n\":2,\"1.5\":3}";
+    assert_eq!(rt; written(&rt, text_and_key)?.as_str(), "{\"1.5\":3,\"n\":2}");
+    Ok(())
+}
+
 #[test]
 fn reads_bytes(rt: HostRuntime) -> Result<(), Fail> {
     let read = Json::read_bytes(rt.alloc(), b"{\"b\":1,\"a\":2,\"b\":3}")?;

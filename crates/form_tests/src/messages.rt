@@ -162,6 +162,23 @@ fn refuses_texts(rt: HostRuntime) -> Result<(), Fail> {
 }
 
 #[test]
+fn refuses_numbers_under_equal_keys(rt: HostRuntime) -> Result<(), Fail> {
+    let contents = [
+        "{\"code\":\"x\",\"n\":1.5}",
+        "{\"code\":\"x\",\"n\":1.5,\"n\":1}",
+        "{\"code\":\"x\",\"n\":{\"a\":1e2,\"a\":1}}",
+        "{\"code\":-0,\"code\":\"x\"}",
+    ];
+    for content in contents {
+        assert_eq!(rt; fault_of(&rt, "shell", "execute_request", content)?, 4);
+    }
+    let whole = "{\"code\":7,\"code\":\"x\",\"n\":1,\"n\":2}";
+    assert_eq!(rt; fault_of(&rt, "shell", "execute_request", whole)?, 0);
+    assert_eq!(rt; fault(&rt, "{\"header\":1.5,\"header\":7}"), 4);
+    Ok(())
+}
+
+#[test]
 fn refuses_the_first_fault(rt: HostRuntime) -> Result<(), Fail> {
     assert_eq!(rt; fault(&rt, "{\"header\":7}"), 3);
     assert_eq!(rt; fault(&rt, "{\"header\":null}"), 3);

@@ -164,6 +164,21 @@ fn refuses_by_number(rt: HostRuntime) -> Result<(), Fail> {
 }
 
 #[test]
+fn refuses_numbers_under_equal_keys(rt: HostRuntime) -> Result<(), Fail> {
+    let version =
+        "{\"cells\":[],\"metadata\":{},\"nbformat\":{\"a\":1.5,\"a\":2},\"nbformat_minor\":5}";
+    assert_eq!(rt; refused(&rt, version), Some(NbFault::NotWhole));
+    let id = "{\"cell_type\":\"raw\",\"id\":1.5,\"id\":\"a\",\"metadata\":{},\"source\":\"\"}";
+    assert_eq!(rt; refused_cells(&rt, id)?, Some(NbFault::NotWhole));
+    let metadata =
+        "{\"cell_type\":\"raw\",\"id\":\"a\",\"metadata\":{\"n\":-0,\"n\":0},\"source\":\"\"}";
+    assert_eq!(rt; refused_cells(&rt, metadata)?, Some(NbFault::NotWhole));
+    let whole = "{\"cell_type\":\"raw\",\"id\":1,\"id\":\"a\",\"metadata\":{},\"source\":\"\"}";
+    assert_eq!(rt; refused_cells(&rt, whole)?, None);
+    Ok(())
+}
+
+#[test]
 fn a_bad_field_comes_before_a_bad_id(rt: HostRuntime) -> Result<(), Fail> {
     let bad_id = "{\"cell_type\":\"raw\",\"id\":\"a b\",\"metadata\":{},\"source\":\"\"}";
     let good = "{\"cell_type\":\"raw\",\"id\":\"a\",\"metadata\":{},\"source\":\"\"}";

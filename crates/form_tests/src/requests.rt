@@ -366,3 +366,16 @@ fn segments_and_fields(rt: HostRuntime) -> Result<(), Fail> {
     assert!(rt; query_value(rt.alloc(), query, "format")?.is_none());
     Ok(())
 }
+
+// A slash that is escaped stays inside its segment, and two slashes have an empty one between them: who joins
+// segments to a path has to refuse both.
+#[test]
+fn a_segment_may_hold_a_slash_or_nothing(rt: HostRuntime) -> Result<(), Fail> {
+    let segments = path_segments(rt.alloc(), "/a%2Fb//..")?;
+    let expected: [&[u8]; 4] = [b"", b"a/b", b"", b".."];
+    assert_eq!(rt; segments.as_slice().len(), 4);
+    for (segment, bytes) in segments.as_slice().iter().zip(expected) {
+        assert_eq!(rt; segment.as_slice(), bytes);
+    }
+    Ok(())
+}

@@ -5,10 +5,9 @@ use Rattle.std.specs.Result.{result_ok}
 use Rattle.serde_json.specs.Data.{Data}
 use Rattle.serde_json.specs.Find.{get, as_str}
 use Rattle.serde_json.specs.Read.{read}
-use Rattle.serde_json.specs.Written.{has_float}
 use Rattle.json_form.specs.declared.fault.Fault.{Fault}
 use Rattle.json_form.specs.declared.fault.Bad.{Bad}
-use Rattle.json_form.specs.Forms.{◌>>=◌, Gives, if_whole, whole_json, of_kind, optional, HasOr, text_at, text_or, boolean_or, whole_or, object_at, object_or_empty, no_items_at}
+use Rattle.json_form.specs.Forms.{◌>>=◌, Gives, text_has_float, if_whole, whole_json, of_kind, optional, HasOr, text_at, text_or, boolean_or, whole_or, object_at, object_or_empty, no_items_at}
 use Rattle.json_form.proofs.Binds.{bind_ok, ok_same}
 use Rattle.json_form.proofs.Fields.{text_at-found, text_at-only, text_or-found, text_or-only, boolean_or-found, boolean_or-only, whole_or-found, whole_or-only, object_at-found, object_at-only, object_or_empty-found, object_or_empty-only, no_items_at-found, no_items_at-only}
 use Rattle.jp_msg.specs.declared.message.Message.{Message}
@@ -220,23 +219,20 @@ unless : (b : Bool) (g : Fault) (r : Result Data Fault) (d : Data) → cond b (E
 unless true g r d e = cc
 unless false g r d e = (refl, e)
 
-whole_found_at : (b : Bool) (g : Fault) (d x : Data) → has_float d ≡ b → cond b (Err g) (Ok d) ≡ Ok x → (d ≡ x) × (has_float x ≡ false)
-whole_found_at true g d x h e = cc
-whole_found_at false g d x h e = let same = ok_same d x e in (same, ap has_float (sym same) ∙ h)
+whole_found : (float : Bool) (o : Option Data) (d : Data) → if_whole float o ≡ Ok d → (o ≡ Some d) × (float ≡ false)
+whole_found float None d e = cc
+whole_found true (Some x) d e = cc
+whole_found false (Some x) d e = (ap Some (ok_same x d e), refl)
 
-whole_found : (o : Option Data) (d : Data) → if_whole o ≡ Ok d → (o ≡ Some d) × (has_float d ≡ false)
-whole_found None d e = cc
-whole_found (Some x) d e = let f = whole_found_at (has_float x) _ x d refl e in (ap Some f.0, f.1)
-
-whole_only : (o : Option Data) (d : Data) → o ≡ Some d → has_float d ≡ false → if_whole o ≡ Ok d
-whole_only o d e h = rw (e, h) refl
+whole_only : (float : Bool) (o : Option Data) (d : Data) → o ≡ Some d → float ≡ false → if_whole float o ≡ Ok d
+whole_only float o d e h = rw (e, h) refl
 
 pub text_found : (text : List ℕ) (m : Message) → message_at text ≡ Ok m → IsMessageText text m
 unfolding message_at value_at whole_json
 text_found text m e =
     let v = bind_ok (value_at text) _ m e in
     let a = unless (nat_lt 1048576 (length text)) _ _ v.0 v.1 in
-    let w = whole_found (read text) v.0 a.1 in
+    let w = whole_found (text_has_float text) (read text) v.0 a.1 in
     record { short = short (length text) a.0; value = v.0; reads = w.0; whole = w.1; message = message_found v.0 m v.2 }
   where
     short : (n : ℕ) → nat_lt 1048576 n ≡ false → n ≤ 1048576
@@ -246,7 +242,7 @@ pub is_read : (text : List ℕ) (m : Message) → IsMessageText text m → messa
 unfolding message_at value_at whole_json
 is_read text m f =
     let fits : nat_lt 1048576 (length text) ≡ false = fits_in (length text) f.short in
-    let d = whole_only (read text) f.value f.reads f.whole in
+    let d = whole_only (text_has_float text) (read text) f.value f.reads f.whole in
     let e = message_only f.value m f.message in
     rw (fits, d, e) refl
   where

@@ -5,8 +5,7 @@ use Rattle.std.specs.Result.{result_ok}
 use Rattle.serde_json.specs.Data.{Data}
 use Rattle.serde_json.specs.Find.{as_str, as_bool}
 use Rattle.serde_json.specs.Read.{read}
-use Rattle.serde_json.specs.Written.{has_float}
-use Rattle.json_form.specs.Forms.{Has, HasOr, object_of, whole_of, no_items_of, empty_object}
+use Rattle.json_form.specs.Forms.{Has, HasOr, object_of, whole_of, no_items_of, empty_object, text_has_float}
 use Rattle.jp_msg.specs.declared.message.Message.{Message}
 use Rattle.jp_msg.specs.declared.message.Header.{Header}
 use Rattle.jp_msg.specs.declared.message.Execute.{Execute}
@@ -86,10 +85,10 @@ pub record IsMessage (d : Data) (m : Message) : Type 0 where
   pub channel : HasOr Shell channel_kind (codes "channel") d m.channel
   pub buffers : HasOr tt no_items_of (codes "buffers") d m.buffers
 
--- a text of at most 1,048,576 bytes that is JSON, with whole numbers alone, and a message
+-- a text of at most 1,048,576 bytes that is JSON, with whole numbers alone wherever they stand, and a message
 pub record IsMessageText (text : List ℕ) (m : Message) : Type 0 where
   pub short : length text ≤ 1048576
   pub value : Data
   pub reads : read text ≡ Some value
-  pub whole : has_float value ≡ false
+  pub whole : text_has_float text ≡ false
   pub message : IsMessage value m

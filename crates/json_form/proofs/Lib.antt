@@ -4,3 +4,6 @@ pub mod Binds
 pub mod Fields
 pub mod Lists
 pub mod Crossing
+pub mod Spelled
+pub mod Floats
+pub mod Written

@@ -1,14 +1,17 @@
 -- What a form reads: a value, or the fault that comes first.
-use Rattle.std.specs.Prelude.{◌≡◌, ◌⊎◌, ℕ, ℤ, List, [], ◌∷◌, ◌++◌, Bool, Option, Some, None, Result, Ok, Err, if◌then◌else◌, option_and_then, option_map}
+use Rattle.std.specs.Prelude.{◌≡◌, ◌⊎◌, ℕ, ℤ, List, [], ◌∷◌, ◌++◌, Bool, Option, false, Some, None, Result, Ok, Err, if◌then◌else◌, option_and_then, option_map, unwrap_or}
+use Rattle.std.specs.List.{list_any}
 use Rattle.std.specs.Borrow.{Bor}
 use Rattle.json.specs.Layout.{pretty}
+use Rattle.json.specs.Lex.{tokens}
+use Rattle.json.specs.Token.{Token}
 use Rattle.json.specs.Tree.{json_tokens}
-use Rattle.serde_json.specs.Data.{Data, null, boolean, number, string, array, object, Items, no_items, item, no_members}
-use Rattle.serde_json.specs.Find.{get, as_str, as_bool, as_number, as_integer, as_array, as_object}
-use Rattle.serde_json.specs.Read.{read}
+use Rattle.serde_json.specs.Data.{Num, Data, null, boolean, number, string, array, object, Items, no_items, item, no_members}
+use Rattle.serde_json.specs.Find.{get, as_str, as_bool, is_float, as_number, as_integer, as_array, as_object}
+use Rattle.serde_json.specs.Read.{number_of, read}
 use Rattle.serde_json.specs.View.{view}
 use Rattle.serde_json.specs.declared.value.Value.{Value}
-use Rattle.serde_json.specs.Written.{has_float, outline}
+use Rattle.serde_json.specs.Written.{outline}
 use Rattle.json_form.specs.declared.fault.Fault.{Fault}
 use Rattle.json_form.specs.declared.fault.Fault.TheVariants.{NotJson, Missing, WrongKind, NotWhole}
 use Rattle.json_form.specs.declared.fault.Bad.{Bad}
@@ -32,14 +35,39 @@ Gives (Err e) form = Fails e form
 abbrev pub empty_object : Data
 empty_object = object no_members
 
--- a value that has been read, if its numbers are whole
-abbrev pub if_whole : Option Data → Result Data Fault
-if_whole None = Err NotJson
-if_whole (Some d) = if has_float d then Err NotWhole else Ok d
+-- ---- the numbers of a text
+
+-- A number that is no integer of 64 bits is a float: it has a fraction or an exponent, is `-0`, or is too large.
+abbrev pub number_is_float : Option Num → Bool
+number_is_float n = unwrap_or (option_map is_float n) false
+
+unfoldable pub text_is_float : List ℕ → Bool
+text_is_float s = number_is_float (number_of s)
+
+abbrev pub token_is_float : Token → Bool
+token_is_float Token.begin_object = false
+token_is_float Token.end_object = false
+token_is_float Token.begin_array = false
+token_is_float Token.end_array = false
+token_is_float (Token.key s) = false
+token_is_float (Token.string s) = false
+token_is_float (Token.number s) = text_is_float s
+token_is_float (Token.boolean b) = false
+token_is_float Token.null = false
+token_is_float Token.bad = false
+
+-- Each number that stands in the text counts, also one that a later equal key drops.
+unfoldable pub text_has_float : List ℕ → Bool
+text_has_float text = list_any token_is_float (tokens text)
+
+-- a value that has been read, if the numbers of its text are whole
+abbrev pub if_whole : Bool → Option Data → Result Data Fault
+if_whole float None = Err NotJson
+if_whole float (Some d) = if float then Err NotWhole else Ok d
 
 -- the value of a text
 unfoldable pub whole_json : List ℕ → Result Data Fault
-whole_json text = if_whole (read text)
+whole_json text = if_whole (text_has_float text) (read text)
 
 -- ---- the fields of an object
 

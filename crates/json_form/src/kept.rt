@@ -42,8 +42,8 @@ impl Model for Json {
 }
 
 impl Json {
-    /// The value of a text, if it is JSON (`NotJson`) whose numbers are whole (`NotWhole`). What RFC 8259 leaves
-    /// open: of equal keys the last stays, and 127 levels are read.
+    /// The value of a text, if it is JSON (`NotJson`) whose numbers are whole (`NotWhole`), wherever they stand.
+    /// What RFC 8259 leaves open: of equal keys the last stays, and 127 levels are read.
     #[tactic(auto, unfolding(crate::specs::Forms::whole_json))]
     pub fn read(alloc: Global, text: &str) -> Result<Json, Bad>
         ensures { Gives result (whole_json text.now) }
@@ -57,7 +57,7 @@ impl Json {
                 return Err(Bad::Fault(Fault::NotJson));
             }
         };
-        if holds_float(&value) {
+        if holds_float(alloc, text)? {
             return Err(Bad::Fault(Fault::NotWhole));
         }
         Ok(Json { value })

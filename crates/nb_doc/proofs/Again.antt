@@ -15,7 +15,7 @@ use Rattle.json.specs.Layout.{pretty}
 use Rattle.json.specs.Lex.{tokens}
 use Rattle.json.specs.Tree.{json_tokens}
 use Rattle.json_form.specs.declared.fault.Fault.TheVariants as form
-use Rattle.json_form.specs.Forms.{of_kind, each, joined_items, joined_of, joined_at, text_at, object_at, whole_json, pretty_text}
+use Rattle.json_form.specs.Forms.{of_kind, each, joined_items, joined_of, joined_at, text_at, object_at, text_has_float, whole_json, pretty_text}
 use Rattle.json_form.proofs.Fields.{text_at-only}
 use Rattle.nb_doc.specs.declared.draft.Age.TheVariants.{Current}
 use Rattle.nb_doc.specs.declared.draft.Draft.{Draft}
@@ -33,7 +33,7 @@ use Rattle.nb_doc.specs.Reading.{number_at, age_of, ids_of, notebook_of, json_at
 use Rattle.nb_doc.specs.Writing.{lines_of, onto_first, texts_form, lines_form, join_onto, joined, stream_form, error_form, output_form, outputs_form, count_form, code_form, text_form, content_form, cell_form, cells_form, notebook_form}
 use Rattle.nb_doc.specs.Documents.{Each, IsObject, IsOutput, AreAttachments, IsContent, IsCell, ids, IsDocument, joined_content, joined_cell, joined_notebook}
 use Rattle.nb_doc.proofs.Among.{same_if}
-use Rattle.nb_doc.proofs.Trailing.{read-end}
+use Rattle.nb_doc.proofs.Trailing.{read-end, float-end}
 
 -- ---- texts
 
@@ -246,11 +246,11 @@ notebook_again n h = rw (age_again n, drafts_again n h, ids_again n.cells h.cell
 utf8_end : (text : List ℕ) → IsUtf8 text → is_utf8 (text ++ 10 ∷ []) ≡ true
 utf8_end text u = is_utf8-from_IsUtf8 (text ++ 10 ∷ []) (IsUtf8-append text (10 ∷ []) u (IsUtf8-are_ascii (10 ∷ []) refl))
 
-json_again : (text : List ℕ) (d : Data) → IsUtf8 text → read text ≡ Some d → has_float d ≡ false → json_at (text ++ 10 ∷ []) ≡ Ok d
+json_again : (text : List ℕ) (d : Data) → IsUtf8 text → read text ≡ Some d → text_has_float text ≡ false → json_at (text ++ 10 ∷ []) ≡ Ok d
 unfolding json_at whole_json
-json_again text d u r w = rw (utf8_end text u, read-end text, r, w) refl
+json_again text d u r w = let numbers = float-end text ∙ w in rw (utf8_end text u, read-end text, r, numbers) refl
 
-pub reads_back : (n : Notebook) (text : List ℕ) (d : Data) → d ≡ notebook_form n → IsUtf8 text → (depth d ≤ max_depth → read text ≡ Some d) → has_float d ≡ false → IsDocument n
+pub reads_back : (n : Notebook) (text : List ℕ) (d : Data) → d ≡ notebook_form n → IsUtf8 text → (depth d ≤ max_depth → read text ≡ Some d) → text_has_float text ≡ false → IsDocument n
     → depth (notebook_form n) ≤ max_depth → notebook_at (text ++ 10 ∷ []) ≡ Ok (joined_notebook n)
 unfolding notebook_at
 reads_back n text d is u r w h deep =

@@ -10,10 +10,9 @@ use Rattle.std.specs.Str.{bytes_eq, IsUtf8, is_utf8}
 use Rattle.serde_json.specs.Data.{Data, Items, no_items, item}
 use Rattle.serde_json.specs.Find.{get, as_str, as_array}
 use Rattle.serde_json.specs.Read.{read}
-use Rattle.serde_json.specs.Written.{has_float}
 use Rattle.json_form.specs.declared.fault.Fault.{Fault}
 use Rattle.json_form.specs.declared.fault.Fault.TheVariants as form
-use Rattle.json_form.specs.Forms.{◌>>=◌, Has, of_kind, needed, optional, each, whole_of, object_of, joined_of, joined_at, text_at, object_at, whole_json, if_whole}
+use Rattle.json_form.specs.Forms.{◌>>=◌, Has, of_kind, needed, optional, each, whole_of, object_of, joined_of, joined_at, text_at, object_at, text_has_float, whole_json, if_whole}
 use Rattle.json_form.proofs.Binds.{bind_ok, ok_same, needed_found, needed_only}
 use Rattle.json_form.proofs.Fields.{text_at-found, text_at-only, object_at-found, object_at-only}
 use Rattle.nb_doc.specs.declared.fault.NbFault.{NbFault}
@@ -587,23 +586,20 @@ notebook_only d n h =
 
 -- ---- the text
 
-whole_found : (o : Option Data) (d : Data) → if_whole o ≡ Ok d → (o ≡ Some d) × (has_float d ≡ false)
-whole_found None d e = cc
-whole_found (Some x) d e = go (has_float x) refl e
-  where
-    go : (b : Bool) → has_float x ≡ b → cond b (Err form.NotWhole) (Ok x) ≡ Ok d → (Some x ≡ Some d) × (has_float d ≡ false)
-    go true h e = cc
-    go false h e = let same = ok_same x d e in (ap Some same, ap has_float (sym same) ∙ h)
+whole_found : (float : Bool) (o : Option Data) (d : Data) → if_whole float o ≡ Ok d → (o ≡ Some d) × (float ≡ false)
+whole_found float None d e = cc
+whole_found true (Some x) d e = cc
+whole_found false (Some x) d e = (ap Some (ok_same x d e), refl)
 
-json_found : (text : List ℕ) (d : Data) → json_at text ≡ Ok d → IsUtf8 text × ((read text ≡ Some d) × (has_float d ≡ false))
+json_found : (text : List ℕ) (d : Data) → json_at text ≡ Ok d → IsUtf8 text × ((read text ≡ Some d) × (text_has_float text ≡ false))
 unfolding json_at whole_json
-json_found text d e = go (either (is_utf8 text) (if_whole (read text)) (Err form.NotJson) (Ok d) e)
+json_found text d e = go (either (is_utf8 text) (if_whole (text_has_float text) (read text)) (Err form.NotJson) (Ok d) e)
   where
-    go : ((is_utf8 text ≡ true) × Gets (if_whole (read text)) d) ⊎ Gets (Err form.NotJson) d → IsUtf8 text × ((read text ≡ Some d) × (has_float d ≡ false))
-    go (inl h) = (IsUtf8-from_is_utf8 text h.0, whole_found (read text) d h.1)
+    go : ((is_utf8 text ≡ true) × Gets (if_whole (text_has_float text) (read text)) d) ⊎ Gets (Err form.NotJson) d → IsUtf8 text × ((read text ≡ Some d) × (text_has_float text ≡ false))
+    go (inl h) = (IsUtf8-from_is_utf8 text h.0, whole_found (text_has_float text) (read text) d h.1)
     go (inr h) = cc
 
-json_only : (text : List ℕ) (d : Data) → IsUtf8 text → read text ≡ Some d → has_float d ≡ false → json_at text ≡ Ok d
+json_only : (text : List ℕ) (d : Data) → IsUtf8 text → read text ≡ Some d → text_has_float text ≡ false → json_at text ≡ Ok d
 unfolding json_at whole_json
 json_only text d u r w = let utf8 = is_utf8-from_IsUtf8 text u in rw (utf8, r, w) refl
 

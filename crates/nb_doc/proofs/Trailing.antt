@@ -1,7 +1,7 @@
 -- A line end after a JSON text changes none of its tokens.
 use Rattle.std.proofs.Common.{◌≡◌, ℕ, ◌+◌, ◌-◌, ◌≤◌, ◌==◌, List, [], ◌∷◌, ◌++◌, length, take, drop, Bool, true, false, cond, ◌&&◌, ◌||◌, nat_lt, nat_eq, Option, Some, None, option_map, option_and_then, refl, ap, ap₂, ◌∙◌, arith}
 use Rattle.std.proofs.lemmas.List.{length-append, take-append-le, drop-append-le}
-use Rattle.std.specs.List.{prefix_len, starts_with}
+use Rattle.std.specs.List.{prefix_len, starts_with, list_any}
 use Rattle.std.specs.Char.{is_ascii_digit, encode_utf8}
 use Rattle.json.specs.Token.{number, boolean, null, bad}
 use Rattle.json.specs.Text.{code_unit, short_escape, is_high_surrogate, is_low_surrogate, surrogate_pair, Within, plain, after_backslash, after_u, after_high, prepend, content}
@@ -10,6 +10,7 @@ use Rattle.json.specs.Ascii as ascii
 use Rattle.json.specs.Lex.{Lexeme, token, Class, quote, backslash, operator, space, other, class, operator_lexeme, string_token, Mode, between, in_word, in_string, in_escape, lex_byte, lex, fresh, punctuate}
 use Rattle.json.specs.Json as json
 use Rattle.serde_json.specs.Read.{of_json, max_depth, read}
+use Rattle.json_form.specs.Forms.{token_is_float, text_has_float}
 
 abbrev line_end : List ℕ
 line_end = 10 ∷ []
@@ -195,3 +196,7 @@ lex-end m (x ∷ xs) = byte-end m (class x) x xs (λ n. lex n (xs ++ line_end)) 
 
 pub read-end : (text : List ℕ) → read (text ++ 10 ∷ []) ≡ read text
 read-end text = ap (λ ts. option_and_then of_json (option_and_then (λ p. json.if_last p.0 p.1) (json.value max_depth (punctuate fresh ts)))) (lex-end between text)
+
+pub float-end : (text : List ℕ) → text_has_float (text ++ 10 ∷ []) ≡ text_has_float text
+unfolding text_has_float
+float-end text = ap (λ ts. list_any token_is_float (punctuate fresh ts)) (lex-end between text)

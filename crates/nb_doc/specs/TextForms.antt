@@ -7,8 +7,7 @@ use Rattle.std.specs.Str.{IsUtf8}
 use Rattle.serde_json.specs.Data.{Data, Items, no_items, item}
 use Rattle.serde_json.specs.Find.{get, as_str, as_array}
 use Rattle.serde_json.specs.Read.{read}
-use Rattle.serde_json.specs.Written.{has_float}
-use Rattle.json_form.specs.Forms.{Has, whole_of, object_of, joined_of}
+use Rattle.json_form.specs.Forms.{Has, whole_of, object_of, joined_of, text_has_float}
 use Rattle.nb_doc.specs.declared.draft.Age.{Age}
 use Rattle.nb_doc.specs.declared.draft.Age.TheVariants.{Current, Older}
 use Rattle.nb_doc.specs.declared.notebook.Notebook.{Notebook}
@@ -122,5 +121,5 @@ pub record IsNotebookText (text : List ℕ) (n : Notebook) : Type 0 where
   pub utf8 : IsUtf8 text
   pub value : Data
   pub reads : read text ≡ Some value
-  pub whole : has_float value ≡ false
+  pub whole : text_has_float text ≡ false
   pub notebook : IsNotebook value n

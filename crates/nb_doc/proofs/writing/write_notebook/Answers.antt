@@ -1,5 +1,6 @@
 use Rattle.std.proofs.Common.{◌∷◌, [], ◌++◌, ap, ◌∙◌}
 use Rattle.serde_json.specs.View.{view}
+use Rattle.json_form.proofs.Written.{written-whole}
 use Rattle.nb_doc.specs.Reading.{notebook_at}
 use Rattle.nb_doc.specs.Writing.{notebook_form, notebook_text}
 use Rattle.nb_doc.proofs.Again.{pretty_is, reads_back}
@@ -17,4 +18,5 @@ pub returns-clause-reads_back : goal.returns-clause-reads_back
 returns-clause-reads_back c =
     λ document deep.
     ap notebook_at c.in_ok-push.ensures.items
-    ∙ reads_back c.args.notebook.now c.in_ok-text.text.items (view c.in_ok-value.value) c.in_ok-value.ensures.form c.in_ok-text.ensures.utf8 c.in_ok-text.ensures.reads_back c.in_ok-value.ensures.whole document deep
+    ∙ reads_back c.args.notebook.now c.in_ok-text.text.items (view c.in_ok-value.value) c.in_ok-value.ensures.form c.in_ok-text.ensures.utf8 c.in_ok-text.ensures.reads_back
+    (written-whole c.in_ok-text.text.items (view c.in_ok-value.value) c.in_ok-text.ensures.order c.in_ok-value.ensures.whole) document deep

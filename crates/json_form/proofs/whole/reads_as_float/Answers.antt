@@ -1,0 +1,22 @@
+use Rattle.std.proofs.Common.{◌≡◌, drop, get_or, true, false, ◌==◌, sym, ap, ◌∙◌, arith, take_all, length-drop}
+use Rattle.fast_float.specs.Text.{scan}
+use Rattle.serde_json.specs.Read.{number_of, number_from}
+use Rattle.json_form.specs.Forms.{number_is_float, text_is_float}
+use Rattle.json_form.proofs.whole.reads_as_float.Goals as goal
+
+pub returns-then-has_minus : goal.returns-then-has_minus
+unfolding text_is_float number_of
+returns-then-has_minus c =
+    let s = c.args.text.now in
+    let signed : (get_or s 0 0 == 45) ≡ true = sym c.if-has_minus.ensures.value in
+    let parts : c.scan.result ≡ scan (drop 1 s) = c.scan.ensures.parts ∙ ap scan (take_all _ (drop 1 s) (omega (arith, length-drop 1 s))) in
+    let read : number_from true (scan (drop 1 s)) ≡ number_of s = rw signed in
+    c.negative_is_float.ensures ∙ ap (λ p. number_is_float (number_from true p)) parts ∙ ap number_is_float read
+
+pub returns-else-has_minus : goal.returns-else-has_minus
+unfolding text_is_float number_of
+returns-else-has_minus c =
+    let s = c.args.text.now in
+    let unsigned : (get_or s 0 0 == 45) ≡ false = sym c.if-has_minus.ensures.value in
+    let read : number_from false (scan s) ≡ number_of s = rw unsigned in
+    c.positive_is_float.ensures ∙ ap (λ p. number_is_float (number_from false p)) c.scan-else-has_minus.ensures.parts ∙ ap number_is_float read
