@@ -9,6 +9,7 @@ use std::sync::{Arc, Wait};
 use std::test::Fail;
 use std::thread;
 use std::thread::{JoinHandle, Threads};
+use std::time::Clock;
 use test_language::TestLanguage;
 
 type Parsers = Pool<ParsedCell<TestLanguage>>;
@@ -74,7 +75,7 @@ fn begin<R>(
     end: Parser,
 ) -> Result<JoinHandle<Parser>, AllocError>
 where
-    R: Threads + Wait + Copy + Send + 'static,
+    R: Threads + Wait + Clock + Copy + Send + 'static,
 {
     Ok(thread::spawn(&rt, move || {
         worker::<TestLanguage, R, HoldsFirst>(&rt, alloc, &*gate, end)
