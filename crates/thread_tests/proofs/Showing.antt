@@ -7,8 +7,8 @@ use Rattle.jk_core.specs.declared.arrival.What.TheVariants.{Join}
 use Rattle.jk_core.specs.Legal.{IsLegal}
 use Rattle.jk_core.specs.Render.{render}
 use Rattle.jk_core.specs.State.{KernelState, joined}
-use Rattle.jk_core.specs.Steps.{taken, without}
-use Rattle.jk_core.proofs.Shown.{IsShown, shown_taken, shown_without}
+use Rattle.jk_core.specs.Steps.{Takes, without}
+use Rattle.jk_core.proofs.Shown.{shown_takes, shown_without}
 use Rattle.jk_board.specs.Boards.{IsBoard}
 use Rattle.thread_tests.specs.Shown.{HasShown}
 
@@ -17,10 +17,10 @@ join_of seat number = record { seat = seat; number = number; what = Join }
 
 module _ {S T : Type 0} (spoken : Spoken S T) where
   -- an arrival that is taken
-  pub taken_shown : (a : Arrival) (old new : KernelState T) → new ≡ taken a old → IsLegal spoken new.log → (shown : List Entry) → HasShown spoken shown old → HasShown spoken shown new
+  pub taken_shown : (a : Arrival) (old new : KernelState T) → Takes spoken a old new → IsLegal spoken new.log → (shown : List Entry) → HasShown spoken shown old → HasShown spoken shown new
   taken_shown a old new is legal shown h = record {
     legal = legal;
-    rendered = subst (λ (k : KernelState T). IsShown shown k) (sym is) (shown_taken shown a old h.rendered);
+    rendered = shown_takes spoken shown a old new is h.rendered;
   }
 
   -- what is pending, in two parts

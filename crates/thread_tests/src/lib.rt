@@ -3,9 +3,12 @@
 
 #[cfg(test)]
 mod board_tests;
+#[cfg(test)]
+mod driver_tests;
 pub mod following;
 #[cfg(test)]
 mod inbox_tests;
 pub mod joins;
 #[cfg(test)]
 mod pool_tests;
+pub mod scene;
