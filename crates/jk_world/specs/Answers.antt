@@ -15,7 +15,8 @@ use Rattle.jk_core.specs.declared.entry.Told.TheVariants as told
 use Rattle.jk_core.specs.declared.entry.To.TheVariants.{All, Seat}
 use Rattle.jk_core.specs.declared.mark.Kind.{Kind}
 use Rattle.jk_core.specs.declared.mark.Kind.TheVariants.{Answer}
-use Rattle.jk_core.specs.Log.{Log}
+use Rattle.jk_core.specs.Asked.{query_in}
+use Rattle.jk_core.specs.Log.{Log, arrival_at}
 use Rattle.jk_core.specs.Queries.{IsStatus, reply_to}
 use Rattle.jk_core.specs.Render.{render}
 use Rattle.jk_world.specs.Cells.{times}
@@ -64,3 +65,8 @@ abbrev pub IsShownOnce : {S T : Type 0} → Spoken S T → Log → ℕ → Arriv
 IsShownOnce spoken log at a asked =
     ((times_query_answered at log ≡ 0) × (outputs_in (shown_at at log) ≡ []))
     ⊎ ((times_query_answered at log ≡ 1) × IsReplied spoken log at a asked)
+
+-- so each request that waits on the shell channel and is no cell, at whatever place of the log
+abbrev pub AreShownOnce : {S T : Type 0} → Spoken S T → Log → Type 0
+AreShownOnce spoken log =
+    (at : ℕ) (a : Arrival) (asked : Request) → arrival_at at log ≡ Some a → query_in a.what ≡ Some asked → IsShownOnce spoken log at a asked

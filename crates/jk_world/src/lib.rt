@@ -3,11 +3,8 @@
 #![tactic(auto)]
 
 ghost use Rattle.std.specs.Prelude.{◌≡◌, ◌++◌, ◌||◌, List, ℕ, None, Some};
-ghost use Rattle.jp_msg.specs.declared.message.Request.{Request};
-ghost use Rattle.jk_core.specs.declared.arrival.Arrival.{Arrival};
 ghost use Rattle.jk_core.specs.declared.entry.Entry.{Entry};
-ghost use Rattle.jk_core.specs.Asked.{query_in};
-ghost use Rattle.jk_core.specs.Log.{Log, arrival_at};
+ghost use Rattle.jk_core.specs.Log.{Log};
 ghost use Rattle.jk_core.specs.Legal.{IsLegal};
 ghost use Rattle.jk_core.specs.Render.{render};
 ghost use Rattle.jk_world.specs.World.{World, Event, opening, Run, IsTrueWorld, HasGoneOn};
@@ -18,7 +15,7 @@ ghost use Rattle.jk_world.specs.Input.{IsInputRight};
 ghost use Rattle.jk_world.specs.Counts.{TellCounts};
 ghost use Rattle.jk_world.specs.Requests.{IsShownRight};
 ghost use Rattle.jk_world.specs.Parents.{ParentsFit};
-ghost use Rattle.jk_world.specs.Answers.{IsShownOnce};
+ghost use Rattle.jk_world.specs.Answers.{AreShownOnce};
 ghost use Rattle.jk_world.specs.View.{view, part, has_joined};
 
 use jk_language::Language;
@@ -85,8 +82,7 @@ pub fn shown_law<L: Language>()
 /// In what is shown of a legal log, of a request that waits on the shell channel and is no cell no output stands before it
 /// is answered. Then busy, its one reply, to its asker on its channel, and idle stand together, and no other output of it.
 pub fn answer_law<L: Language>()
-    ensures { (log : Log) (at : ℕ) (a : Arrival) (asked : Request) → IsLegal L.spoken log
-        → arrival_at at log ≡ Some a → query_in a.what ≡ Some asked → IsShownOnce L.spoken log at a asked }
+    ensures { (log : Log) → IsLegal L.spoken log → AreShownOnce L.spoken log }
 {}
 
 /// In what is shown of a legal log each stream and each error is for the request of the last `ExecuteInput` before it.

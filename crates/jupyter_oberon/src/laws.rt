@@ -1,10 +1,7 @@
 //! The laws of a kernel and the world round it, for Oberon: a legal log is here one of the written meaning of Oberon-07.
 
 ghost use Rattle.std.specs.Prelude.{◌≡◌, List, ℕ, None, Some};
-ghost use Rattle.jp_msg.specs.declared.message.Request.{Request};
-ghost use Rattle.jk_core.specs.declared.arrival.Arrival.{Arrival};
-ghost use Rattle.jk_core.specs.Asked.{query_in};
-ghost use Rattle.jk_core.specs.Log.{Log, arrival_at};
+ghost use Rattle.jk_core.specs.Log.{Log};
 ghost use Rattle.jk_core.specs.Legal.{IsLegal};
 ghost use Rattle.jk_core.specs.Render.{render};
 ghost use Rattle.jk_world.specs.World.{World, Event, opening, Run, IsTrueWorld, HasGoneOn};
@@ -15,7 +12,7 @@ ghost use Rattle.jk_world.specs.Input.{IsInputRight};
 ghost use Rattle.jk_world.specs.Counts.{TellCounts};
 ghost use Rattle.jk_world.specs.Requests.{IsShownRight};
 ghost use Rattle.jk_world.specs.Parents.{ParentsFit};
-ghost use Rattle.jk_world.specs.Answers.{IsShownOnce};
+ghost use Rattle.jk_world.specs.Answers.{AreShownOnce};
 ghost use Rattle.ob_parse.specs.declared.tree.Cell.{Cell};
 ghost use Rattle.ob_session.specs.Session.{Session};
 ghost use Rattle.ob_cell.specs.Oberon.{spoken_oberon};
@@ -90,8 +87,7 @@ pub fn shown_law()
 
 /// What is shown of a request that waits and is no cell.
 pub fn answer_law()
-    ensures { (log : Log) (at : ℕ) (a : Arrival) (asked : Request) → IsLegal spoken_oberon log
-        → arrival_at at log ≡ Some a → query_in a.what ≡ Some asked → IsShownOnce spoken_oberon log at a asked }
+    ensures { (log : Log) → IsLegal spoken_oberon log → AreShownOnce spoken_oberon log }
 {
     jk_world::answer_law::<Oberon>()
 }
