@@ -1,1 +1,4 @@
 pub mod Telling
+pub mod Failing
+pub mod Finding
+pub mod Fresh

@@ -6,9 +6,10 @@ use Rattle.js_http.specs.declared.method.Method.{Method}
 use Rattle.js_http.specs.declared.method.Method.TheVariants.{Get, Post, Put, Patch, Delete, Other}
 use Rattle.js_http.specs.declared.request.Request.{Request}
 use Rattle.js_http.specs.declared.response.ErrorStatus.{ErrorStatus}
-use Rattle.js_http.specs.declared.response.ErrorStatus.TheVariants.{NotFound, MethodNotAllowed, InternalServerError, NotImplemented}
+use Rattle.js_http.specs.declared.response.ErrorStatus.TheVariants.{NotFound, MethodNotAllowed, InternalServerError}
 use Rattle.js_http.specs.declared.response.Response.TheVariants.{Refused}
 use Rattle.js_shelf.specs.Shelves.{Contents, Same}
+use Rattle.js_rest.specs.Contents as contents
 use Rattle.js_tables.specs.declared.given.Given.{Given}
 use Rattle.js_tables.specs.declared.plan.Answer.{Answer}
 use Rattle.js_tables.specs.declared.plan.Answer.TheVariants.{Reply}
@@ -22,6 +23,7 @@ use Rattle.js_rest.specs.declared.route.Route.TheVariants as route
 use Rattle.js_rest.specs.declared.untold.Untold.{Untold}
 use Rattle.js_rest.specs.Changes.{Tries, TriesAlone}
 use Rattle.js_rest.specs.Kernels as kernels
+use Rattle.js_rest.specs.Opening as opening
 use Rattle.js_rest.specs.Routes.{route_of}
 use Rattle.js_rest.specs.Sessions as sessions
 
@@ -90,13 +92,13 @@ channels_plan Patch id r = Err MethodNotAllowed
 channels_plan Delete id r = Err MethodNotAllowed
 channels_plan Other id r = Err MethodNotAllowed
 
-abbrev pub sessions_plan : Method → Rows → Result Plan ErrorStatus
-sessions_plan Get r = sessions.all_plan r
-sessions_plan Post r = Err NotImplemented
-sessions_plan Put r = Err MethodNotAllowed
-sessions_plan Patch r = Err MethodNotAllowed
-sessions_plan Delete r = Err MethodNotAllowed
-sessions_plan Other r = Err MethodNotAllowed
+abbrev pub sessions_plan : Method → Contents → Rows → Given → Request → Result Plan ErrorStatus
+sessions_plan Get m r given request = sessions.all_plan r
+sessions_plan Post m r given request = opening.open_plan m r given request.body
+sessions_plan Put m r given request = Err MethodNotAllowed
+sessions_plan Patch m r given request = Err MethodNotAllowed
+sessions_plan Delete m r given request = Err MethodNotAllowed
+sessions_plan Other m r given request = Err MethodNotAllowed
 
 abbrev pub session_plan : Method → List ℕ → List ℕ → Rows → Result Plan ErrorStatus
 session_plan Get id body r = sessions.one_plan id r
@@ -116,17 +118,62 @@ tables_plan route.Kernel r given request = kernel_plan request.method (segment r
 tables_plan route.Interrupt r given request = interrupt_plan request.method (segment request 3) r
 tables_plan route.Restart r given request = restart_plan request.method (segment request 3) r
 tables_plan route.Channels r given request = channels_plan request.method (segment request 3) r
-tables_plan route.Sessions r given request = sessions_plan request.method r
+tables_plan route.Sessions r given request = Err MethodNotAllowed
 tables_plan route.Session r given request = session_plan request.method (segment request 3) request.body r
-tables_plan route.Contents r given request = Err NotImplemented
+tables_plan route.Contents r given request = Err MethodNotAllowed
 
-abbrev pub plan_at : Option Route → Rows → Given → Request → Result Plan ErrorStatus
-plan_at None r given request = Err NotFound
-plan_at (Some route) r given request = tables_plan route r given request
+-- what is found for a request on a route: its plan, the status that refuses it, or that the device or memory failed
+abbrev pub IsFoundOn : Route → Contents → Rows → Given → Request → Result Plan Refusal → Type 0
+IsFoundOn route.Version m r given request found = Gives found (tables_plan route.Version r given request)
+IsFoundOn route.Kernelspecs m r given request found = Gives found (tables_plan route.Kernelspecs r given request)
+IsFoundOn route.Kernels m r given request found = Gives found (tables_plan route.Kernels r given request)
+IsFoundOn route.Kernel m r given request found = Gives found (tables_plan route.Kernel r given request)
+IsFoundOn route.Interrupt m r given request found = Gives found (tables_plan route.Interrupt r given request)
+IsFoundOn route.Restart m r given request found = Gives found (tables_plan route.Restart r given request)
+IsFoundOn route.Channels m r given request found = Gives found (tables_plan route.Channels r given request)
+IsFoundOn route.Sessions m r given request found = Gives found (sessions_plan request.method m r given request)
+IsFoundOn route.Session m r given request found = Gives found (tables_plan route.Session r given request)
+IsFoundOn route.Contents m r given request found =
+    contents.IsFound m r given request (segments_of (path_of request)) found
 
--- the plan of a request, or the status that refuses it
-abbrev pub plan_of : Rows → Given → Request → Result Plan ErrorStatus
-plan_of r given request = plan_at (route_of (path_of request)) r given request
+-- an unknown path is 404
+abbrev pub IsFoundAt : Option Route → Contents → Rows → Given → Request → Result Plan Refusal → Type 0
+IsFoundAt None m r given request found = Gives found (Err NotFound)
+IsFoundAt (Some route) m r given request found = IsFoundOn route m r given request found
+
+abbrev pub IsFound : Contents → Rows → Given → Request → Result Plan Refusal → Type 0
+IsFound m r given request found = IsFoundAt (route_of (path_of request)) m r given request found
+
+-- the same without a word on the shelf, but for contents and a new session
+abbrev pub IsSessionsAlone : Method → Rows → Result Plan Refusal → Type 0
+IsSessionsAlone Get r found = Gives found (sessions.all_plan r)
+IsSessionsAlone Post r found = Unit {0}
+IsSessionsAlone Put r found = Gives found (Err MethodNotAllowed)
+IsSessionsAlone Patch r found = Gives found (Err MethodNotAllowed)
+IsSessionsAlone Delete r found = Gives found (Err MethodNotAllowed)
+IsSessionsAlone Other r found = Gives found (Err MethodNotAllowed)
+
+abbrev pub IsFoundAlone : Option Route → Rows → Given → Request → Result Plan Refusal → Type 0
+IsFoundAlone None r given request found = Gives found (Err NotFound)
+IsFoundAlone (Some route.Version) r given request found = Gives found (tables_plan route.Version r given request)
+IsFoundAlone (Some route.Kernelspecs) r given request found = Gives found (tables_plan route.Kernelspecs r given request)
+IsFoundAlone (Some route.Kernels) r given request found = Gives found (tables_plan route.Kernels r given request)
+IsFoundAlone (Some route.Kernel) r given request found = Gives found (tables_plan route.Kernel r given request)
+IsFoundAlone (Some route.Interrupt) r given request found = Gives found (tables_plan route.Interrupt r given request)
+IsFoundAlone (Some route.Restart) r given request found = Gives found (tables_plan route.Restart r given request)
+IsFoundAlone (Some route.Channels) r given request found = Gives found (tables_plan route.Channels r given request)
+IsFoundAlone (Some route.Sessions) r given request found = IsSessionsAlone request.method r found
+IsFoundAlone (Some route.Session) r given request found = Gives found (tables_plan route.Session r given request)
+IsFoundAlone (Some route.Contents) r given request found = Unit {0}
+
+abbrev pub Finds : Rows → Given → Request → Result Plan Refusal → Contents → Contents → Type 0
+Finds r given request result m n = Same m n × IsFound m r given request result
+
+abbrev pub FindsOn : Route → Rows → Given → Request → Result Plan Refusal → Contents → Contents → Type 0
+FindsOn route r given request result m n = Same m n × IsFoundOn route m r given request result
+
+abbrev pub FindsSessions : Rows → Given → Request → Result Plan Refusal → Contents → Contents → Type 0
+FindsSessions r given request result m n = Same m n × Gives result (sessions_plan request.method m r given request)
 
 -- ---- what becomes of a plan
 
@@ -154,9 +201,9 @@ module _ {L : Type 0} (begins : L → List ℕ → L → Type 0) (tells : L → 
   -- the answer to a request
   abbrev pub IsAnswer : Given → Request → Rows → Rows → L → L → Answer → Contents → Contents → Type 0
   IsAnswer given request r s l k answer m n =
-      (found : Result Plan Refusal) × Gives found (plan_of r given request) × Follows found r s l k answer m n
+      (found : Result Plan Refusal) × IsFound m r given request found × Follows found r s l k answer m n
 
-  -- the same without a word on the shelf
+  -- the same without a word on the shelf, but for contents and a new session
   abbrev pub StaysAlone : Rows → Rows → L → L → Type 0
   StaysAlone r s l k = (s ≡ r) × (k ≡ l)
 
@@ -169,6 +216,6 @@ module _ {L : Type 0} (begins : L → List ℕ → L → Type 0) (tells : L → 
   FollowsAlone (Ok plan) r s l k answer = CarriesOutAlone plan r s l k answer
   FollowsAlone (Err refusal) r s l k answer = (answer ≡ Reply (Refused (status_of refusal))) × StaysAlone r s l k
 
-  abbrev pub IsAnswerAlone : Given → Request → Rows → Rows → L → L → Answer → Type 0
-  IsAnswerAlone given request r s l k answer =
-      (found : Result Plan Refusal) × Gives found (plan_of r given request) × FollowsAlone found r s l k answer
+  abbrev pub IsAnswerAlone : Option Route → Given → Request → Rows → Rows → L → L → Answer → Type 0
+  IsAnswerAlone path given request r s l k answer =
+      (found : Result Plan Refusal) × IsFoundAlone path r given request found × FollowsAlone found r s l k answer

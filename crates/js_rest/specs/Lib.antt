@@ -1,5 +1,7 @@
 pub mod Routes
 pub mod Kernels
 pub mod Sessions
+pub mod Opening
+pub mod Contents
 pub mod Changes
 pub mod Answers

@@ -1,13 +1,16 @@
 //! The answer to a request.
-ghost use Rattle.std.specs.Prelude.{◌≡◌, get_or, [], IfOk};
+ghost use Rattle.std.specs.Prelude.{◌≡◌, get_or, [], Some, IfOk};
 ghost use Rattle.js_http.specs.Targets.{segments_of};
 ghost use Rattle.js_shelf.specs.Shelves.{Tells};
 ghost use Rattle.js_rest.specs.Answers as spec;
 ghost use Rattle.js_rest.specs.Changes.{Tries, TriesAlone, told, told_command};
-ghost use Rattle.js_rest.specs.Routes.{table};
+ghost use Rattle.js_rest.specs.Routes.{table, route_of};
+ghost use Rattle.js_tables.specs.Moments.{IsDate};
 ghost use Rattle.js_tables.specs.Plans.{Gives};
 ghost use Rattle.js_tables.specs.Tables.{rows, no_rows};
 
+use crate::contents::contents_plan;
+use crate::opening::open;
 use crate::route::{Route, find, routes};
 use crate::running::Running;
 use crate::untold::Untold;
@@ -143,12 +146,21 @@ fn channels(tables: &Tables, method: Method, id: &[u8]) -> Result<Plan, Refusal>
     }
 }
 
-fn all_sessions(alloc: Global, tables: &Tables, method: Method) -> Result<Plan, Refusal>
-    ensures { Gives result (spec.sessions_plan method (rows tables.now)) }
+#[tactic(auto, using(crate::proofs::Telling::tells_same))]
+fn all_sessions<S: Shelf>(
+    alloc: Global,
+    tables: &Tables,
+    shelf: &mut S,
+    given: &Given,
+    request: &Request,
+) -> Result<Plan, Refusal>
+    ensures shelf { Tells (S.contents shelf.old) (S.contents shelf.new)
+        (spec.FindsSessions (rows tables.now) given.now request.now result) }
+    ensures alone { spec.IsSessionsAlone request.now.method (rows tables.now) result }
 {
-    match method {
+    match request.method {
         Method::Get => sessions::all(alloc, tables),
-        Method::Post => Err(Refusal::Status(ErrorStatus::NotImplemented)),
+        Method::Post => open(alloc, tables, shelf, given, request.body.as_slice()),
         _ => Err(Refusal::Status(ErrorStatus::MethodNotAllowed)),
     }
 }
@@ -200,27 +212,62 @@ fn tables_plan(
         Route::Interrupt => interrupt(tables, request.method, id),
         Route::Restart => restart(alloc, tables, request.method, id),
         Route::Channels => channels(tables, request.method, id),
-        Route::Sessions => all_sessions(alloc, tables, request.method),
+        Route::Sessions => Err(Refusal::Status(ErrorStatus::MethodNotAllowed)),
         Route::Session => one_session(alloc, tables, request, id),
-        Route::Contents => Err(Refusal::Status(ErrorStatus::NotImplemented)),
+        Route::Contents => Err(Refusal::Status(ErrorStatus::MethodNotAllowed)),
     }
 }
 
-// The plan of a request.
-fn find_plan(
+// The plan of a request on a route, which reads the shelf and changes nothing.
+#[tactic(auto, using(crate::proofs::Telling::tells_same))]
+fn route_plan<S: Shelf>(
+    alloc: Global,
+    route: Route,
+    tables: &Tables,
+    shelf: &mut S,
+    given: &Given,
+    request: &Request,
+    segments: &[js_http::Bytes],
+) -> Result<Plan, Refusal>
+    requires { segments.now ≡ segments_of (spec.path_of request.now) }
+    ensures shelf { Tells (S.contents shelf.old) (S.contents shelf.new)
+        (spec.FindsOn route (rows tables.now) given.now request.now result) }
+    ensures alone { spec.IsFoundAlone (Some route) (rows tables.now) given.now request.now result }
+{
+    match route {
+        Route::Contents => contents_plan(alloc, tables, shelf, given, request, segments),
+        Route::Sessions => all_sessions(alloc, tables, shelf, given, request),
+        _ => tables_plan(alloc, route, tables, given, request, segments),
+    }
+}
+
+// The plan of a request, which reads the shelf and changes nothing.
+#[tactic(auto, using(crate::proofs::Telling::tells_same, crate::proofs::Failing::found_failed, crate::proofs::Failing::found_failed_alone))]
+fn find_plan<S: Shelf>(
     alloc: Global,
     router: &Router<Route>,
     tables: &Tables,
+    shelf: &mut S,
     given: &Given,
     request: &Request,
 ) -> Result<Plan, Refusal>
     requires { router.now ≡ table }
-    ensures { Gives result (spec.plan_of (rows tables.now) given.now request.now) }
+    ensures shelf { Tells (S.contents shelf.old) (S.contents shelf.new)
+        (spec.Finds (rows tables.now) given.now request.now result) }
+    ensures alone { spec.IsFoundAlone (route_of (spec.path_of request.now)) (rows tables.now) given.now request.now result }
 {
     let segments = path_segments(alloc, request.path())?;
     match find(router, request.path()) {
         None => Err(Refusal::Status(ErrorStatus::NotFound)),
-        Some(route) => tables_plan(alloc, route, tables, given, request, segments.as_slice()),
+        Some(route) => route_plan(
+            alloc,
+            route,
+            tables,
+            shelf,
+            given,
+            request,
+            segments.as_slice(),
+        ),
     }
 }
 
@@ -272,10 +319,10 @@ impl<L: Running> Manager<L> {
     ) -> Answer
         ensures shelf { Tells (S.contents shelf.old) (S.contents shelf.new)
             (spec.IsAnswer L.begins L.tells given.now request.now (rows self.old.tables) (rows self.new.tables) self.old.running self.new.running result) }
-        // The same is so of the answer, the tables and the kernels whatever the shelf tells.
-        ensures alone { spec.IsAnswerAlone L.begins L.tells given.now request.now (rows self.old.tables) (rows self.new.tables) self.old.running self.new.running result }
+        // What concerns neither contents nor a new session is answered so whatever the shelf tells.
+        ensures alone { spec.IsAnswerAlone L.begins L.tells (route_of (spec.path_of request.now)) given.now request.now (rows self.old.tables) (rows self.new.tables) self.old.running self.new.running result }
     {
-        match find_plan(alloc, &self.router, &self.tables, given, request) {
+        match find_plan(alloc, &self.router, &self.tables, shelf, given, request) {
             Ok(plan) => self.carry_out(shelf, plan),
             Err(refusal) => Answer::Reply(Response::Refused(refusal.status())),
         }

@@ -3,7 +3,9 @@
 #![tactic(auto)]
 
 mod answer;
+mod contents;
 mod kernels;
+mod opening;
 mod route;
 mod running;
 mod sessions;
@@ -11,6 +13,7 @@ mod untold;
 
 pub use answer::Manager;
 pub use kernels::MAX_KERNELS;
+pub use opening::{Asked, Fields};
 pub use route::{Route, routes_law};
 pub use running::Running;
 pub use untold::Untold;

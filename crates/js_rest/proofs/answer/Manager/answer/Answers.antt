@@ -2,8 +2,8 @@ use Rattle.std.proofs.Common.{Ok, Err, refl, ap}
 use Rattle.js_http.specs.declared.response.Response.TheVariants.{Refused}
 use Rattle.js_tables.specs.declared.plan.Answer.TheVariants.{Reply}
 use Rattle.js_tables.specs.Tables.{rows}
-use Rattle.js_rest.specs.Answers.{CarriesOut, IsAnswer}
-use Rattle.js_rest.proofs.Telling.{tells_weaker, tells_same}
+use Rattle.js_rest.specs.Answers.{Finds, CarriesOut, IsAnswer}
+use Rattle.js_rest.proofs.Telling.{tells_then, tells_weaker, answered}
 use Rattle.js_rest.proofs.answer.Manager.answer.Goals as goal
 
 pub returns-in-Ok-clause-shelf : goal.returns-in-Ok-clause-shelf
@@ -16,12 +16,13 @@ returns-in-Ok-clause-shelf g c =
     let k = c.carry_out.new.self.running in
     let begins = g.L.Running.begins in
     let tells = g.L.Running.tells in
-    tells_weaker (g.S.Shelf.contents c.args.shelf.now) (g.S.Shelf.contents c.carry_out.new.shelf)
-    (CarriesOut begins tells c.in-Ok.plan r s l k c.carry_out.result) (IsAnswer begins tells given request r s l k c.carry_out.result)
-    (λ m n h. (Ok c.in-Ok.plan, c.in-Ok.ensures, h)) c.carry_out.ensures.shelf
+    tells_then (g.S.Shelf.contents c.args.shelf.now) (g.S.Shelf.contents c.find_plan.new.shelf) (g.S.Shelf.contents c.carry_out.new.shelf)
+    (Finds r given request (Ok c.in-Ok.plan)) (CarriesOut begins tells c.in-Ok.plan r s l k c.carry_out.result) (IsAnswer begins tells given request r s l k c.carry_out.result)
+    c.in-Ok.ensures.shelf c.carry_out.ensures.shelf
+    (λ m o n f h. answered begins tells given request c.in-Ok.plan r s l k c.carry_out.result m o n f h)
 
 pub returns-in-Ok-clause-alone : goal.returns-in-Ok-clause-alone
-returns-in-Ok-clause-alone g c = (Ok c.in-Ok.plan, c.in-Ok.ensures, c.carry_out.ensures.alone)
+returns-in-Ok-clause-alone g c = (Ok c.in-Ok.plan, c.in-Ok.ensures.alone, c.carry_out.ensures.alone)
 
 pub returns-in-Err-clause-shelf : goal.returns-in-Err-clause-shelf
 returns-in-Err-clause-shelf g c =
@@ -31,9 +32,11 @@ returns-in-Err-clause-shelf g c =
     let l = c.args.self.now.running in
     let begins = g.L.Running.begins in
     let tells = g.L.Running.tells in
-    tells_same (g.S.Shelf.contents c.args.shelf.now) (IsAnswer begins tells given request r r l l (Reply (Refused c.status.result)))
-    (λ m. (Err c.in-Err.refusal, c.in-Err.ensures, (ap (λ s. Reply (Refused s)) c.status.ensures, (refl, refl, (λ path. refl)))))
+    tells_weaker (g.S.Shelf.contents c.args.shelf.now) (g.S.Shelf.contents c.find_plan.new.shelf)
+    (Finds r given request (Err c.in-Err.refusal)) (IsAnswer begins tells given request r r l l (Reply (Refused c.status.result)))
+    (λ m n h. (Err c.in-Err.refusal, h.1, (ap (λ s. Reply (Refused s)) c.status.ensures, (refl, refl, h.0))))
+    c.in-Err.ensures.shelf
 
 pub returns-in-Err-clause-alone : goal.returns-in-Err-clause-alone
 returns-in-Err-clause-alone g c =
-    (Err c.in-Err.refusal, c.in-Err.ensures, (ap (λ s. Reply (Refused s)) c.status.ensures, (refl, refl)))
+    (Err c.in-Err.refusal, c.in-Err.ensures.alone, (ap (λ s. Reply (Refused s)) c.status.ensures, (refl, refl)))

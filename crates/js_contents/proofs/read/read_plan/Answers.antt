@@ -1,0 +1,26 @@
+use Rattle.std.proofs.Common.{Ok, Err, refl}
+use Rattle.js_tables.specs.Tables.{rows}
+use Rattle.js_contents.specs.Reads.{Sees, ShowsSeen, Reads}
+use Rattle.js_contents.proofs.Telling.{tells_then, tells_weaker}
+use Rattle.js_contents.proofs.Steps.{read_ok}
+use Rattle.js_contents.proofs.read.read_plan.Goals as goal
+
+pub returns-in-Ok : goal.returns-in-Ok
+returns-in-Ok g c =
+    let r = rows c.args.tables.now in
+    let request = c.args.request.now in
+    let segments = c.args.segments.now in
+    tells_then (g.S.Shelf.contents c.args.shelf.now) (g.S.Shelf.contents c.seen_by.new.shelf) (g.S.Shelf.contents c.listed.new.shelf)
+    (Sees r request segments (Ok c.in-Ok.seen)) (ShowsSeen r c.in-Ok.seen c.listed.result) (Reads r request segments c.listed.result)
+    c.in-Ok.ensures c.listed.ensures
+    (λ m k n h j. read_ok r request segments c.in-Ok.seen c.listed.result m k n h j)
+
+pub returns-in-Err : goal.returns-in-Err
+returns-in-Err g c =
+    let r = rows c.args.tables.now in
+    let request = c.args.request.now in
+    let segments = c.args.segments.now in
+    tells_weaker (g.S.Shelf.contents c.args.shelf.now) (g.S.Shelf.contents c.seen_by.new.shelf)
+    (Sees r request segments (Err c.in-Err.refusal)) (Reads r request segments (Err c.in-Err.refusal))
+    (λ m n h. (h.0, (Err c.in-Err.refusal, h.1, refl)))
+    c.in-Err.ensures

@@ -1,0 +1,9 @@
+pub mod Places
+pub mod Looks
+pub mod Kinds
+pub mod Forms
+pub mod Notebooks
+pub mod Lists
+pub mod Reads
+pub mod Puts
+pub mod Stores

@@ -1,0 +1,107 @@
+-- What stands at a path, as a look at it shows.
+use Rattle.std.specs.Prelude.{◌≡◌, ℕ, Bool, true, false, List, Option, Some, None, Result, Ok, Err}
+use Rattle.js_http.specs.declared.response.ErrorStatus.{ErrorStatus}
+use Rattle.js_http.specs.declared.response.ErrorStatus.TheVariants.{InternalServerError}
+use Rattle.js_shelf.specs.declared.item.Item.{Item}
+use Rattle.js_shelf.specs.declared.item.Item.TheVariants.{File, Folder}
+use Rattle.js_shelf.specs.declared.item.ShelfRefusal.{ShelfRefusal}
+use Rattle.js_shelf.specs.declared.item.ShelfRefusal.TheVariants.{Missing, Exists, BadPath, NotEmpty, Device, Memory}
+use Rattle.js_shelf.specs.Shelves.{Contents, Same, IsListing, get_fault, list_fault, is_folder}
+use Rattle.js_tables.specs.declared.refusal.Refusal.{Refusal}
+use Rattle.js_tables.specs.Plans.{Gives, Found, status_of, of_shelf}
+
+-- ---- the definitions: by the first fault of a look at a path, and by what stands there
+
+-- the item, or why there is none
+abbrev pub got : Option ShelfRefusal → Option Item → Result Item ErrorStatus
+got None None = Err InternalServerError
+got None (Some item) = Ok item
+got (Some Missing) item = Err (status_of (of_shelf Missing))
+got (Some Exists) item = Err (status_of (of_shelf Exists))
+got (Some BadPath) item = Err (status_of (of_shelf BadPath))
+got (Some NotEmpty) item = Err (status_of (of_shelf NotEmpty))
+got (Some Device) item = Err (status_of (of_shelf Device))
+got (Some Memory) item = Err (status_of (of_shelf Memory))
+
+abbrev pub item_at : Contents → List ℕ → Result Item ErrorStatus
+item_at m path = got (get_fault m path) (m path)
+
+-- the item, if there is one
+abbrev pub got_present : Option ShelfRefusal → Option Item → Result (Option Item) ErrorStatus
+got_present None item = Ok item
+got_present (Some Missing) item = Ok None
+got_present (Some Exists) item = Err (status_of (of_shelf Exists))
+got_present (Some BadPath) item = Err (status_of (of_shelf BadPath))
+got_present (Some NotEmpty) item = Err (status_of (of_shelf NotEmpty))
+got_present (Some Device) item = Err (status_of (of_shelf Device))
+got_present (Some Memory) item = Err (status_of (of_shelf Memory))
+
+abbrev pub present_at : Contents → List ℕ → Result (Option Item) ErrorStatus
+present_at m path = got_present (get_fault m path) (m path)
+
+-- whether a folder stands there; at what is no path none does
+abbrev pub folder_by : Option ShelfRefusal → Option Item → Bool
+folder_by None item = is_folder item
+folder_by (Some fault) item = false
+
+abbrev pub has_folder : Contents → List ℕ → Bool
+has_folder m path = folder_by (get_fault m path) (m path)
+
+-- the names of what stands in a folder, or why there are none
+abbrev pub IsListedBy : Option ShelfRefusal → Contents → List ℕ → Result (List (List ℕ)) ErrorStatus → Type 0
+IsListedBy None m path (Ok names) = IsListing m path names
+IsListedBy None m path (Err e) = ⊥
+IsListedBy (Some f) m path form = form ≡ Err (status_of (of_shelf f))
+
+abbrev pub IsListed : Contents → List ℕ → Result (List (List ℕ)) ErrorStatus → Type 0
+IsListed m path form = IsListedBy (list_fault m path) m path form
+
+-- ---- the same by what the look answered
+
+abbrev pub shown_item : Result Item ShelfRefusal → Result Item Refusal
+shown_item (Ok item) = Ok item
+shown_item (Err e) = Err (of_shelf e)
+
+abbrev pub shown_present : Result Item ShelfRefusal → Result (Option Item) Refusal
+shown_present (Ok item) = Ok (Some item)
+shown_present (Err Missing) = Ok None
+shown_present (Err Exists) = Err (of_shelf Exists)
+shown_present (Err BadPath) = Err (of_shelf BadPath)
+shown_present (Err NotEmpty) = Err (of_shelf NotEmpty)
+shown_present (Err Device) = Err (of_shelf Device)
+shown_present (Err Memory) = Err (of_shelf Memory)
+
+abbrev pub is_folder_item : Item → Bool
+is_folder_item (File bytes) = false
+is_folder_item Folder = true
+
+abbrev pub shown_folder : Result Item ShelfRefusal → Option Bool
+shown_folder (Ok item) = Some (is_folder_item item)
+shown_folder (Err Missing) = Some false
+shown_folder (Err Exists) = Some false
+shown_folder (Err BadPath) = Some false
+shown_folder (Err NotEmpty) = Some false
+shown_folder (Err Device) = None
+shown_folder (Err Memory) = None
+
+abbrev pub shown_names : Result (List (List ℕ)) ShelfRefusal → Result (List (List ℕ)) Refusal
+shown_names (Ok names) = Ok names
+shown_names (Err e) = Err (of_shelf e)
+
+-- ---- what the functions that look find
+
+abbrev pub Looks : List ℕ → Result Item Refusal → Contents → Contents → Type 0
+Looks path result m n = Same m n × Gives result (item_at m path)
+
+abbrev pub Presents : List ℕ → Result (Option Item) Refusal → Contents → Contents → Type 0
+Presents path result m n = Same m n × Gives result (present_at m path)
+
+abbrev pub IfThere : Option Bool → Bool → Type 0
+IfThere None b = Unit {0}
+IfThere (Some a) b = a ≡ b
+
+abbrev pub HasFolder : List ℕ → Option Bool → Contents → Contents → Type 0
+HasFolder path result m n = Same m n × IfThere result (has_folder m path)
+
+abbrev pub HasNames : List ℕ → Result (List (List ℕ)) Refusal → Contents → Contents → Type 0
+HasNames path result m n = Same m n × Found (IsListed m path) result

@@ -1,0 +1,71 @@
+-- PUT and DELETE of contents.
+use Rattle.std.specs.Prelude.{ℕ, Bool, true, false, List, None, Result, Ok, is_some, if◌then◌else◌}
+use Rattle.js_http.specs.declared.response.ErrorStatus.{ErrorStatus}
+use Rattle.js_http.specs.declared.response.Response.{Response}
+use Rattle.js_http.specs.declared.response.Response.TheVariants.{NoContent, Success, Created}
+use Rattle.js_shelf.specs.declared.item.Item.TheVariants as item
+use Rattle.js_shelf.specs.Shelves.{Contents, Same}
+use Rattle.js_tables.specs.declared.given.Given.{Given}
+use Rattle.js_tables.specs.declared.plan.Change.{Change}
+use Rattle.js_tables.specs.declared.plan.Change.TheVariants as change
+use Rattle.js_tables.specs.declared.plan.Answer.TheVariants.{Reply}
+use Rattle.js_tables.specs.declared.plan.Plan.{Plan}
+use Rattle.js_tables.specs.declared.plan.Update.TheVariants as update
+use Rattle.js_tables.specs.declared.refusal.Refusal.{Refusal}
+use Rattle.js_tables.specs.Forms.{body_text}
+use Rattle.js_tables.specs.Plans.{◌>>=◌, Gives}
+use Rattle.js_contents.specs.declared.place.Place.{Place}
+use Rattle.js_contents.specs.declared.put.Putting.{Putting}
+use Rattle.js_contents.specs.declared.put.Putting.TheVariants as put
+use Rattle.js_contents.specs.Forms.{bare_form}
+use Rattle.js_contents.specs.Kinds.{about_at}
+use Rattle.js_contents.specs.Looks.{present_at}
+use Rattle.js_contents.specs.Notebooks.{notebook_file}
+use Rattle.js_contents.specs.Places.{place_of}
+use Rattle.js_contents.specs.Puts.{putting, fitted}
+
+-- ---- DELETE /api/contents/{path}
+
+abbrev pub removal : Place → Plan
+removal place = record { change = change.Delete place.path; update = update.DropDate place.path; answer = Reply NoContent }
+
+abbrev pub remove_plan : List (List ℕ) → Result Plan ErrorStatus
+remove_plan segments = place_of segments >>= λ place. Ok (removal place)
+
+-- ---- PUT /api/contents/{path}
+
+abbrev pub change_of : List ℕ → Putting → Change
+change_of path put.Folder = change.Put path item.Folder
+change_of path (put.File bytes) = change.Put path (item.File bytes)
+change_of path (put.Notebook n) = change.Put path (notebook_file n)
+
+abbrev pub is_folder_putting : Putting → Bool
+is_folder_putting put.Folder = true
+is_folder_putting (put.File bytes) = false
+is_folder_putting (put.Notebook n) = false
+
+-- 200 where something was there, else 201
+abbrev pub stored : Bool → List ℕ → Response
+stored is_there content = if is_there then Success content else Created None content
+
+abbrev pub storing : Given → Putting → Place → Bool → Plan
+storing given p place is_there = record {
+  change = change_of place.path p;
+  update = update.SetDate place.path given.date;
+  answer = Reply (stored is_there (body_text (bare_form (about_at place (is_folder_putting p) given.date))));
+}
+
+abbrev pub put_at : Contents → Given → Putting → Place → Result Plan ErrorStatus
+put_at m given p place = present_at m place.path >>= λ item. Ok (storing given p place (is_some item))
+
+abbrev pub put_plan : Contents → Given → List ℕ → List (List ℕ) → Result Plan ErrorStatus
+put_plan m given body segments =
+    putting body >>= λ p. (place_of segments >>= λ place. (fitted place.name p >>= λ q. put_at m given q place))
+
+-- ---- what the functions find
+
+abbrev pub PutsAt : Given → Putting → Place → Result Plan Refusal → Contents → Contents → Type 0
+PutsAt given p place result m n = Same m n × Gives result (put_at m given p place)
+
+abbrev pub Puts : Given → List ℕ → List (List ℕ) → Result Plan Refusal → Contents → Contents → Type 0
+Puts given body segments result m n = Same m n × Gives result (put_plan m given body segments)

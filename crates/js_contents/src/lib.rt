@@ -1,0 +1,20 @@
+//! The plans of requests on contents (Jupyter Server REST API), over a shelf of files and folders. A function here
+//! reads the shelf and changes nothing.
+#![tactic(auto)]
+
+mod kind;
+mod list;
+mod look;
+mod notebook;
+mod place;
+mod put;
+mod read;
+mod store;
+
+pub use kind::{about_at, is_notebook_name};
+pub use look::{has_folder, names_in};
+pub use notebook::notebook_for;
+pub use place::{Place, below, if_path, named_place, place_of};
+pub use put::{Putting, fitted};
+pub use read::{Seen, bare_value, read_plan};
+pub use store::{put_plan, remove_plan, storing};

@@ -1,0 +1,83 @@
+//! What stands at a path, by a look that changes nothing.
+ghost use Rattle.std.specs.Prelude.{◌≡◌};
+ghost use Rattle.js_shelf.specs.Shelves.{Tells};
+ghost use Rattle.js_contents.specs.Looks as spec;
+
+use js_shelf::{Item, Names, Shelf, ShelfRefusal};
+use js_tables::Refusal;
+
+fn shown_item(answer: Result<Item, ShelfRefusal>) -> Result<Item, Refusal>
+    ensures { result ≡ spec.shown_item answer }
+{
+    match answer {
+        Ok(item) => Ok(item),
+        Err(cause) => Err(Refusal::from(cause)),
+    }
+}
+
+fn shown_present(answer: Result<Item, ShelfRefusal>) -> Result<Option<Item>, Refusal>
+    ensures { result ≡ spec.shown_present answer }
+{
+    match answer {
+        Ok(item) => Ok(Some(item)),
+        Err(ShelfRefusal::Missing) => Ok(None),
+        Err(cause) => Err(Refusal::from(cause)),
+    }
+}
+
+pub(crate) fn is_folder(item: &Item) -> bool
+    ensures { result ≡ spec.is_folder_item item.now }
+{
+    match item {
+        Item::File(_) => false,
+        Item::Folder => true,
+    }
+}
+
+fn shown_folder(answer: Result<Item, ShelfRefusal>) -> Option<bool>
+    ensures { result ≡ spec.shown_folder answer }
+{
+    match answer {
+        Ok(item) => Some(is_folder(&item)),
+        Err(ShelfRefusal::Device) => None,
+        Err(ShelfRefusal::Memory) => None,
+        Err(_) => Some(false),
+    }
+}
+
+fn shown_names(answer: Result<Names, ShelfRefusal>) -> Result<Names, Refusal>
+    ensures { result ≡ spec.shown_names answer }
+{
+    match answer {
+        Ok(names) => Ok(names),
+        Err(cause) => Err(Refusal::from(cause)),
+    }
+}
+
+/// What stands at a path, where something does.
+pub(crate) fn look<S: Shelf>(shelf: &mut S, path: &str) -> Result<Item, Refusal>
+    ensures { Tells (S.contents shelf.old) (S.contents shelf.new) (spec.Looks path.now result) }
+{
+    shown_item(shelf.get(path))
+}
+
+/// What stands at a path, if something does.
+pub(crate) fn present<S: Shelf>(shelf: &mut S, path: &str) -> Result<Option<Item>, Refusal>
+    ensures { Tells (S.contents shelf.old) (S.contents shelf.new) (spec.Presents path.now result) }
+{
+    shown_present(shelf.get(path))
+}
+
+/// Whether a folder stands at a path; none where the device or memory failed.
+pub fn has_folder<S: Shelf>(shelf: &mut S, path: &str) -> Option<bool>
+    ensures { Tells (S.contents shelf.old) (S.contents shelf.new) (spec.HasFolder path.now result) }
+{
+    shown_folder(shelf.get(path))
+}
+
+/// The names of what stands in a folder.
+pub fn names_in<S: Shelf>(shelf: &mut S, path: &str) -> Result<Names, Refusal>
+    ensures { Tells (S.contents shelf.old) (S.contents shelf.new) (spec.HasNames path.now result) }
+{
+    shown_names(shelf.list(path))
+}

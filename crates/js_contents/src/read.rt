@@ -1,0 +1,252 @@
+//! GET of contents.
+ghost use Rattle.std.specs.Prelude.{◌≡◌, false, IfOk};
+ghost use Rattle.serde_json.specs.View.{view};
+ghost use Rattle.serde_json.specs.Written.{has_float};
+ghost use Rattle.js_shelf.specs.Shelves.{Tells};
+ghost use Rattle.js_tables.specs.Plans.{Gives};
+ghost use Rattle.js_tables.specs.Tables.{rows};
+ghost use Rattle.js_contents.specs.Forms as forms;
+ghost use Rattle.js_contents.specs.Reads as spec;
+
+use crate::kind::about_now;
+use crate::list::objects;
+use crate::look::{is_folder, look, names_in};
+use crate::notebook::notebook_in;
+use crate::place::{Place, place_of};
+use base64::engine::general_purpose::STANDARD;
+use js_http::{Bytes, ErrorStatus, Request, Response, query_value};
+use js_shelf::{Item, Name, Shelf};
+use js_tables::{
+    About, Kind, Plan, Refusal, Row, Tables, json_body, model_value, read_body, reply, text_value,
+};
+use nb_doc::write_notebook;
+use serde_json::Value;
+use std::alloc::{AllocError, Global};
+
+// ---- what the query asks for
+
+fn check_type(alloc: Global, request: &Request, kind: Kind) -> Result<(), Refusal>
+    ensures { Gives result (spec.type_checked request.now kind) }
+{
+    match query_value(alloc, request.query(), "type")? {
+        None => Ok(()),
+        Some(asked) => if asked.as_str() == kind.name() {
+            Ok(())
+        } else {
+            Err(Refusal::Status(ErrorStatus::BadRequest))
+        },
+    }
+}
+
+fn asks_bare(alloc: Global, request: &Request) -> Result<bool, AllocError>
+    ensures { IfOk result (λ asks. asks ≡ spec.asks_bare request.now) }
+{
+    match query_value(alloc, request.query(), "content")? {
+        None => Ok(false),
+        Some(asked) => Ok(asked.as_str() == "0"),
+    }
+}
+
+// ---- what is shown
+
+/// A thing without its content.
+pub fn bare_value(alloc: Global, about: &About) -> Result<Value, AllocError>
+    ensures form { IfOk result (λ v. view v ≡ forms.bare_form about.now) }
+    ensures whole { IfOk result (λ v. has_float (view v) ≡ false) }
+{
+    model_value(alloc, about, Value::Null, Value::Null, Value::Null)
+}
+
+fn text_model(
+    alloc: Global,
+    about: &About,
+    content: &str,
+    format: &str,
+    mimetype: &str,
+) -> Result<Value, AllocError>
+    ensures form { IfOk result (λ v. view v ≡ forms.text_form about.now content.now format.now mimetype.now) }
+    ensures whole { IfOk result (λ v. has_float (view v) ≡ false) }
+{
+    let content = text_value(alloc, content)?;
+    let format = text_value(alloc, format)?;
+    let mimetype = text_value(alloc, mimetype)?;
+    model_value(alloc, about, content, format, mimetype)
+}
+
+/// A file, as text where it is text.
+fn file_value(alloc: Global, about: &About, bytes: &[u8]) -> Result<Value, AllocError>
+    ensures form { IfOk result (λ v. view v ≡ forms.file_form about.now bytes.now) }
+    ensures whole { IfOk result (λ v. has_float (view v) ≡ false) }
+{
+    match std::str::from_utf8(bytes) {
+        Ok(text) => text_model(alloc, about, text, "text", "text/plain"),
+        Err(_) => {
+            let text = STANDARD.encode(alloc, bytes)?;
+            text_model(
+                alloc,
+                about,
+                text.as_str(),
+                "base64",
+                "application/octet-stream",
+            )
+        }
+    }
+}
+
+fn json_model(alloc: Global, about: &About, content: Value) -> Result<Value, AllocError>
+    requires { has_float (view content) ≡ false }
+    ensures form { IfOk result (λ v. view v ≡ forms.json_form about.now (view content)) }
+    ensures whole { IfOk result (λ v. has_float (view v) ≡ false) }
+{
+    let format = text_value(alloc, "json")?;
+    model_value(alloc, about, content, format, Value::Null)
+}
+
+// ---- the answer
+
+fn shown(alloc: Global, value: &Value) -> Result<Plan, AllocError>
+    requires { has_float (view value.now) ≡ false }
+    ensures { IfOk result (λ plan. plan ≡ spec.shown (view value.now)) }
+{
+    Ok(reply(Response::Success(json_body(alloc, value)?)))
+}
+
+/// What a look at a path comes to: a plan, or a folder that is to be listed.
+#[derive(Drop)]
+pub enum Seen {
+    Shown(Plan),
+    Folder(About),
+}
+
+fn notebook_plan(alloc: Global, about: &About, bytes: &[u8]) -> Result<Plan, Refusal>
+    ensures { Gives result (spec.notebook_plan about.now bytes.now) }
+{
+    let notebook = notebook_in(alloc, bytes)?;
+    let text = write_notebook(alloc, &notebook)?;
+    let json = read_body(alloc, text.as_slice())?;
+    let value = json_model(alloc, about, json.into_value())?;
+    Ok(shown(alloc, &value)?)
+}
+
+fn file_plan(alloc: Global, about: &About, bytes: &[u8]) -> Result<Plan, Refusal>
+    ensures { Gives result (spec.file_plan about.now.kind about.now bytes.now) }
+{
+    if matches!(about.kind, Kind::Notebook) {
+        return notebook_plan(alloc, about, bytes);
+    }
+    let value = file_value(alloc, about, bytes)?;
+    Ok(shown(alloc, &value)?)
+}
+
+fn bare_plan(alloc: Global, about: &About) -> Result<Plan, AllocError>
+    ensures { IfOk result (λ plan. plan ≡ spec.shown (forms.bare_form about.now)) }
+{
+    let value = bare_value(alloc, about)?;
+    shown(alloc, &value)
+}
+
+fn seen_item(alloc: Global, request: &Request, about: About, item: &Item) -> Result<Seen, Refusal>
+    ensures { Gives result (spec.seen_item request.now about item.now) }
+{
+    check_type(alloc, request, about.kind)?;
+    if asks_bare(alloc, request)? {
+        return Ok(Seen::Shown(bare_plan(alloc, &about)?));
+    }
+    match item {
+        Item::File(bytes) => Ok(Seen::Shown(file_plan(alloc, &about, bytes.as_slice())?)),
+        Item::Folder => Ok(Seen::Folder(about)),
+    }
+}
+
+fn seen_at<S: Shelf>(
+    alloc: Global,
+    tables: &Tables,
+    shelf: &mut S,
+    request: &Request,
+    place: Place,
+) -> Result<Seen, Refusal>
+    ensures { Tells (S.contents shelf.old) (S.contents shelf.new) (spec.SeesAt (rows tables.now) request.now place result) }
+{
+    let item = look(shelf, place.path.as_str())?;
+    let about = about_now(alloc, tables, place, is_folder(&item))?;
+    seen_item(alloc, request, about, &item)
+}
+
+fn seen_by<S: Shelf>(
+    alloc: Global,
+    tables: &Tables,
+    shelf: &mut S,
+    request: &Request,
+    segments: &[Bytes],
+) -> Result<Seen, Refusal>
+    ensures { Tells (S.contents shelf.old) (S.contents shelf.new) (spec.Sees (rows tables.now) request.now segments.now result) }
+{
+    let place = place_of(alloc, segments)?;
+    seen_at(alloc, tables, shelf, request, place)
+}
+
+fn rows_plan(alloc: Global, about: &About, objects: Row) -> Result<Plan, AllocError>
+    ensures { IfOk result (λ plan. plan ≡ spec.rows_plan about.now objects) }
+{
+    let value = json_model(alloc, about, objects.into_value())?;
+    shown(alloc, &value)
+}
+
+fn named_plan<S: Shelf>(
+    alloc: Global,
+    tables: &Tables,
+    shelf: &mut S,
+    about: &About,
+    names: &[Name],
+) -> Result<Plan, Refusal>
+    ensures { Tells (S.contents shelf.old) (S.contents shelf.new) (spec.ShowsNamed (rows tables.now) about.now names.now result) }
+{
+    match objects(alloc, tables, shelf, about.path.as_str(), names) {
+        None => Err(Refusal::Failed),
+        Some(objects) => Ok(rows_plan(alloc, about, objects)?),
+    }
+}
+
+fn folder_plan<S: Shelf>(
+    alloc: Global,
+    tables: &Tables,
+    shelf: &mut S,
+    about: &About,
+) -> Result<Plan, Refusal>
+    ensures { Tells (S.contents shelf.old) (S.contents shelf.new) (spec.ShowsFolder (rows tables.now) about.now result) }
+{
+    match names_in(shelf, about.path.as_str()) {
+        Ok(names) => named_plan(alloc, tables, shelf, about, names.as_slice()),
+        Err(refusal) => Err(refusal),
+    }
+}
+
+fn listed<S: Shelf>(
+    alloc: Global,
+    tables: &Tables,
+    shelf: &mut S,
+    seen: Seen,
+) -> Result<Plan, Refusal>
+    ensures { Tells (S.contents shelf.old) (S.contents shelf.new) (spec.ShowsSeen (rows tables.now) seen result) }
+{
+    match seen {
+        Seen::Shown(plan) => Ok(plan),
+        Seen::Folder(about) => folder_plan(alloc, tables, shelf, &about),
+    }
+}
+
+/// The plan of a GET: what stands at the path is shown. The first three segments are those of `/api/contents`.
+pub fn read_plan<S: Shelf>(
+    alloc: Global,
+    tables: &Tables,
+    shelf: &mut S,
+    request: &Request,
+    segments: &[Bytes],
+) -> Result<Plan, Refusal>
+    ensures { Tells (S.contents shelf.old) (S.contents shelf.new) (spec.Reads (rows tables.now) request.now segments.now result) }
+{
+    match seen_by(alloc, tables, shelf, request, segments) {
+        Ok(seen) => listed(alloc, tables, shelf, seen),
+        Err(refusal) => Err(refusal),
+    }
+}

@@ -1,0 +1,114 @@
+//! PUT and DELETE of contents.
+ghost use Rattle.std.specs.Prelude.{◌≡◌, IfOk};
+ghost use Rattle.js_shelf.specs.Shelves.{Tells};
+ghost use Rattle.js_tables.specs.Plans.{Gives};
+ghost use Rattle.js_contents.specs.Stores as spec;
+
+use crate::kind::about_at;
+use crate::look::present;
+use crate::notebook::notebook_file;
+use crate::place::{Place, place_of};
+use crate::put::{Putting, fitted, read_putting};
+use crate::read::bare_value;
+use js_http::{Bytes, Response};
+use js_shelf::{Item, Shelf};
+use js_tables::{Answer, Change, Given, Plan, Refusal, Update, json_body};
+use json_form::Text;
+use std::alloc::{AllocError, Global};
+
+// ---- DELETE
+
+fn removal(place: Place) -> Result<Plan, AllocError>
+    ensures { IfOk result (λ plan. plan ≡ spec.removal place) }
+{
+    Ok(Plan {
+        change: Change::Delete(place.path.copy()?),
+        update: Update::DropDate(place.path),
+        answer: Answer::Reply(Response::NoContent),
+    })
+}
+
+/// The plan of a DELETE. The first three segments are those of `/api/contents`.
+pub fn remove_plan(alloc: Global, segments: &[Bytes]) -> Result<Plan, Refusal>
+    ensures { Gives result (spec.remove_plan segments.now) }
+{
+    let place = place_of(alloc, segments)?;
+    Ok(removal(place)?)
+}
+
+// ---- PUT
+
+fn change_of(alloc: Global, path: Text, putting: Putting) -> Result<Change, AllocError>
+    ensures { IfOk result (λ change. change ≡ spec.change_of path putting) }
+{
+    match putting {
+        Putting::Folder => Ok(Change::Put(path, Item::Folder)),
+        Putting::File(bytes) => Ok(Change::Put(path, Item::File(bytes))),
+        Putting::Notebook(notebook) => Ok(Change::Put(path, notebook_file(alloc, &notebook)?)),
+    }
+}
+
+fn is_folder_putting(putting: &Putting) -> bool
+    ensures { result ≡ spec.is_folder_putting putting.now }
+{
+    matches!(putting, Putting::Folder)
+}
+
+fn stored(is_there: bool, content: Bytes) -> Response
+    ensures { result ≡ spec.stored is_there content }
+{
+    if is_there {
+        Response::Success(content)
+    } else {
+        Response::Created(None, content)
+    }
+}
+
+/// What stands at the place from now on is said without its content: 200 where something was there, else 201.
+pub fn storing(
+    alloc: Global,
+    given: &Given,
+    putting: Putting,
+    place: Place,
+    is_there: bool,
+) -> Result<Plan, AllocError>
+    ensures { IfOk result (λ plan. plan ≡ spec.storing given.now putting place is_there) }
+{
+    let path = place.path.copy()?;
+    let about = about_at(place, is_folder_putting(&putting), given.date.copy()?);
+    let content = json_body(alloc, &bare_value(alloc, &about)?)?;
+    Ok(Plan {
+        change: change_of(alloc, path.copy()?, putting)?,
+        update: Update::SetDate(path, given.date.copy()?),
+        answer: Answer::Reply(stored(is_there, content)),
+    })
+}
+
+fn put_at<S: Shelf>(
+    alloc: Global,
+    shelf: &mut S,
+    given: &Given,
+    putting: Putting,
+    place: Place,
+) -> Result<Plan, Refusal>
+    ensures { Tells (S.contents shelf.old) (S.contents shelf.new) (spec.PutsAt given.now putting place result) }
+{
+    let item = present(shelf, place.path.as_str())?;
+    Ok(storing(alloc, given, putting, place, item.is_some())?)
+}
+
+/// The plan of a PUT. The first three segments are those of `/api/contents`.
+pub fn put_plan<S: Shelf>(
+    alloc: Global,
+    shelf: &mut S,
+    given: &Given,
+    content: &[u8],
+    segments: &[Bytes],
+) -> Result<Plan, Refusal>
+    ensures { Tells (S.contents shelf.old) (S.contents shelf.new) (spec.Puts given.now content.now segments.now result) }
+{
+    let putting = read_putting(alloc, content)?;
+    let place = place_of(alloc, segments)?;
+    let putting = fitted(alloc, place.name.as_str(), putting)?;
+    put_at(alloc, shelf, given, putting, place)
+}

@@ -1,0 +1,2 @@
+pub mod Untitled
+pub mod Moves
