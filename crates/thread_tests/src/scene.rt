@@ -10,6 +10,7 @@ use std::sync::Wait;
 use std::test::Fail;
 use std::thread;
 use std::thread::{JoinHandle, Threads};
+use std::time::Clock;
 use test_language::TestLanguage;
 
 pub type Parser = WorkerEnd<ParsedCell<TestLanguage>>;
@@ -175,7 +176,7 @@ fn run<R: Wait>(
 /// Starts a parser.
 pub fn begin<R>(rt: R, alloc: Global, end: Parser) -> Result<JoinHandle<Parser>, AllocError>
 where
-    R: Threads + Wait + Copy + Send + 'static,
+    R: Threads + Wait + Clock + Copy + Send + 'static,
 {
     Ok(thread::spawn(&rt, move || {
         worker::<TestLanguage, R, Open>(&rt, alloc, &Open, end)
@@ -209,7 +210,7 @@ fn perform<R>(
     all: usize,
 ) -> Result<Vec<Entry>, AllocError>
 where
-    R: Threads + Wait + Copy + Send + 'static,
+    R: Threads + Wait + Clock + Copy + Send + 'static,
 {
     let parser = match begin(rt, alloc, end) {
         Ok(parser) => parser,
@@ -227,7 +228,7 @@ where
 /// What is shown of a play.
 pub fn show<R>(rt: R, alloc: Global, play: Play) -> Result<Vec<Entry>, Fail>
 where
-    R: Threads + Wait + Copy + Send + 'static,
+    R: Threads + Wait + Clock + Copy + Send + 'static,
 {
     let Inbox { taker, seats } = Inbox::new(alloc)?;
     let (pool, mut ends) = Pool::<ParsedCell<TestLanguage>>::new(alloc, 1)?;
