@@ -69,10 +69,7 @@ fn answer<L: Language, R: Wait + Clock + Copy + Drop>(
             respond(stream, &response);
             serve_channel(rt, alloc, stream, calls, place, names);
         }
-        None => respond(
-            stream,
-            &Response::Refused(ErrorStatus::InternalServerError),
-        ),
+        None => respond(stream, &Response::Refused(ErrorStatus::InternalServerError)),
     }
 }
 

@@ -2,12 +2,13 @@
 
 use crate::call::{Call, Place, Reply};
 use crate::clock::{date_now, given_now};
-use crate::job::{Crew, Job};
-use crate::kernels::Kernels;
+use crate::driving::Opened;
+use crate::job::Job;
+use crate::kernels::{Kernels, Unopened};
 use crossbeam_channel::{Receiver, Sender, unbounded};
 use jk_language::Language;
 use js_http::{ErrorStatus, Request, Response};
-use js_rest::Manager;
+use js_rest::{Manager, Running};
 use js_shelf::Shelf;
 use js_tables::{Answer, Given, Update};
 use js_ws::{Names, handshake};
@@ -18,100 +19,87 @@ use std::random::RandomSource;
 use std::sync::Wait;
 use std::time::Clock;
 
-/// Why a server does not serve.
-#[derive(Clone, Copy, Debug, PartialEq, Eq)]
-pub enum Fault {
-    /// There was no memory, or no thread.
-    Memory,
+/// How many jobs may wait: the parsers of one kernel.
+const ROOM: usize = 4;
+
+/// A kernel whose thread was given out, and the reply that waits for its ends.
+#[derive(Drop)]
+struct Awaited<L: Language> {
+    opened: Receiver<Opened<L>>,
+    response: Response,
+    reply: Sender<Reply<L>>,
 }
 
-/// The tables with the kernels, the files, and what starts threads.
+/// The tables with the kernels, the files, and what is still to be done.
 #[derive(Drop)]
-struct Desk<L: Language, R: Wait + Drop, C: Drop, S: Drop> {
+pub struct Desk<L: Language, R: Wait + Drop, S: Drop>
+where
+    Kernels<R, L>: Running,
+{
     rt: R,
     alloc: Global,
     manager: Manager<Kernels<R, L>>,
     shelf: S,
-    crew: C,
-    /// Where connections tell their calls.
-    calls: Sender<Call<L>>,
+    /// Where connections tell their calls, and where these come.
+    sender: Sender<Call<L>>,
+    calls: Receiver<Call<L>>,
+    awaited: Option<Awaited<L>>,
+    /// What is to be started next, the last one first.
+    jobs: Vec<Job<L>>,
 }
 
-/// Serves the connections of a listener. It comes back only where it can't begin.
-///
-/// # Errors
-/// Where memory or a first thread is refused.
-pub fn serve<L, R, C, S>(
-    rt: R,
-    alloc: Global,
-    listener: TcpListener,
-    shelf: S,
-    crew: C,
-) -> Result<(), Fault>
+impl<L, R, S> Desk<L, R, S>
 where
     L: Language,
     R: Wait + Clock + RandomSource + Copy + Drop,
-    C: Crew<L> + Drop,
     S: Shelf + Drop,
+    Kernels<R, L>: Running,
 {
-    let Some(start) = date_now(&rt, alloc) else {
-        return Err(Fault::Memory);
-    };
-    let Ok(manager) = Manager::new(alloc, start, Kernels::<R, L>::new(rt, alloc)) else {
-        return Err(Fault::Memory);
-    };
-    let Ok((calls, receiver)) = unbounded::<Call<L>, Global>(alloc) else {
-        return Err(Fault::Memory);
-    };
-    let Ok(theirs) = calls.clone() else {
-        return Err(Fault::Memory);
-    };
-    if !crew.start(alloc, Job::Accept(listener, theirs)) {
-        return Err(Fault::Memory);
+    /// A desk for the connections of a listener. There is none where memory is refused.
+    pub fn new(rt: R, alloc: Global, listener: TcpListener, shelf: S) -> Option<Desk<L, R, S>> {
+        let start = date_now(&rt, alloc)?;
+        let manager = Manager::new(alloc, start, Kernels::<R, L>::new(rt, alloc)).ok()?;
+        let (sender, calls) = unbounded::<Call<L>, Global>(alloc).ok()?;
+        let theirs = sender.clone().ok()?;
+        let mut jobs = Vec::with_capacity(alloc, ROOM).ok()?;
+        jobs.push(Job::Accept(listener, theirs)).ok()?;
+        Some(Desk {
+            rt,
+            alloc,
+            manager,
+            shelf,
+            sender,
+            calls,
+            awaited: None,
+            jobs,
+        })
     }
-    let desk = Desk {
-        rt,
-        alloc,
-        manager,
-        shelf,
-        crew,
-        calls,
-    };
-    desk.run(&receiver);
-    Ok(())
-}
 
-impl<L, R, C, S> Desk<L, R, C, S>
-where
-    L: Language,
-    R: Wait + Clock + RandomSource + Copy + Drop,
-    C: Crew<L> + Drop,
-    S: Shelf + Drop,
-{
-    /// Takes calls one after the other.
-    fn run(self, receiver: &Receiver<Call<L>>) {
-        let mut desk = self;
-        let rt = desk.rt;
-        for _ in rt.forever() {
-            let Ok(call) = receiver.recv(&rt) else {
-                return;
-            };
-            desk.take(call);
+    /// Does what is to be done next, and answers the job for which a thread is to be started now, if there is one. Where none
+    /// can be started the job is to be dropped.
+    pub fn next(&mut self) -> Option<Job<L>> {
+        if let Some(job) = self.jobs.pop() {
+            return Some(job);
         }
+        if let Some(awaited) = self.awaited.take() {
+            self.await_ends(awaited);
+            return None;
+        }
+        let call = self.calls.recv(&self.rt).ok()?;
+        self.take(call)
     }
 
-    fn take(&mut self, call: Call<L>) {
+    fn take(&mut self, call: Call<L>) -> Option<Job<L>> {
         match call {
-            Call::Accepted(stream) => if let Ok(calls) = self.calls.clone() {
-                let _ = self
-                    .crew
-                    .start(self.alloc, Job::Connection(stream, calls));
-            },
-            Call::Asked(request, reply) => {
-                let answer = self.reply_to(&request);
-                let _ = reply.send(&self.rt, answer);
+            Call::Accepted(stream) => {
+                let calls = self.sender.clone().ok()?;
+                Some(Job::Connection(stream, calls))
             }
-            Call::Back(place) => self.take_back(place),
+            Call::Asked(request, reply) => self.reply_to(&request, reply),
+            Call::Back(place) => {
+                self.take_back(place);
+                None
+            }
         }
     }
 
@@ -122,23 +110,80 @@ where
         self.manager.running.drop_left();
     }
 
-    /// The reply to a request, after a look at what the kernels have published.
-    fn reply_to(&mut self, request: &Request) -> Reply<L> {
+    /// Replies to a request, after a look at what the kernels have published. Where it made a kernel, the answer is the job of
+    /// its thread, and the reply waits for it.
+    fn reply_to(&mut self, request: &Request, reply: Sender<Reply<L>>) -> Option<Job<L>> {
         let Some(given) = given_now(&self.rt, self.alloc) else {
-            return refused(ErrorStatus::InternalServerError);
+            self.send(reply, refused(ErrorStatus::InternalServerError));
+            return None;
         };
         self.look(&given.date);
         let answer = self
             .manager
             .answer(self.alloc, &mut self.shelf, &given, request);
-        if !self.manager.running.open(&self.crew) {
-            self.drop_row(&given);
-            return refused(ErrorStatus::InternalServerError);
-        }
         match answer {
-            Answer::Reply(response) => Reply::Response(response),
-            Answer::Channels(id) => self.channel_for(request, id, &given),
+            Answer::Reply(response) => self.respond(response, reply),
+            Answer::Channels(id) => {
+                let channel = self.channel_for(request, id, &given);
+                self.send(reply, channel);
+                None
+            }
         }
+    }
+
+    fn send(&self, reply: Sender<Reply<L>>, answer: Reply<L>) {
+        let _ = reply.send(&self.rt, answer);
+    }
+
+    /// Sends a response, or lets it wait for the kernel that was made.
+    fn respond(&mut self, response: Response, reply: Sender<Reply<L>>) -> Option<Job<L>> {
+        match self.manager.running.take_unopened() {
+            Some(unopened) => {
+                let Unopened { opening, opened } = unopened;
+                self.awaited = Some(Awaited {
+                    opened,
+                    response,
+                    reply,
+                });
+                Some(Job::Drive(opening))
+            }
+            None => {
+                self.send(reply, Reply::Response(response));
+                None
+            }
+        }
+    }
+
+    /// Waits for the ends of a new kernel, and sends the response that waits for them. Where none come the kernel is gone, and
+    /// its row goes before the next answer.
+    fn await_ends(&mut self, awaited: Awaited<L>) {
+        let Awaited {
+            opened,
+            response,
+            reply,
+        } = awaited;
+        let answer = if self.take_opened(&opened) {
+            Reply::Response(response)
+        } else {
+            refused(ErrorStatus::InternalServerError)
+        };
+        self.send(reply, answer);
+    }
+
+    fn take_opened(&mut self, opened: &Receiver<Opened<L>>) -> bool {
+        let Ok(opened) = opened.recv(&self.rt) else {
+            self.manager.running.drop_last();
+            return false;
+        };
+        let Opened {
+            seats,
+            followers,
+            workers,
+        } = opened;
+        for worker in workers {
+            let _ = self.jobs.push(Job::Parse(worker));
+        }
+        self.manager.running.take_ends(seats, followers)
     }
 
     /// Notes in the tables what the kernels have published. A kernel that was shut down is gone.
@@ -153,20 +198,17 @@ where
         self.manager.running.drop_left();
     }
 
-    /// Drops the rows of the kernels that were shut down.
+    /// Drops the rows of the kernels that were shut down or are gone.
     fn drop_ended(&mut self) {
         for _ in 0..self.manager.tables.kernels.len() {
             let Some(id) = self.ended_id() else {
                 return;
             };
-            if self.manager.tables.make_room().is_err() {
-                return;
-            }
-            self.manager.tables.update(Update::DropKernel(id));
+            self.drop_row(id);
         }
     }
 
-    /// The identifier of a kernel that was shut down and has a row.
+    /// The identifier of a kernel that was shut down or is gone, and has a row.
     fn ended_id(&mut self) -> Option<Text> {
         for row in &self.manager.tables.kernels {
             if self.manager.running.has_ended(row.id.as_str()) {
@@ -176,11 +218,8 @@ where
         None
     }
 
-    /// Drops the row of a kernel that was made for this request.
-    fn drop_row(&mut self, given: &Given) {
-        let Ok(id) = given.first_id(self.alloc) else {
-            return;
-        };
+    /// Drops the row of a kernel.
+    fn drop_row(&mut self, id: Text) {
         if self.manager.tables.make_room().is_ok() {
             self.manager.tables.update(Update::DropKernel(id));
         }
@@ -191,11 +230,7 @@ where
         let response = match handshake(self.alloc, request) {
             Ok(response) => response,
             Err(refusal) => {
-                return refused(
-                    refusal
-                        .status()
-                        .unwrap_or(ErrorStatus::InternalServerError),
-                );
+                return refused(refusal.status().unwrap_or(ErrorStatus::InternalServerError));
             }
         };
         let Ok(name) = given.second_id(self.alloc) else {

@@ -72,10 +72,13 @@ pub(crate) fn drive_kernel<L: Language, R: Wait + Clock>(
     alloc: Global,
     opening: Opening<L>,
 ) {
-    let Ok(Board {
-        publisher,
-        followers,
-    }) = Board::<L>::new(rt, alloc) else {
+    let Ok(
+        Board {
+            publisher,
+            followers,
+        },
+    ) = Board::<L>::new(rt, alloc)
+    else {
         return;
     };
     match make::<L>(alloc) {

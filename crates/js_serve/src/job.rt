@@ -12,7 +12,7 @@ use std::net::{TcpListener, TcpStream};
 use std::sync::Wait;
 use std::time::Clock;
 
-/// What one thread does.
+/// What one thread does. It is started where the language is known, since there it is known what may cross to it.
 #[derive(Drop)]
 pub enum Job<L: Language> {
     /// Accepts connections.
@@ -23,13 +23,6 @@ pub enum Job<L: Language> {
     Drive(Opening<L>),
     /// Parses the cells of one kernel.
     Parse(WorkerEnd<ParsedCell<L>>),
-}
-
-/// Starts threads for a language. What a thread is given has to be allowed to cross to it, which is shown where the language
-/// is known.
-pub trait Crew<L: Language> {
-    /// Starts a thread that does a job, by [`work`]. It says whether there is one. Where there is none, the job is dropped.
-    fn start(&self, alloc: Global, job: Job<L>) -> bool;
 }
 
 /// Lets every job of a parser pass.

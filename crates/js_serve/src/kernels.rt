@@ -3,7 +3,6 @@ ghost use Rattle.std.specs.Prelude.{◌≡◌, ◌++◌, ◌∷◌, [], OnOk, On
 
 use crate::call::Place;
 use crate::driving::{Opened, Opening};
-use crate::job::{Crew, Job};
 use crate::watch::Watch;
 use crossbeam_channel::{Receiver, bounded};
 use jk_board::{Follower, Followers};
@@ -22,8 +21,10 @@ use std::sync::{Arc, Wait};
 /// The messages by which the server tells a kernel something. What they are answered goes to no connection.
 const INTERRUPT: &str =
     "{\"channel\":\"control\",\"content\":{},\"header\":{\"msg_id\":\"server\",\"msg_type\":\"interrupt_request\",\"session\":\"server\"}}";
+
 const RESTART: &str =
     "{\"channel\":\"control\",\"content\":{\"restart\":true},\"header\":{\"msg_id\":\"server\",\"msg_type\":\"shutdown_request\",\"session\":\"server\"}}";
+
 const SHUTDOWN: &str =
     "{\"channel\":\"control\",\"content\":{\"restart\":false},\"header\":{\"msg_id\":\"server\",\"msg_type\":\"shutdown_request\",\"session\":\"server\"}}";
 
@@ -52,9 +53,9 @@ struct Ends<L: Language> {
 
 /// A kernel that is to be made, and where its ends will come.
 #[derive(Drop)]
-struct Unopened<L: Language> {
-    opening: Opening<L>,
-    opened: Receiver<Opened<L>>,
+pub(crate) struct Unopened<L: Language> {
+    pub(crate) opening: Opening<L>,
+    pub(crate) opened: Receiver<Opened<L>>,
 }
 
 /// The kernels that run. Contracts see their identifiers.
@@ -294,29 +295,26 @@ impl<R: Wait + Drop, L: Language> Kernels<R, L> {
         self.ends.get_mut(place)
     }
 
-    /// Starts the threads of the kernel that was made last, if it was not started, and takes its ends. The answer is false
-    /// where that fails, and then the kernel is gone.
-    pub(crate) fn open<C: Crew<L>>(&mut self, crew: &C) -> bool {
-        let Some(unopened) = self.unopened.take() else {
-            return true;
-        };
-        let opened = open(&self.rt, self.alloc, crew, unopened);
-        if let Some(opened) = opened {
-            if self.take_ends(opened) {
+    /// The kernel that was made last, where its thread was not given out yet.
+    pub(crate) fn take_unopened(&mut self) -> Option<Unopened<L>> {
+        self.unopened.take()
+    }
+
+    /// Takes the ends of the kernel that was made last. It says whether that worked; where it did not, the kernel is gone.
+    pub(crate) fn take_ends(&mut self, seats: Seats, followers: Followers<L>) -> bool {
+        if let Some(ends) = self.ends.last_mut() {
+            if ends.take(self.alloc, seats, followers).is_ok() {
                 return true;
             }
         }
-        let _ = self.ids.pop();
-        let _ = self.ends.pop();
+        self.drop_last();
         false
     }
 
-    fn take_ends(&mut self, opened: (Seats, Followers<L>)) -> bool {
-        let (seats, followers) = opened;
-        match self.ends.last_mut() {
-            Some(ends) => ends.take(self.alloc, seats, followers).is_ok(),
-            None => false,
-        }
+    /// Lets go of the kernel that was made last.
+    pub(crate) fn drop_last(&mut self) {
+        let _ = self.ids.pop();
+        let _ = self.ends.pop();
     }
 
     /// Reads what each kernel has published.
@@ -350,7 +348,7 @@ impl<R: Wait + Drop, L: Language> Kernels<R, L> {
         }
     }
 
-    /// Whether a kernel was shut down, not to start again.
+    /// Whether a kernel was shut down, not to start again, or is gone.
     pub(crate) fn has_ended(&mut self, id: &str) -> bool {
         match self.ends_of(id) {
             Some(ends) => ends.has_ended(),
@@ -382,28 +380,4 @@ impl<R: Wait + Drop, L: Language> Kernels<R, L> {
             let _ = self.ids.remove(place);
         }
     }
-}
-
-/// Starts the threads of a kernel, and waits for its ends. There is nothing where a thread is refused, or memory.
-fn open<L: Language, R: Wait, C: Crew<L>>(
-    rt: &R,
-    alloc: Global,
-    crew: &C,
-    unopened: Unopened<L>,
-) -> Option<(Seats, Followers<L>)> {
-    let Unopened { opening, opened } = unopened;
-    if !crew.start(alloc, Job::Drive(opening)) {
-        return None;
-    }
-    let Opened {
-        seats,
-        followers,
-        workers,
-    } = opened.recv(rt).ok()?;
-    for worker in workers {
-        if !crew.start(alloc, Job::Parse(worker)) {
-            return None;
-        }
-    }
-    Some((seats, followers))
 }

@@ -13,7 +13,7 @@ mod paced;
 mod watch;
 
 pub use call::{Call, Place, Reply};
-pub use desk::{Fault, serve};
+pub use desk::Desk;
 pub use driving::{Opened, Opening};
-pub use job::{Crew, Job, Open, work};
+pub use job::{Job, Open, work};
 pub use kernels::Kernels;

@@ -1,10 +1,11 @@
 //! A stream whose reads wait as long as its traffic allows.
 
-use std::io;
+ghost use Rattle.std.specs.Io.{ReadsAtMost};
+
 use std::io::{ErrorKind, Read, Write};
 use std::net::TcpStream;
-use std::thread;
 use std::time::{Clock, Duration};
+use std::{io, thread};
 
 /// How many reads in a row may be short ones that find nothing. They take about 50 ms.
 const SHORT_READS: u32 = 250;
@@ -37,12 +38,16 @@ impl<'s, R: Clock + Drop> Paced<'s, R> {
         }
     }
 
-    fn read_long(&self, buf: &mut [u8]) -> io::Result<usize> {
+    fn read_long(&self, buf: &mut [u8]) -> io::Result<usize>
+        ensures { ReadsAtMost result buf.new }
+    {
         let mut reader = self.stream;
         reader.read(buf)
     }
 
-    fn read_short(&self, buf: &mut [u8]) -> io::Result<usize> {
+    fn read_short(&self, buf: &mut [u8]) -> io::Result<usize>
+        ensures { ReadsAtMost result buf.new }
+    {
         self.stream.set_nonblocking(true)?;
         let read = self.read_long(buf);
         self.stream.set_nonblocking(false)?;
@@ -68,7 +73,11 @@ impl<R: Clock + Drop> Read for Paced<'_, R> {
         } else {
             self.read_long(buf)
         };
-        self.empty = if is_empty(&read) { self.empty.saturating_add(1) } else { 0 };
+        self.empty = if is_empty(&read) {
+            self.empty.saturating_add(1)
+        } else {
+            0
+        };
         read
     }
 }

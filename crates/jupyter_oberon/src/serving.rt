@@ -1,6 +1,6 @@
 //! The program as a server.
 
-use js_serve::{Crew, Job, serve, work};
+use js_serve::{Desk, Job, work};
 use js_shelf::FileShelf;
 use ob_language::Oberon;
 use std::alloc::Global;
@@ -18,23 +18,15 @@ use std::time::Clock;
 /// The stack of each thread. A cell is read some hundred calls deep.
 const STACK: usize = 8 * 1024 * 1024;
 
-/// Starts threads for Oberon.
-#[derive(Clone, Copy)]
-struct OberonCrew<R> {
-    rt: R,
-}
-
-impl<R> Crew<Oberon> for OberonCrew<R>
+/// Starts a thread that does a job. It says whether there is one.
+fn start<R>(rt: R, alloc: Global, job: Job<Oberon>) -> bool
 where
-    R: Threads + Wait + Clock + Copy + Send + 'static,
+    R: Threads + Wait + Clock + Copy + Drop + Send + 'static,
 {
-    fn start(&self, alloc: Global, job: Job<Oberon>) -> bool {
-        let rt = self.rt;
-        let started = thread::Builder::new()
-            .stack_size(STACK)
-            .spawn(&rt, move || work::<Oberon, R>(&rt, alloc, job));
-        started.is_ok()
-    }
+    thread::Builder::new()
+        .stack_size(STACK)
+        .spawn(&rt, move || work::<Oberon, R>(&rt, alloc, job))
+        .is_ok()
 }
 
 /// Whether there is a folder at a path of the system.
@@ -100,6 +92,13 @@ where
     let Ok(listener) = listen(&rt, alloc, output, port) else {
         return Unserved::Device;
     };
-    let _ = serve::<Oberon, _, _, _>(rt, alloc, listener, shelf, OberonCrew { rt });
-    Unserved::Memory
+    let Some(mut desk) = Desk::<Oberon, _, _>::new(rt, alloc, listener, shelf) else {
+        return Unserved::Memory;
+    };
+    for _ in rt.forever() {
+        if let Some(job) = desk.next() {
+            let _ = start(rt, alloc, job);
+        }
+    }
+    unreachable!()
 }
