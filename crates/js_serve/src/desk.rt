@@ -210,12 +210,18 @@ where
 
     /// The identifier of a kernel that was shut down or is gone, and has a row.
     fn ended_id(&mut self) -> Option<Text> {
-        for row in &self.manager.tables.kernels {
-            if self.manager.running.has_ended(row.id.as_str()) {
-                return row.id.copy().ok();
+        for place in 0..self.manager.tables.kernels.len() {
+            let id = self.id_at(place)?;
+            if self.manager.running.has_ended(id.as_str()) {
+                return Some(id);
             }
         }
         None
+    }
+
+    /// The identifier in a row.
+    fn id_at(&self, place: usize) -> Option<Text> {
+        self.manager.tables.kernels.get(place)?.id.copy().ok()
     }
 
     /// Drops the row of a kernel.
