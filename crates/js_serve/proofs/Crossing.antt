@@ -1,0 +1,81 @@
+-- What a thread of the server is given may go to it, wherever a tree of the language may.
+use denote.Param.Send.{IsSend, sendable}
+use denote.Param.SendFields.{declared_send, variants_send}
+use denote.RattleType.{RattleType}
+use Rattle.std.proofs.Crossing.{crosses, frees, send, sync, Vec-send}
+use Rattle.std.specs.contracts.alloc.Global as Heap
+use Rattle.std.specs.contracts.impls.GlobalAllocator.TheImpl as heap
+use Rattle.std.specs.contracts.net.tcp.TcpListener as TcpListener
+use Rattle.std.specs.contracts.net.tcp.TcpStream as TcpStream
+use Rattle.std.specs.contracts.sync.Arc as Arc
+use Rattle.std.specs.contracts.sync.atomic.AtomicBool as AtomicBool
+use Rattle.crossbeam_channel.specs.contracts.channel.Sender as Sender
+use Rattle.crossbeam_channel.proofs.channel.Sender.TheSendSync as sender
+use Rattle.jk_language.specs.declared.language.Language as language
+use Rattle.json_form.proofs.text.Text.TheSendSync as text
+use Rattle.js_http.proofs.request.Request.TheSendSync as request
+use Rattle.js_http.proofs.response.Response.TheSendSync as response
+use Rattle.js_ws.proofs.names.Names.TheSendSync as names
+use Rattle.jk_queues.proofs.Crossing.{seat_send}
+use Rattle.jk_board.proofs.Crossing.{follower_send}
+use Rattle.jk_board.specs.contracts.board.Followers as Followers
+use Rattle.jk_core.proofs.job.ParsedCell.TheSendSync as parsed
+use Rattle.jk_core.specs.contracts.job.ParsedCell as ParsedCell
+use Rattle.jk_queues.proofs.pool.WorkerEnd.TheSendSync as end
+use Rattle.jk_queues.specs.contracts.inbox.Seats as Seats
+use Rattle.jk_queues.specs.contracts.pool.WorkerEnd as WorkerEnd
+use Rattle.js_serve.specs.contracts.call.Call as Call
+use Rattle.js_serve.specs.contracts.call.Place as Place
+use Rattle.js_serve.specs.contracts.call.Reply as Reply
+use Rattle.js_serve.specs.contracts.driving.Opened as Opened
+use Rattle.js_serve.specs.contracts.driving.Opening as Opening
+use Rattle.js_serve.specs.contracts.job.Job as Job
+
+sender_send : (R : RattleType) → IsSend R → IsSend (Sender.the_row R Heap.the_row heap.ghosts)
+sender_send R sent = sender.the_send R Heap.the_row heap.ghosts sent send sync frees
+
+tcp_send : IsSend TcpStream.the_row
+tcp_send = search (crosses, sendable) depth 60 fits 20000
+
+listener_send : IsSend TcpListener.the_row
+listener_send = search (crosses, sendable) depth 60 fits 20000
+
+flag_send : IsSend (Arc.the_row AtomicBool.the_row Heap.the_row heap.ghosts)
+flag_send = search (crosses, sendable) depth 60 fits 20000
+
+pub place_send : (L S T M : RattleType) (g : language.Ghosts L.Denot S.Denot T.Denot M.Denot) → IsSend (Place.the_row L S T M g)
+place_send L S T M g = declared_send (Place.the_type L S T M g) (text.the_send, (seat_send, (follower_send L S T M g, tt)))
+
+reply_send : (L S T M : RattleType) (g : language.Ghosts L.Denot S.Denot T.Denot M.Denot) → IsSend (Reply.the_row L S T M g)
+reply_send L S T M g = variants_send (Reply.enum L S T M g) ((response.the_send, tt), ((response.the_send, (place_send L S T M g, (names.the_send, tt))), tt))
+
+call_send : (L S T M : RattleType) (g : language.Ghosts L.Denot S.Denot T.Denot M.Denot) → IsSend (Call.the_row L S T M g)
+call_send L S T M g = variants_send (Call.enum L S T M g) ((tcp_send, tt), ((request.the_send, (sender_send (Reply.the_row L S T M g) (reply_send L S T M g), tt)), ((place_send L S T M g, tt), tt)))
+
+seats_send : IsSend Seats.the_row
+seats_send = declared_send Seats.the_type (seat_send, (seat_send, (seat_send, (seat_send, (seat_send, (seat_send, (seat_send, (seat_send, tt))))))))
+
+followers_send : (L S T M : RattleType) (g : language.Ghosts L.Denot S.Denot T.Denot M.Denot) → IsSend (Followers.the_row L S T M g)
+followers_send L S T M g =
+    let f = follower_send L S T M g in
+    declared_send (Followers.the_type L S T M g) (f, (f, (f, (f, (f, (f, (f, (f, (f, tt)))))))))
+
+worker_send : (L S T M : RattleType) (g : language.Ghosts L.Denot S.Denot T.Denot M.Denot) → IsSend T → IsSend (WorkerEnd.the_row (ParsedCell.the_row L S T M g))
+worker_send L S T M g tree = end.the_send _ (parsed.the_send L S T M g tree)
+
+opened_send : (L S T M : RattleType) (g : language.Ghosts L.Denot S.Denot T.Denot M.Denot) → IsSend T → IsSend (Opened.the_row L S T M g)
+opened_send L S T M g tree = declared_send (Opened.the_type L S T M g) (seats_send, (followers_send L S T M g, (Vec-send _ (worker_send L S T M g tree), tt)))
+
+opening_send : (L S T M : RattleType) (g : language.Ghosts L.Denot S.Denot T.Denot M.Denot) → IsSend T → IsSend (Opening.the_row L S T M g)
+opening_send L S T M g tree = declared_send (Opening.the_type L S T M g) (sender_send (Opened.the_row L S T M g) (opened_send L S T M g tree), (flag_send, tt))
+
+pub job_send : (L S T M : RattleType) (g : language.Ghosts L.Denot S.Denot T.Denot M.Denot) → IsSend T → IsSend (Job.the_row L S T M g)
+job_send L S T M g tree =
+    let calls = sender_send (Call.the_row L S T M g) (call_send L S T M g) in
+    variants_send (Job.enum L S T M g) (
+      (listener_send, (calls, tt)),
+      (
+        (tcp_send, (calls, tt)),
+        ((opening_send L S T M g tree, tt), ((worker_send L S T M g tree, tt), tt)),
+      ),
+    )

@@ -1,0 +1,38 @@
+//! What threads tell the desk, and what it answers.
+
+use crossbeam_channel::Sender;
+use jk_board::Follower;
+use jk_language::Language;
+use jk_queues::Seat;
+use js_http::{Request, Response};
+use js_ws::Names;
+use json_form::Text;
+use std::net::TcpStream;
+
+/// A seat of a kernel and its follower, which are lent to one connection at a time.
+#[derive(Drop)]
+pub struct Place<L: Language> {
+    /// The kernel's identifier.
+    pub kernel: Text,
+    pub seat: Seat,
+    pub follower: Follower<L>,
+}
+
+/// What the desk answers to a request.
+#[derive(Drop)]
+pub enum Reply<L: Language> {
+    Response(Response),
+    /// The switch to a WebSocket, and the place of its channel.
+    Channel(Response, Place<L>, Names),
+}
+
+/// What threads tell the desk.
+#[derive(Drop)]
+pub enum Call<L: Language> {
+    /// A connection was accepted.
+    Accepted(TcpStream),
+    /// A request was read. Its reply goes to the sender.
+    Asked(Request, Sender<Reply<L>>),
+    /// A channel was closed, and gives its place back.
+    Back(Place<L>),
+}

@@ -1,0 +1,65 @@
+//! The channel of a connection, from its handshake on.
+
+use crate::call::{Call, Place};
+use crate::clock::date_now;
+use crate::paced::Paced;
+use crossbeam_channel::Sender;
+use jk_language::Language;
+use js_ws::{Channel, Names, Turn, channel_turn};
+use std::alloc::Global;
+use std::net::TcpStream;
+use std::sync::Wait;
+use std::thread;
+use std::time::{Clock, Duration};
+
+/// How many milliseconds a channel waits where the inbox has no room, or where no date can be had.
+const PAUSE: u64 = 1;
+
+/// Makes turns of a channel until it is closed, and then gives its place back.
+pub(crate) fn serve_channel<L: Language, R: Wait + Clock + Copy + Drop>(
+    rt: &R,
+    alloc: Global,
+    stream: &TcpStream,
+    calls: &Sender<Call<L>>,
+    place: Place<L>,
+    names: Names,
+) {
+    let Place {
+        kernel,
+        seat,
+        follower,
+    } = place;
+    let channel = Channel::new(alloc, Paced::new(*rt, stream), names, seat, follower);
+    let channel = run(rt, alloc, channel);
+    let (seat, follower) = channel.into_ends();
+    let place = Place {
+        kernel,
+        seat,
+        follower,
+    };
+    let _ = calls.send(rt, Call::Back(place));
+}
+
+/// Makes turns until the channel is closed.
+fn run<'s, L: Language, R: Wait + Clock + Copy + Drop>(
+    rt: &R,
+    alloc: Global,
+    channel: Channel<Paced<'s, R>, L>,
+) -> Channel<Paced<'s, R>, L> {
+    let mut channel = channel;
+    for _ in rt.forever() {
+        let Some(date) = date_now(rt, alloc) else {
+            thread::sleep(rt, Duration::from_millis(PAUSE));
+            continue;
+        };
+        let (same, turn) = channel_turn(rt, date.as_str(), channel);
+        channel = same;
+        match turn {
+            Turn::Closed(_) => return channel,
+            Turn::Open(_) | Turn::Quiet(_) => if channel.waits() {
+                thread::sleep(rt, Duration::from_millis(PAUSE));
+            },
+        }
+    }
+    unreachable!()
+}

@@ -1,0 +1,383 @@
+//! The kernels that run, as the desk holds them.
+ghost use Rattle.std.specs.Prelude.{◌≡◌, ◌++◌, ◌∷◌, [], OnOk, OnErr};
+
+use crate::call::Place;
+use crate::driving::{Opened, Opening};
+use crate::watch::Watch;
+use crossbeam_channel::{Receiver, bounded};
+use jk_board::{Follower, Followers};
+use jk_core::{Arrival, What};
+use jk_language::Language;
+use jk_queues::{Seat, Seats};
+use jp_msg::read_message;
+use js_rest::{Running, Untold};
+use js_tables::{Command, Kernel as Row};
+use json_form::{Shared, Text};
+use std::alloc::{AllocError, Global};
+use std::marker::Model;
+use std::sync::atomic::{AtomicBool, Ordering};
+use std::sync::{Arc, Wait};
+
+/// The messages by which the server tells a kernel something. What they are answered goes to no connection.
+const INTERRUPT: &str =
+    "{\"channel\":\"control\",\"content\":{},\"header\":{\"msg_id\":\"server\",\"msg_type\":\"interrupt_request\",\"session\":\"server\"}}";
+
+const RESTART: &str =
+    "{\"channel\":\"control\",\"content\":{\"restart\":true},\"header\":{\"msg_id\":\"server\",\"msg_type\":\"shutdown_request\",\"session\":\"server\"}}";
+
+const SHUTDOWN: &str =
+    "{\"channel\":\"control\",\"content\":{\"restart\":false},\"header\":{\"msg_id\":\"server\",\"msg_type\":\"shutdown_request\",\"session\":\"server\"}}";
+
+/// A seat that is not lent, and its follower.
+#[derive(Drop)]
+struct Free<L: Language> {
+    seat: Seat,
+    follower: Follower<L>,
+}
+
+/// The server's ends of one kernel.
+#[derive(Drop)]
+struct Ends<L: Language> {
+    /// Seat 0.
+    zero: Option<Seat>,
+    watch: Option<Watch<L>>,
+    /// Whether the watch found something since the table of kernels was told.
+    found: bool,
+    /// The seats that are not lent, with their followers.
+    free: Vec<Free<L>>,
+    /// How many seats are lent.
+    lent: u64,
+    /// Set once nobody follows the kernel any more.
+    left: Arc<AtomicBool, Global>,
+}
+
+/// A kernel that is to be made, and where its ends will come.
+#[derive(Drop)]
+pub(crate) struct Unopened<L: Language> {
+    pub(crate) opening: Opening<L>,
+    pub(crate) opened: Receiver<Opened<L>>,
+}
+
+/// The kernels that run. Contracts see their identifiers.
+#[derive(Drop)]
+pub struct Kernels<R: Drop, L: Language> {
+    rt: R,
+    alloc: Global,
+    ids: Vec<Text>,
+    ends: Vec<Ends<L>>,
+    unopened: Option<Unopened<L>>,
+}
+
+impl<R: Drop, L: Language> Model for Kernels<R, L> {
+    ghost use Rattle.std.specs.Prelude.{ℕ, List};
+
+    ghost Value = { List (List ℕ) };
+
+    ghost view = { λ kernels. kernels.ids.items };
+}
+
+/// The message of a command. There is none where memory is refused.
+fn message_of(alloc: Global, command: Command) -> Option<What> {
+    let text = match command {
+        Command::Interrupt => INTERRUPT,
+        Command::Restart => RESTART,
+        Command::Shutdown => SHUTDOWN,
+    };
+    let message = read_message(alloc, text).ok()?;
+    Some(What::Control(Shared::share(alloc, message).ok()?))
+}
+
+/// Sends a message from a seat. It says whether the inbox had room.
+fn submit<R: Wait>(rt: &R, seat: Seat, what: What) -> (Seat, bool) {
+    let arrival = Arrival {
+        seat: seat.place(),
+        number: seat.next_number(),
+        what,
+    };
+    let (seat, sent) = seat.submit(rt, arrival);
+    (seat, sent.is_ok())
+}
+
+/// The seats that are lent, with their followers; the last one is lent first.
+fn free_of<L: Language>(
+    alloc: Global,
+    seats: [Seat; 7],
+    followers: [Follower<L>; 7],
+) -> Result<Vec<Free<L>>, AllocError> {
+    let mut free = Vec::with_capacity(alloc, 7)?;
+    let pairs = seats.into_iter().zip(followers);
+    for (seat, follower) in pairs {
+        free.push(Free { seat, follower })?;
+    }
+    Ok(free)
+}
+
+impl<L: Language> Ends<L> {
+    /// Nothing came of the kernel yet.
+    fn new(alloc: Global, left: Arc<AtomicBool, Global>) -> Ends<L> {
+        Ends {
+            zero: None,
+            watch: None,
+            found: false,
+            free: Vec::new(alloc),
+            lent: 0,
+            left,
+        }
+    }
+
+    /// Takes the ends that the kernel's thread handed out.
+    fn take(
+        &mut self,
+        alloc: Global,
+        seats: Seats,
+        followers: Followers<L>,
+    ) -> Result<(), AllocError> {
+        let Seats {
+            zero,
+            one,
+            two,
+            three,
+            four,
+            five,
+            six,
+            seven,
+        } = seats;
+        let Followers {
+            zero: watch,
+            one: first,
+            two: second,
+            three: third,
+            four: fourth,
+            five: fifth,
+            six: sixth,
+            seven: seventh,
+            recorder: _,
+        } = followers;
+        self.free = free_of(
+            alloc,
+            [seven, six, five, four, three, two, one],
+            [seventh, sixth, fifth, fourth, third, second, first],
+        )?;
+        self.zero = Some(zero);
+        self.watch = Some(Watch::new(watch));
+        Ok(())
+    }
+
+    /// Sends a message from seat 0. It says whether the inbox had room.
+    fn tell<R: Wait>(&mut self, rt: &R, what: What) -> bool {
+        let Some(seat) = self.zero.take() else {
+            return false;
+        };
+        let (seat, sent) = submit(rt, seat, what);
+        self.zero = Some(seat);
+        sent
+    }
+
+    /// Reads what the kernel has published.
+    fn follow(&mut self, alloc: Global) {
+        if let Some(watch) = self.watch.take() {
+            let (watch, found) = watch.read(alloc);
+            self.found = self.found || found;
+            self.watch = Some(watch);
+        }
+    }
+
+    /// Whether the kernel was shut down, not to start again.
+    fn has_ended(&self) -> bool {
+        match &self.watch {
+            Some(watch) => watch.ended,
+            None => false,
+        }
+    }
+
+    /// Whether the kernel was shut down and no seat of it is lent.
+    fn is_left(&self) -> bool {
+        self.has_ended() && self.lent == 0
+    }
+
+    /// Lends a seat.
+    fn lend(&mut self) -> Option<Free<L>> {
+        if self.has_ended() {
+            return None;
+        }
+        let free = self.free.pop()?;
+        self.lent = self.lent.saturating_add(1);
+        Some(free)
+    }
+
+    /// Takes a seat back. That of a kernel that has ended is not lent again.
+    fn take_back(&mut self, free: Free<L>) {
+        self.lent = self.lent.saturating_sub(1);
+        if !self.has_ended() {
+            let _ = self.free.push(free);
+        }
+    }
+
+    /// Tells the kernel's row in the table what was found.
+    fn note(&mut self, row: &mut Row, date: &Text) {
+        row.connections = self.lent;
+        if let Some(watch) = &self.watch {
+            row.state = watch.state;
+        }
+        if self.found {
+            if let Ok(date) = date.copy() {
+                row.last_activity = date;
+                self.found = false;
+            }
+        }
+    }
+}
+
+impl<R: Wait + Drop, L: Language> Running for Kernels<R, L> {
+    ghost use Rattle.std.specs.Prelude.{◌≡◌, ◌++◌, ◌∷◌, []};
+
+    ghost begins = { λ kernels id more. more ≡ kernels ++ id ∷ [] };
+
+    ghost tells = { λ kernels id command result after. after ≡ kernels };
+
+    fn begin(&mut self, id: &str) -> Result<(), AllocError> {
+        let id = Text::from_str(self.alloc, id)?;
+        self.ids.reserve(1)?;
+        self.ends.reserve(1)?;
+        let (sender, receiver) = bounded(self.alloc, 1)?;
+        let left = Arc::new(self.alloc, AtomicBool::new(false))?;
+        let theirs = Arc::try_clone(&left)?;
+        self.ids.push_reserved(id);
+        self.ends.push_reserved(Ends::new(self.alloc, left));
+        self.unopened = Some(Unopened {
+            opening: Opening {
+                opened: sender,
+                left: theirs,
+            },
+            opened: receiver,
+        });
+        Ok(())
+    }
+
+    fn tell(&mut self, id: &str, command: Command) -> Result<(), Untold> {
+        let Some(what) = message_of(self.alloc, command) else {
+            return Err(Untold::Memory);
+        };
+        let Some(place) = self.place_of(id) else {
+            return Err(Untold::Memory);
+        };
+        let Some(ends) = self.ends.get_mut(place) else {
+            return Err(Untold::Memory);
+        };
+        if ends.tell(&self.rt, what) {
+            Ok(())
+        } else {
+            Err(Untold::Full)
+        }
+    }
+}
+
+impl<R: Wait + Drop, L: Language> Kernels<R, L> {
+    /// No kernels.
+    pub fn new(rt: R, alloc: Global) -> Kernels<R, L> {
+        Kernels {
+            rt,
+            alloc,
+            ids: Vec::new(alloc),
+            ends: Vec::new(alloc),
+            unopened: None,
+        }
+    }
+
+    /// The place of a kernel in the lists.
+    fn place_of(&self, id: &str) -> Option<usize> {
+        self.ids.iter().position(|known| known.as_str() == id)
+    }
+
+    /// The ends of a kernel.
+    fn ends_of(&mut self, id: &str) -> Option<&mut Ends<L>> {
+        let place = self.place_of(id)?;
+        self.ends.get_mut(place)
+    }
+
+    /// The kernel that was made last, where its thread was not given out yet.
+    pub(crate) fn take_unopened(&mut self) -> Option<Unopened<L>> {
+        self.unopened.take()
+    }
+
+    /// Takes the ends of the kernel that was made last. It says whether that worked; where it did not, the kernel is gone.
+    pub(crate) fn take_ends(&mut self, seats: Seats, followers: Followers<L>) -> bool {
+        if let Some(ends) = self.ends.last_mut() {
+            if ends.take(self.alloc, seats, followers).is_ok() {
+                return true;
+            }
+        }
+        self.drop_last();
+        false
+    }
+
+    /// Lets go of the kernel that was made last.
+    pub(crate) fn drop_last(&mut self) {
+        let _ = self.ids.pop();
+        let _ = self.ends.pop();
+    }
+
+    /// Reads what each kernel has published.
+    pub(crate) fn follow(&mut self) {
+        for ends in self.ends.iter_mut() {
+            ends.follow(self.alloc);
+        }
+    }
+
+    /// Lends a seat of a kernel. There is none where all are lent, or memory is refused.
+    pub(crate) fn take_place(&mut self, id: &str) -> Option<Place<L>> {
+        let kernel = Text::from_str(self.alloc, id).ok()?;
+        let free = self.ends_of(id)?.lend()?;
+        let Free { seat, follower } = free;
+        Some(Place {
+            kernel,
+            seat,
+            follower,
+        })
+    }
+
+    /// Takes a seat back.
+    pub(crate) fn give_place(&mut self, place: Place<L>) {
+        let Place {
+            kernel,
+            seat,
+            follower,
+        } = place;
+        if let Some(ends) = self.ends_of(kernel.as_str()) {
+            ends.take_back(Free { seat, follower });
+        }
+    }
+
+    /// Whether a kernel was shut down, not to start again, or is gone.
+    pub(crate) fn has_ended(&mut self, id: &str) -> bool {
+        match self.ends_of(id) {
+            Some(ends) => ends.has_ended(),
+            None => true,
+        }
+    }
+
+    /// Tells a kernel's row in the table what was found of it.
+    pub(crate) fn note(&mut self, row: &mut Row, date: &Text) {
+        if let Some(ends) = self.ends_of(row.id.as_str()) {
+            ends.note(row, date);
+        }
+    }
+
+    /// Lets go of each kernel that was shut down and that nobody follows any more.
+    pub(crate) fn drop_left(&mut self) {
+        for _ in 0..self.ends.len() {
+            let Some(place) = self.ends.iter().position(|ends| ends.is_left()) else {
+                return;
+            };
+            self.drop_one(place);
+        }
+    }
+
+    fn drop_one(&mut self, place: usize) {
+        if place < self.ends.len() && place < self.ids.len() {
+            let ends = self.ends.remove(place);
+            ends.left.store(true, Ordering::SeqCst);
+            let _ = self.ids.remove(place);
+        }
+    }
+}

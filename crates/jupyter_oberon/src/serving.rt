@@ -1,0 +1,104 @@
+//! The program as a server.
+
+use js_serve::{Desk, Job, work};
+use js_shelf::FileShelf;
+use ob_language::Oberon;
+use std::alloc::Global;
+use std::fs;
+use std::io;
+use std::io::Write;
+use std::net::{Net, TcpListener, TcpStream};
+use std::random::RandomSource;
+use std::rt::Files;
+use std::sync::Wait;
+use std::thread;
+use std::thread::Threads;
+use std::time::Clock;
+
+/// The stack of each thread. A cell is read some hundred calls deep.
+const STACK: usize = 8 * 1024 * 1024;
+
+/// Starts a thread that does a job. It says whether there is one.
+fn start<R>(rt: R, alloc: Global, job: Job<Oberon>) -> bool
+where
+    R: Threads + Wait + Clock + Copy + Drop + Send + 'static,
+{
+    thread::Builder::new()
+        .stack_size(STACK)
+        .spawn(&rt, move || work::<Oberon, R>(&rt, alloc, job))
+        .is_ok()
+}
+
+/// Whether there is a folder at a path of the system.
+fn is_folder<R: Files>(rt: &R, path: &str) -> bool {
+    match fs::metadata(rt, path) {
+        Ok(metadata) => metadata.is_dir(),
+        Err(_) => false,
+    }
+}
+
+/// The port that a text of one to five decimal digits names, from 1 to 65535.
+pub(crate) fn read_port(text: &str) -> Option<u16> {
+    if text.is_empty() || text.len() > 5 || !text.bytes().all(|byte| byte.is_ascii_digit()) {
+        return None;
+    }
+    match text.parse::<u16>() {
+        Ok(0) => None,
+        Ok(port) => Some(port),
+        Err(_) => None,
+    }
+}
+
+/// Why the program does not serve.
+#[derive(Clone, Copy, PartialEq, Eq, Debug)]
+pub(crate) enum Unserved {
+    Memory,
+    Device,
+}
+
+/// Binds a port of 127.0.0.1, and tells so.
+fn listen<R, W>(rt: &R, alloc: Global, output: &mut W, port: u16) -> io::Result<TcpListener>
+where
+    R: Net<Listener = TcpListener, Stream = TcpStream>,
+    W: Write,
+{
+    let address = format!(in alloc; "127.0.0.1:{port}")?;
+    let listener = TcpListener::bind(rt, address.as_str())?;
+    write!(output, "listening on {address}\n")?;
+    output.flush()?;
+    Ok(listener)
+}
+
+/// Serves the folder of the system at `root` on a port of 127.0.0.1. It comes back only where that fails.
+pub(crate) fn serve_folder<R, W>(
+    rt: R,
+    alloc: Global,
+    output: &mut W,
+    port: u16,
+    root: &str,
+) -> Unserved
+where
+    R: Threads + Wait + Clock + RandomSource + Files + AllocGlobal
+        + Net<Listener = TcpListener, Stream = TcpStream>
+        + Copy + Drop + Send + 'static,
+    W: Write,
+{
+    if !is_folder(&rt, root) {
+        return Unserved::Device;
+    }
+    let Ok(shelf) = FileShelf::new(rt, root) else {
+        return Unserved::Memory;
+    };
+    let Ok(listener) = listen(&rt, alloc, output, port) else {
+        return Unserved::Device;
+    };
+    let Some(mut desk) = Desk::<Oberon, _, _>::new(rt, alloc, listener, shelf) else {
+        return Unserved::Memory;
+    };
+    for _ in rt.forever() {
+        if let Some(job) = desk.next() {
+            let _ = start(rt, alloc, job);
+        }
+    }
+    unreachable!()
+}
