@@ -4,16 +4,14 @@ use js_serve::{Desk, Job, work};
 use js_shelf::FileShelf;
 use ob_language::Oberon;
 use std::alloc::Global;
-use std::fs;
-use std::io;
 use std::io::Write;
 use std::net::{Net, TcpListener, TcpStream};
 use std::random::RandomSource;
 use std::rt::Files;
 use std::sync::Wait;
-use std::thread;
 use std::thread::Threads;
 use std::time::Clock;
+use std::{fs, io, thread};
 
 /// The stack of each thread. A cell is read some hundred calls deep.
 const STACK: usize = 8 * 1024 * 1024;
@@ -78,9 +76,17 @@ pub(crate) fn serve_folder<R, W>(
     root: &str,
 ) -> Unserved
 where
-    R: Threads + Wait + Clock + RandomSource + Files + AllocGlobal
+    R: Threads
+        + Wait
+        + Clock
+        + RandomSource
+        + Files
+        + AllocGlobal
         + Net<Listener = TcpListener, Stream = TcpStream>
-        + Copy + Drop + Send + 'static,
+        + Copy
+        + Drop
+        + Send
+        + 'static,
     W: Write,
 {
     if !is_folder(&rt, root) {

@@ -6,12 +6,7 @@ use std::net::{Net, SocketAddr, TcpStream};
 use std::test::Fail;
 
 /// The answer to a request.
-pub fn ask<R>(
-    rt: &R,
-    alloc: Global,
-    address: SocketAddr,
-    request: &str,
-) -> Result<String, Fail>
+pub fn ask<R>(rt: &R, alloc: Global, address: SocketAddr, request: &str) -> Result<String, Fail>
 where
     R: Net<Stream = TcpStream>,
 {

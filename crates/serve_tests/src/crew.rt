@@ -3,14 +3,13 @@
 use js_serve::{Desk, Job, work};
 use js_shelf::MemoryShelf;
 use std::alloc::Global;
-use std::io;
 use std::io::ErrorKind;
 use std::net::{Net, SocketAddr, TcpListener, TcpStream};
 use std::random::RandomSource;
 use std::sync::Wait;
-use std::thread;
 use std::thread::Threads;
 use std::time::Clock;
+use std::{io, thread};
 use test_language::TestLanguage;
 
 /// Starts a thread that does a job. It says whether there is one.
@@ -29,7 +28,8 @@ where
     let Ok(shelf) = MemoryShelf::new(alloc) else {
         return;
     };
-    let Some(mut desk) = Desk::<TestLanguage, R, MemoryShelf>::new(rt, alloc, listener, shelf) else {
+    let Some(mut desk) = Desk::<TestLanguage, R, MemoryShelf>::new(rt, alloc, listener, shelf)
+    else {
         return;
     };
     for _ in rt.forever() {

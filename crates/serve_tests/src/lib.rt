@@ -1,8 +1,8 @@
 //! The running server over the small language, on loopback in one process.
 #![tactic(auto)]
 
-pub mod crew;
 #[cfg(test)]
 mod client;
+pub mod crew;
 #[cfg(test)]
 mod screens;
