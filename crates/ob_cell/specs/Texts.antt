@@ -1,4 +1,4 @@
--- The meaning of a cell of the whole language, from its text: it is read by the tokens and the grammar, judged by the static
+-- The meaning of a cell of Oberon, from its text: it is read by the tokens and the grammar, judged by the static
 -- rules over the modules that are loaded, linked, and run by what its typed tree means (Wirth, The Programming Language Oberon,
 -- Oberon-07; In and Out after the Oakwood Guidelines).
 use Rattle.std.specs.Prelude.{◌≡◌, ℕ, zero, suc, Bool, false, ◌||◌, List, [], ◌∷◌, ◌++◌, length, map, Option, Some, None, Result, Ok, Err, if◌then◌else◌}

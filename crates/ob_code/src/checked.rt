@@ -1,4 +1,4 @@
-// Code of the whole language that was validated.
+// Code of Oberon that was validated.
 
 ghost use Rattle.std.specs.Prelude.{◌≡◌, ℕ, ◌+◌, ◌-◌, ◌<◌, ◌≤◌, length, IsTrue, IfSome, Option, Some, slice_get};
 ghost use Rattle.ob_code.specs.Valid.{height, results, height_at, RootFits, LengthFits, SpanFits, TargetFits, Calls, entry_of, is_ask, asks, Fits, LinesFit, ProcedureFits, IsBody, IsValid};

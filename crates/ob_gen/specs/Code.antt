@@ -1,4 +1,4 @@
--- The code of a typed tree of the whole language.
+-- The code of a typed tree of Oberon.
 use Rattle.std.specs.Prelude.{ℕ, zero, suc, ◌+◌, ◌-◌, ℤ, pos, negsuc, Option, Some, None, List, [], ◌∷◌, ◌++◌, length, slice_get}
 use Rattle.ob_mean.specs.declared.expression.Variable.{Variable}
 use Rattle.ob_mean.specs.declared.expression.Variable.TheVariants as variable

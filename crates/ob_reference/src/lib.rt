@@ -1,4 +1,4 @@
-//! A plain program that computes what the typed trees of the whole language mean, by their structure. Tests alone use it.
+//! A plain program that computes what the typed trees of Oberon mean, by their structure. Tests alone use it.
 #![tactic(auto)]
 
 mod action;

@@ -1,4 +1,4 @@
-//! Tests of cells of the whole language in one session, from their texts to what they write.
+//! Tests of cells of Oberon in one session, from their texts to what they write.
 #![tactic(auto)]
 
 #[cfg(test)]
