@@ -1,18 +1,8 @@
-//! Tests of the language's crates: of the parts below a cell, from texts to checked trees and what links.
+//! Tests of the language's parts that stand on no checker: texts and lists, tokens, trees, types, In and Out, and what links.
 #![tactic(auto)]
 
 #[cfg(test)]
 mod base;
-#[cfg(test)]
-mod checker;
-#[cfg(test)]
-mod checker_limits;
-#[cfg(test)]
-mod compile;
-#[cfg(test)]
-mod declare;
-#[cfg(test)]
-mod express;
 #[cfg(test)]
 mod inout;
 #[cfg(test)]
@@ -21,7 +11,5 @@ mod link;
 mod parse;
 #[cfg(test)]
 mod scan;
-#[cfg(test)]
-mod several;
 #[cfg(test)]
 mod types;
