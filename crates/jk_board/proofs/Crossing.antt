@@ -5,18 +5,19 @@ use Rattle.std.proofs.Crossing.{crosses}
 use Rattle.left_right.proofs.reader.Reader.TheSendSync as reader
 use Rattle.jk_language.specs.declared.language.Language as language
 use Rattle.jk_core.proofs.Crossing.{entry_send, entry_sync}
-use Rattle.jk_board.specs.contracts.posted.Part as Part
+use Rattle.jk_board.proofs.posted.Row.TheSendSync as row
+use Rattle.jk_board.specs.contracts.posted.Publication as Publication
 use Rattle.jk_board.specs.contracts.posted.Posted as Posted
 use Rattle.jk_board.specs.contracts.follower.Follower as Follower
 
-part_send : IsSend Part.the_row
-part_send = search (entry_send, entry_sync, crosses, sendable) depth 60 fits 20000
+publication_send : IsSend Publication.the_row
+publication_send = search (entry_send, entry_sync, crosses, sendable) depth 60 fits 20000
 
-part_sync : IsSync Part.the_row
-part_sync = search (entry_send, entry_sync, crosses, sendable) depth 60 fits 20000
+publication_sync : IsSync Publication.the_row
+publication_sync = search (entry_send, entry_sync, crosses, sendable) depth 60 fits 20000
 
 posted_sync : IsSync Posted.the_row
-posted_sync = search (part_send, part_sync, crosses, sendable) depth 60 fits 20000
+posted_sync = search (publication_send, publication_sync, row.the_send, row.the_sync, crosses, sendable) depth 60 fits 20000
 
 pub follower_send : (L S T M : RattleType) (g : language.Ghosts L.Denot S.Denot T.Denot M.Denot) → IsSend (Follower.the_row L S T M g)
 follower_send L S T M g = search (posted_sync, reader.the_field_send, crosses, sendable) depth 60 fits 20000

@@ -1,5 +1,5 @@
 -- Lists of lists, and beginnings.
-use Rattle.std.proofs.Common.{◌≡◌, ℕ, zero, suc, ◌+◌, ◌-◌, List, [], ◌∷◌, ◌++◌, take, drop, length, refl, sym, ap, ◌∙◌, arith}
+use Rattle.std.proofs.Common.{◌≡◌, ℕ, zero, suc, ◌+◌, ◌-◌, ◌≤◌, List, [], ◌∷◌, ◌++◌, take, drop, length, refl, sym, ap, ◌∙◌, arith, length-append, append-nil, append_assoc}
 use Rattle.std.proofs.lemmas.List.{length-take}
 
 module _ {A : Type 0} where
@@ -30,6 +30,37 @@ module _ {A : Type 0} where
       ∙ ap (λ k. take max (drop place xs) ++ take (max - length (drop place xs)) (drop k ys)) rest
       ∙ sym (take_both max (drop place xs) (drop (place - length xs) ys))
       ∙ ap (take max) (sym (drop_both place xs ys))
+
+  -- of a list and then another, the next ones from a place on, after some that were found before
+  pub window_after : (max place skipped : ℕ) (xs ys first found now : List A) → found ≡ first ++ take (max - length first) (drop place xs) → skipped ≡ place - length xs
+      → now ≡ found ++ take (max - length found) (drop skipped ys) → now ≡ first ++ take (max - length first) (drop place (xs ++ ys))
+  window_after max place skipped xs ys first found now so_far left is =
+      let piece = take (max - length first) (drop place xs) in
+      let long = ap length so_far ∙ length-append first piece in
+      let rest : max - length found ≡ max - length first - length piece = omega (arith, long) in
+      is
+      ∙ ap (λ l. l ++ take (max - length found) (drop skipped ys)) so_far
+      ∙ ap (λ k. (first ++ piece) ++ take k (drop skipped ys)) rest
+      ∙ append_assoc first piece (take (max - length first - length piece) (drop skipped ys))
+      ∙ ap (λ l. first ++ l) (window_both (max - length first) place xs ys piece skipped refl left)
+
+  -- where enough are found, what follows adds none
+  pub enough_after : (max place : ℕ) (xs ys first found : List A) → found ≡ first ++ take (max - length first) (drop place xs) → max ≤ length found
+      → found ≡ first ++ take (max - length first) (drop place (xs ++ ys))
+  enough_after max place xs ys first found so_far enough =
+      let none : max - length found ≡ 0 = omega (arith, enough) in
+      window_after max place (place - length xs) xs ys first found found so_far refl
+      (sym (append-nil found) ∙ ap (λ k. found ++ take k (drop (place - length xs) ys)) (sym none))
+
+  pub three_windows : (max place second third : ℕ) (xs ys zs none one two now : List A) → none ≡ [] → one ≡ none ++ take (max - length none) (drop place xs)
+      → second ≡ place - length xs → two ≡ one ++ take (max - length one) (drop second ys)
+      → third ≡ second - length ys → now ≡ two ++ take (max - length two) (drop third zs) → now ≡ take max (drop place ((xs ++ ys) ++ zs))
+  three_windows max place second third xs ys zs none one two now start first_is left two_is left_then now_is =
+      let both = window_after max place second xs ys none one two first_is left two_is in
+      let skipped : third ≡ place - length (xs ++ ys) = omega (arith, left, left_then, length-append xs ys) in
+      window_after max place third (xs ++ ys) zs none two now both skipped now_is
+      ∙ ap (λ l. l ++ take (max - length l) (drop place ((xs ++ ys) ++ zs))) start
+      ∙ ap (λ k. take k (drop place ((xs ++ ys) ++ zs))) (let e : max - 0 ≡ max = omega arith in e)
 
   pub take-add : (m n : ℕ) (xs : List A) → take (m + n) xs ≡ take m xs ++ take n (drop m xs)
   take-add zero n xs = let e : 0 + n ≡ n = omega arith in ap (λ k. take k xs) e

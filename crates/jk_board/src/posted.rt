@@ -1,27 +1,45 @@
-//! A board: a shared list of what was published.
-ghost use Rattle.std.specs.Prelude.{◌≡◌, length};
-ghost use Rattle.std.specs.Arc.{arc_value};
-ghost use Rattle.jk_board.specs.Parts.{AreNumbered, flat};
+//! A board: rows of what was published, which its copies share.
+ghost use Rattle.jk_board.specs.Levels.{AreWhole};
 
 use jk_core::Entry;
-use std::alloc::Global;
+use std::alloc::{AllocError, Global};
 use std::sync::Arc;
 
-mod lists;
+mod boards;
+mod holds;
+mod publications;
+mod rows;
 
-/// What was published at once, and how many entries stand before it.
+pub use holds::Holds;
+
+/// What was published at once.
 #[derive(Drop)]
-pub struct Part {
-    before: usize,
+pub struct Publication {
     entries: Arc<Vec<Entry>, Global>,
 }
 
-/// All that was published, in order. A copy of it is a copy of one pointer.
+/// A part of a row, and how many entries of the row stand before it.
+#[derive(Drop)]
+pub struct Part<T> {
+    before: usize,
+    held: T,
+}
+
+/// Parts in order, which copies of the row share, and how many entries they hold.
+#[derive(Drop)]
+pub struct Row<T> {
+    parts: Arc<Vec<Part<T>>, Global>,
+    count: usize,
+}
+
+/// All that was published, in order. A copy of it is a copy of three pointers.
 #[derive(Drop)]
 pub struct Posted {
-    parts: Arc<Vec<Part>, Global>,
-    /// How many entries.
-    count: usize,
-    ghost numbered: { AreNumbered (arc_value parts).items },
-    ghost counted: { count ≡ length (flat (arc_value parts).items) },
+    /// Rows of 64 rows of 64 publications.
+    oldest: Row<Row<Row<Publication>>>,
+    /// At most 64 rows of 64 publications.
+    older: Row<Row<Publication>>,
+    /// At most 64 publications.
+    newest: Row<Publication>,
+    ghost whole: { AreWhole oldest older newest },
 }

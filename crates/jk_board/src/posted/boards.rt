@@ -1,0 +1,143 @@
+//! How a board is made and read.
+ghost use Rattle.std.specs.Prelude.{◌≡◌, ◌<◌, ◌≤◌, ◌++◌, [], take, drop, length, IfOk, MatchResult};
+ghost use Rattle.std.specs.Arc.{arc_value};
+ghost use Rattle.std.specs.declared.alloc.Global.{Global};
+ghost use Rattle.std.specs.declared.vec.Vec.{Vec};
+ghost use Rattle.jk_core.specs.declared.entry.Entry.{Entry};
+ghost use Rattle.jk_board.specs.Levels.{of_oldest, of_older, IsWholeOldest, IsWholeOlder};
+ghost use Rattle.jk_board.specs.Posted.{all_of, EndsWith};
+
+use super::{Holds, Posted, Publication, Row};
+use jk_core::Entry;
+use std::alloc::{AllocError, Global};
+use std::sync::{Arc, Wait};
+
+impl Posted {
+    /// An empty board.
+    pub fn new(alloc: Global) -> Result<Posted, AllocError>
+        ensures { IfOk result (λ b. all_of b ≡ []) }
+    {
+        let oldest = Row::new(alloc)?;
+        let older = Row::new(alloc)?;
+        let newest = Row::new(alloc)?;
+        Ok(Posted {
+            oldest,
+            older,
+            newest,
+        })
+    }
+
+    /// The same board, by one more pointer to each of its rows.
+    pub fn share(&self) -> Result<Posted, AllocError>
+        ensures { IfOk result (λ b. all_of b ≡ all_of self.now) }
+    {
+        let oldest = self.oldest.share()?;
+        let older = self.older.share()?;
+        let newest = self.newest.share()?;
+        Ok(Posted {
+            oldest,
+            older,
+            newest,
+        })
+    }
+
+    /// The same board, whose newest row is not full.
+    fn with_room(&self, alloc: Global) -> Result<Posted, AllocError>
+        ensures { IfOk result (λ b. all_of b ≡ all_of self.now) }
+    {
+        if !self.newest.is_full() {
+            return self.share();
+        }
+        let (oldest, older) = self.older_with_room(alloc)?;
+        let older = older.with(alloc, self.newest.share()?)?;
+        let newest = Row::new(alloc)?;
+        Ok(Posted {
+            oldest,
+            older,
+            newest,
+        })
+    }
+
+    /// The rows before the newest one, of which the later is not full.
+    fn older_with_room(
+        &self,
+        alloc: Global,
+    ) -> Result<(Row<Row<Row<Publication>>>, Row<Row<Publication>>), AllocError>
+        ensures same { IfOk result (λ t. of_oldest t.0 ++ of_older t.1 ≡ of_oldest self.now.oldest ++ of_older self.now.older) }
+        ensures whole { IfOk result (λ t. IsWholeOldest t.0 × IsWholeOlder t.1) }
+    {
+        if !self.older.is_full() {
+            return Ok((self.oldest.share()?, self.older.share()?));
+        }
+        let oldest = self.oldest.with(alloc, self.older.share()?)?;
+        Ok((oldest, Row::new(alloc)?))
+    }
+
+    /// This board and then the entries. They come back where there is no memory.
+    pub fn with(
+        &self,
+        alloc: Global,
+        entries: Vec<Entry>,
+    ) -> Result<Posted, (Vec<Entry>, AllocError)>
+        ensures all { MatchResult result (λ b. all_of b ≡ all_of self.now ++ entries.items) (λ e. e.0 ≡ entries) }
+        ensures last { IfOk result (EndsWith entries) }
+    {
+        let board = match self.with_room(alloc) {
+            Ok(board) => board,
+            Err(error) => return Err((entries, error)),
+        };
+        let Posted {
+            oldest,
+            older,
+            newest,
+        } = board;
+        let newest = newest.with_entries(alloc, entries)?;
+        Ok(Posted {
+            oldest,
+            older,
+            newest,
+        })
+    }
+
+    /// The entries that were put last. It waits until no one shares them.
+    pub fn into_last<R: Wait>(self, rt: &R) -> Vec<Entry>
+        requires { 0 < length (arc_value self.newest.parts).items }
+        ensures { (entries : Vec Entry Global) → EndsWith entries self → result ≡ entries }
+    {
+        let mut parts = only(rt, self.newest.parts);
+        let last = parts.pop().unwrap();
+        only(rt, last.held.entries)
+    }
+
+    /// The entries from a place on, at most so many. It looks for the place by halves, and reads no further than it has to.
+    pub fn entries_from(
+        &self,
+        alloc: Global,
+        place: usize,
+        max: usize,
+    ) -> Result<Vec<Entry>, AllocError>
+        ensures { IfOk result (λ v. v.items ≡ take max (drop place (all_of self.now))) }
+    {
+        let mut found = Vec::new(alloc);
+        self.oldest.copy_from(&mut found, place, max)?;
+        let place = place.saturating_sub(self.oldest.count());
+        self.older.copy_from(&mut found, place, max)?;
+        let place = place.saturating_sub(self.older.count());
+        self.newest.copy_from(&mut found, place, max)?;
+        Ok(found)
+    }
+}
+
+/// Waits until this is the only pointer to the value.
+fn only<T, R: Wait>(rt: &R, shared: Arc<T>) -> T
+    ensures { result ≡ arc_value shared }
+{
+    let mut shared = shared;
+    for _ in rt.forever() {
+        match Arc::try_unwrap(shared) {
+            Ok(value) => return value,
+            Err(again) => shared = again,
+        }
+    }
+    unreachable!()
+}
