@@ -1,29 +1,29 @@
 //! A driver until its kernel was shut down.
-ghost use Rattle.std.specs.Prelude.{◌≡◌, ◌≢◌, [], None, true};
+ghost use Rattle.std.specs.Prelude.{◌≡◌, ◌≢◌, [], None, true, false};
 ghost use Rattle.jk_core.specs.declared.kernel.Work.TheVariants.{NoMemory};
 ghost use Rattle.jk_core.specs.Log.{ended};
 ghost use Rattle.jk_queues.specs.Pool.{has_stopped};
 ghost use Rattle.jk_run.specs.Driver.{HasDriven};
 
 use crate::driver::Driver;
+use crate::pauses::Pauses;
 use crate::round::round;
-use crossbeam_utils::Backoff;
 use jk_core::Work;
 use jk_language::Language;
 use std::sync::Wait;
-use std::thread;
-use std::time::{Clock, Duration};
+use std::time::Clock;
 
 /// Makes rounds until the kernel was shut down, not to start again, and all is published. Then it stops the pool and hands
-/// the driver back, whose publisher has to outlive the followers. While there is nothing to do it waits a little between
-/// rounds.
+/// the driver back, whose publisher has to outlive the followers. While there is nothing to do it pauses between rounds, the
+/// longer the longer that has been so.
 pub fn drive<L: Language, R: Wait + Clock>(rt: &R, driver: Driver<L>) -> Driver<L>
     ensures acts { HasDriven L.spoken driver result }
     ensures ended { ended result.kernel.log ≡ true }
     ensures shown { (result.entries ≡ None) × (result.kernel.pending ≡ []) }
     ensures stopped { has_stopped result.pool ≡ true }
 {
-    let backoff = Backoff::new();
+    let mut pauses = Pauses::new();
+    let mut last = Work::Rest;
     let mut driver = driver;
     for _ in rt.forever() {
         let (next, work) = round(rt, driver);
@@ -32,7 +32,8 @@ pub fn drive<L: Language, R: Wait + Clock>(rt: &R, driver: Driver<L>) -> Driver<
             driver.pool.stop(rt);
             return driver;
         }
-        pause(rt, &backoff, work);
+        pauses.pause_unless(rt, goes_on(last, work));
+        last = work;
     }
     unreachable!()
 }
@@ -47,16 +48,9 @@ fn found_memory(work: Work) -> bool
     }
 }
 
-/// Waits a little where a round found nothing to do, and longer where it has been so for some rounds.
-fn pause<R: Clock>(rt: &R, backoff: &Backoff, work: Work) {
-    match work {
-        Work::Ran => backoff.reset(),
-        Work::Rest | Work::NeedsParse | Work::NeedsLine | Work::NoMemory => {
-            if backoff.is_completed() {
-                thread::sleep(rt, Duration::from_millis(1));
-            } else {
-                backoff.snooze();
-            }
-        }
-    }
+/// Whether a round found something to do: it worked, or what its slice came to is something else than before.
+fn goes_on(last: Work, work: Work) -> bool
+    ensures { result ≡ false → work ≡ last }
+{
+    work == Work::Ran || work != last
 }

@@ -7,6 +7,7 @@ use crossbeam_channel::Sender;
 use jk_language::Language;
 use js_ws::{Channel, Names, Turn, channel_turn};
 use std::alloc::Global;
+use std::cell::Cell;
 use std::net::TcpStream;
 use std::sync::Wait;
 use std::thread;
@@ -29,8 +30,10 @@ pub(crate) fn serve_channel<L: Language, R: Wait + Clock + Copy + Drop>(
         seat,
         follower,
     } = place;
-    let channel = Channel::new(alloc, Paced::new(*rt, stream), names, seat, follower);
-    let channel = run(rt, alloc, channel);
+    let busy = Cell::new(false);
+    let paced = Paced::new(*rt, stream, &busy);
+    let channel = Channel::new(alloc, paced, names, seat, follower);
+    let channel = run(rt, alloc, &busy, channel);
     let (seat, follower) = channel.into_ends();
     let place = Place {
         kernel,
@@ -40,10 +43,11 @@ pub(crate) fn serve_channel<L: Language, R: Wait + Clock + Copy + Drop>(
     let _ = calls.send(rt, Call::Back(place));
 }
 
-/// Makes turns until the channel is closed.
+/// Makes turns until the channel is closed, and notes after each whether the kernel is busy.
 fn run<'s, L: Language, R: Wait + Clock + Copy + Drop>(
     rt: &R,
     alloc: Global,
+    busy: &'s Cell<bool>,
     channel: Channel<Paced<'s, R>, L>,
 ) -> Channel<Paced<'s, R>, L> {
     let mut channel = channel;
@@ -54,6 +58,7 @@ fn run<'s, L: Language, R: Wait + Clock + Copy + Drop>(
         };
         let (same, turn) = channel_turn(rt, date.as_str(), channel);
         channel = same;
+        busy.set(channel.is_busy());
         match turn {
             Turn::Closed(_) => return channel,
             Turn::Open(_) | Turn::Quiet(_) => if channel.waits() {

@@ -2,59 +2,102 @@
 
 ghost use Rattle.std.specs.Io.{ReadsAtMost};
 
+use std::cell::Cell;
 use std::io::{ErrorKind, Read, Write};
 use std::net::TcpStream;
 use std::time::{Clock, Duration};
 use std::{io, thread};
 
-/// How many reads in a row may be short ones that find nothing. They take about 50 ms.
-const SHORT_READS: u32 = 250;
+/// For how many microseconds of waiting the reads are short ones, after something was read or written.
+const FRESH: u64 = 50_000;
 
-/// How many microseconds a short read that finds nothing waits.
-const SHORT_WAIT: u64 = 200;
+/// How many microseconds the shortest of the short reads waits, and the longest.
+const SHORTEST: u64 = 50;
+
+const LONGEST: u64 = 2_000;
+
+/// A short read waits this part of what was waited before it.
+const PART: u64 = 32;
 
 /// How many milliseconds any other read waits.
-const LONG_WAIT: u64 = 20;
+const LONG_WAIT: u64 = 50;
 
-/// A stream whose reads end by a time limit: 20 ms, but a fraction of a millisecond where something was read or written
-/// within the last 50 ms. The system's own limits are no finer than its clock's ticks, so that a short read asks for what is
-/// there and then sleeps.
+/// A stream whose reads end by a time limit.
+///
+/// A short read asks for what is there, and sleeps where that is nothing: for 50 microseconds at first, and longer the longer
+/// nothing was read or written, up to 2 milliseconds. A long read waits 50 milliseconds, and ends at once where something comes.
+/// Reads are short while the kernel is busy, and for some 50 milliseconds after something was read or written. The system's own
+/// limits are no finer than its clock's ticks.
 #[derive(Drop)]
 pub(crate) struct Paced<'s, R: Drop> {
     rt: R,
     stream: &'s TcpStream,
-    /// How many reads found nothing since something was read or written.
-    empty: u32,
+    /// Whether the kernel is busy.
+    busy: &'s Cell<bool>,
+    /// Whether calls of the stream answer at once.
+    at_once: bool,
+    /// How many microseconds reads have waited since something was read or written.
+    waited: u64,
 }
 
 impl<'s, R: Clock + Drop> Paced<'s, R> {
-    /// A stream on which something was just read.
-    pub(crate) fn new(rt: R, stream: &'s TcpStream) -> Paced<'s, R> {
+    /// A stream on which something was just read, and whether its kernel is busy.
+    pub(crate) fn new(rt: R, stream: &'s TcpStream, busy: &'s Cell<bool>) -> Paced<'s, R> {
         let _ = stream.set_read_timeout(Some(Duration::from_millis(LONG_WAIT)));
         Paced {
             rt,
             stream,
-            empty: 0,
+            busy,
+            at_once: false,
+            waited: 0,
         }
     }
 
-    fn read_long(&self, buf: &mut [u8]) -> io::Result<usize>
+    /// Has the stream's calls answer at once, or wait.
+    fn answer_at_once(&mut self, at_once: bool) -> io::Result<()> {
+        if self.at_once != at_once {
+            self.stream.set_nonblocking(at_once)?;
+            self.at_once = at_once;
+        }
+        Ok(())
+    }
+
+    fn read_now(&self, buf: &mut [u8]) -> io::Result<usize>
         ensures { ReadsAtMost result buf.new }
     {
         let mut reader = self.stream;
         reader.read(buf)
     }
 
-    fn read_short(&self, buf: &mut [u8]) -> io::Result<usize>
+    fn read_long(&mut self, buf: &mut [u8]) -> io::Result<usize>
         ensures { ReadsAtMost result buf.new }
     {
-        self.stream.set_nonblocking(true)?;
-        let read = self.read_long(buf);
-        self.stream.set_nonblocking(false)?;
-        if is_empty(&read) {
-            thread::sleep(&self.rt, Duration::from_micros(SHORT_WAIT));
-        }
+        self.answer_at_once(false)?;
+        let read = self.read_now(buf);
+        self.note(&read, LONG_WAIT * 1_000);
         read
+    }
+
+    fn read_short(&mut self, buf: &mut [u8]) -> io::Result<usize>
+        ensures { ReadsAtMost result buf.new }
+    {
+        self.answer_at_once(true)?;
+        let read = self.read_now(buf);
+        let wait = (self.waited / PART).max(SHORTEST).min(LONGEST);
+        if is_empty(&read) {
+            thread::sleep(&self.rt, Duration::from_micros(wait));
+        }
+        self.note(&read, wait);
+        read
+    }
+
+    /// Notes what a read gave that waited so many microseconds where it gave nothing.
+    fn note(&mut self, read: &io::Result<usize>, wait: u64) {
+        self.waited = if is_empty(read) {
+            self.waited.saturating_add(wait)
+        } else {
+            0
+        };
     }
 }
 
@@ -68,23 +111,18 @@ fn is_empty(read: &io::Result<usize>) -> bool {
 
 impl<R: Clock + Drop> Read for Paced<'_, R> {
     fn read(&mut self, buf: &mut [u8]) -> io::Result<usize> {
-        let read = if self.empty < SHORT_READS {
+        if self.busy.get() || self.waited < FRESH {
             self.read_short(buf)
         } else {
             self.read_long(buf)
-        };
-        self.empty = if is_empty(&read) {
-            self.empty.saturating_add(1)
-        } else {
-            0
-        };
-        read
+        }
     }
 }
 
 impl<R: Clock + Drop> Write for Paced<'_, R> {
     fn write(&mut self, buf: &[u8]) -> io::Result<usize> {
-        self.empty = 0;
+        self.answer_at_once(false)?;
+        self.waited = 0;
         let mut writer = self.stream;
         writer.write(buf)
     }

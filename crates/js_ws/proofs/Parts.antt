@@ -8,6 +8,7 @@ use Rattle.jk_core.specs.declared.entry.Entry.{Entry}
 use Rattle.js_ws.specs.Views.{is_join, has_joined, after_join, goes_to, for_seat, view, part, one}
 use Rattle.js_ws.specs.Reads.{items_read}
 use Rattle.js_ws.specs.Shutdowns.{is_last, has_last}
+use Rattle.js_ws.specs.Statuses.{busy_with, busy_after}
 
 seat_step : (b : Bool) (e : Entry) (es : List Entry) → cond b (e ∷ es) es ≡ cond b (e ∷ []) [] ++ es
 seat_step true e es = refl
@@ -42,6 +43,10 @@ joined_more joined next e es seat join more = rw more (or_assoc joined (is_join 
 pub last_more : (ended next : Bool) (e : Entry) (es : List Entry)
     → next ≡ (ended || is_last e) → (ended || has_last (e ∷ es)) ≡ (next || has_last es)
 last_more ended next e es more = rw more (or_assoc ended (is_last e) (has_last es))
+
+pub busy_more : (busy next : Bool) (e : Entry) (es : List Entry)
+    → next ≡ busy_with busy e → busy_after busy (e ∷ es) ≡ busy_after next es
+busy_more busy next e es more = ap (λ (b : Bool). busy_after b es) (sym more)
 
 -- no more were read than were asked for
 pub few : (r : Result (Vec Entry Global) AllocError) (n : ℕ) (all : List Entry) → IfOk r (λ v. v.items ≡ take n all) → length (items_read r) ≤ n

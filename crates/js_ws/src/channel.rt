@@ -1,5 +1,5 @@
 //! A channel: the connection of one frontend to one kernel.
-ghost use Rattle.std.specs.Prelude.{◌≡◌, is_some};
+ghost use Rattle.std.specs.Prelude.{◌≡◌, false, is_some};
 
 use crate::feed::Feed;
 use crate::names::Names;
@@ -42,7 +42,8 @@ impl<S: Read + Write + Drop, L: Language> Channel<S, L> {
         seat: Seat,
         follower: Follower<L>,
     ) -> Channel<S, L>
-        ensures { IsNew result stream names seat follower }
+        ensures fresh { IsNew result stream names seat follower }
+        ensures calm { result.feed.busy ≡ false }
     {
         let join = seat.next_number();
         Channel {
@@ -59,6 +60,7 @@ impl<S: Read + Write + Drop, L: Language> Channel<S, L> {
                 join,
                 joined: false,
                 ended: false,
+                busy: false,
             },
         }
     }
@@ -82,6 +84,13 @@ impl<S: Read + Write + Drop, L: Language> Channel<S, L> {
         ensures { result ≡ self.now.feed.ended }
     {
         self.feed.ended
+    }
+
+    /// Whether the kernel is busy with a request of the shell, by the entries that were found. A new channel takes it for idle.
+    pub fn is_busy(&self) -> bool
+        ensures { result ≡ self.now.feed.busy }
+    {
+        self.feed.busy
     }
 
     /// Whether an arrival waits for room in the inbox. A turn then reads nothing until the inbox has taken it.
@@ -112,6 +121,7 @@ impl<S: Read + Write + Drop, L: Language> Channel<S, L> {
             join: _,
             joined: _,
             ended: _,
+            busy: _,
         } = feed;
         (seat, follower)
     }

@@ -3,7 +3,7 @@ ghost use Rattle.std.specs.Prelude.{◌≡◌, ◌+◌, ◌<◌, ◌≤◌, ◌+
 ghost use Rattle.jk_board.specs.Ends.{read_by};
 ghost use Rattle.js_ws.specs.Reads.{items_read};
 
-use crate::view::{goes_to, is_join, is_last};
+use crate::view::{busy_with, goes_to, is_join, is_last};
 use jk_board::Follower;
 use jk_core::Entry;
 use jk_language::Language;
@@ -23,6 +23,8 @@ pub struct Feed<L: Language> {
     pub(crate) joined: bool,
     /// Whether the kernel's last entry was found.
     pub(crate) ended: bool,
+    /// Whether the kernel is busy with a request of the shell, by the entries that were found.
+    pub(crate) busy: bool,
 }
 
 /// How far a connection has come in what its follower gives.
@@ -32,11 +34,13 @@ struct Place {
     join: u64,
     joined: bool,
     ended: bool,
+    busy: bool,
 }
 
 impl Place {
     ghost use Rattle.js_ws.specs.Views.{is_join, one, part, has_joined};
     ghost use Rattle.js_ws.specs.Shutdowns.{is_last, has_last};
+    ghost use Rattle.js_ws.specs.Statuses.{busy_with, busy_after};
 
     /// Takes one more entry.
     fn take(&mut self, entry: Entry, held: &mut Vec<Entry>)
@@ -45,24 +49,27 @@ impl Place {
         ensures held { held.new.items ≡ held.old.items ++ one self.old.joined entry self.old.seat }
         ensures joined { self.new.joined ≡ (self.old.joined || is_join self.old.seat self.old.join entry) }
         ensures ended { self.new.ended ≡ (self.old.ended || is_last entry) }
+        ensures busy { self.new.busy ≡ busy_with self.old.busy entry }
         ensures len { vec_len held.new ≤ vec_len held.old + 1 }
         ensures capacity { vec_capacity held.new ≡ vec_capacity held.old }
     {
         let before = self.joined;
         self.joined = before || is_join(&entry, self.seat, self.join);
         self.ended = self.ended || is_last(&entry);
+        self.busy = busy_with(self.busy, &entry);
         if before && goes_to(entry.to, self.seat) {
             held.push_reserved(entry);
         }
     }
 
     /// Puts those of the connection behind the held ones.
-    #[tactic(auto, using(crate::proofs::Parts::part_more, crate::proofs::Parts::joined_more, crate::proofs::Parts::last_more))]
+    #[tactic(auto, using(crate::proofs::Parts::part_more, crate::proofs::Parts::joined_more, crate::proofs::Parts::last_more, crate::proofs::Parts::busy_more))]
     fn take_all(mut self, given: Vec<Entry>, held: &mut Vec<Entry>) -> Place
         requires room { vec_len held.old + vec_len given ≤ vec_capacity held.old }
         ensures held { held.new.items ≡ held.old.items ++ part self.joined given.items self.seat self.join }
         ensures joined { result.joined ≡ (self.joined || has_joined self.seat self.join given.items) }
         ensures ended { result.ended ≡ (self.ended || has_last given.items) }
+        ensures busy { result.busy ≡ busy_after self.busy given.items }
     {
         for entry in given {
             self.take(entry, held);
@@ -74,6 +81,7 @@ impl Place {
 impl<L: Language> Feed<L> {
     ghost use Rattle.js_ws.specs.Views.{part, has_joined};
     ghost use Rattle.js_ws.specs.Shutdowns.{has_last};
+    ghost use Rattle.js_ws.specs.Statuses.{busy_after};
     ghost use Rattle.jk_core.specs.declared.entry.Entry.{Entry};
 
     /// Takes the next entries that the follower gives, and holds those of the connection at this seat. None are taken where
@@ -82,7 +90,8 @@ impl<L: Language> Feed<L> {
         ensures found { (got : List Entry) × (read_by result.follower ≡ read_by self.follower ++ got)
             × (result.held.items ≡ self.held.items ++ part self.joined got seat self.join)
             × (result.joined ≡ (self.joined || has_joined seat self.join got))
-            × (result.ended ≡ (self.ended || has_last got)) }
+            × (result.ended ≡ (self.ended || has_last got))
+            × (result.busy ≡ busy_after self.busy got) }
         ensures same { result.join ≡ self.join }
     {
         let Feed {
@@ -91,12 +100,14 @@ impl<L: Language> Feed<L> {
             join,
             joined,
             ended,
+            busy,
         } = self;
         let place = Place {
             seat,
             join,
             joined,
             ended,
+            busy,
         };
         let next = read_next(alloc, follower, &mut held);
         let (follower, given) = next;
@@ -107,6 +118,7 @@ impl<L: Language> Feed<L> {
             join,
             joined: place.joined,
             ended: place.ended,
+            busy: place.busy,
         }
     }
 }

@@ -1,6 +1,9 @@
 //! One turn of a channel.
-ghost use Rattle.std.specs.Prelude.{◌≡◌, true, false};
+ghost use Rattle.std.specs.Prelude.{◌≡◌, ◌++◌, true, false, List};
+ghost use Rattle.jk_core.specs.declared.entry.Entry.{Entry};
+ghost use Rattle.jk_board.specs.Ends.{read_by};
 ghost use Rattle.jk_queues.specs.Ends.{seat_inbox};
+ghost use Rattle.js_ws.specs.Statuses.{busy_after};
 ghost use Rattle.js_ws.specs.Turns.{Listened, IsTurn, over};
 
 use crate::channel::{Channel, Turn};
@@ -53,6 +56,8 @@ pub fn channel_turn<R: Wait, S: Read + Write + Drop, L: Language>(
 ) -> (Channel<S, L>, Turn)
     ensures over { over channel ≡ true → result ≡ (channel, Turn.Closed 0) }
     ensures turn { over channel ≡ false → IsTurn S.remaining S.contents date.now channel result.0 result.1 }
+    ensures busy { over channel ≡ false → (got : List Entry) × (read_by result.0.feed.follower ≡ read_by channel.feed.follower ++ got)
+        × (result.0.feed.busy ≡ busy_after channel.feed.busy got) }
 {
     if channel.is_over() {
         return (channel, Turn::Closed(0));

@@ -2,9 +2,10 @@
 ghost use Rattle.std.specs.Prelude.{◌≡◌};
 ghost use Rattle.js_ws.specs.Views as spec;
 ghost use Rattle.js_ws.specs.Shutdowns as last;
+ghost use Rattle.js_ws.specs.Statuses as status;
 
 use jk_core::{Entry, To, Told};
-use jp_msg::{Content, Message, Output, Request, State};
+use jp_msg::{Channel, Content, Message, Output, Request, State};
 
 /// Whether an entry that goes there goes to the seat.
 pub(crate) fn goes_to(to: To, seat: u8) -> bool
@@ -59,4 +60,40 @@ pub(crate) fn is_last(entry: &Entry) -> bool
             Some(parent) => ends_kernel(parent.value()),
             None => false,
         }
+}
+
+/// Whether the message came on the shell.
+fn from_shell(message: &Message) -> bool
+    ensures { result ≡ status.is_shell message.now.channel }
+{
+    match message.channel {
+        Channel::Shell => true,
+        Channel::Control | Channel::Stdin | Channel::Iopub => false,
+    }
+}
+
+/// The state that is told, or the one before.
+fn state_by(before: bool, told: &Told) -> bool
+    ensures { result ≡ status.state_by before told.now }
+{
+    match told {
+        Told::Output(Output::Status(State::Busy)) => true,
+        Told::Output(Output::Status(State::Idle)) => false,
+        _ => before,
+    }
+}
+
+/// Whether the kernel is busy with a request of the shell after an entry, by what was so before it.
+pub(crate) fn busy_with(before: bool, entry: &Entry) -> bool
+    ensures { result ≡ status.busy_with before entry.now }
+{
+    let for_shell = match &entry.parent {
+        Some(parent) => from_shell(parent.value()),
+        None => false,
+    };
+    if for_shell {
+        state_by(before, &entry.content)
+    } else {
+        before
+    }
 }

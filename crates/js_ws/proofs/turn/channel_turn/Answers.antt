@@ -12,6 +12,14 @@ returns-then-is_over-clause-turn g c not = absurd (clash _ (sym c.is_over.ensure
 pub returns-clause-over : goal.returns-clause-over
 returns-clause-over g c is = absurd (clash _ is (sym c.is_over.ensures ∙ c.if-is_over.false))
 
+pub returns-then-is_over-clause-busy : goal.returns-then-is_over-clause-busy
+returns-then-is_over-clause-busy g c not = absurd (clash _ (sym c.is_over.ensures ∙ c.if-is_over.true) not)
+
+pub returns-clause-busy : goal.returns-clause-busy
+returns-clause-busy g c not =
+    let f = c.take-feed.ensures.found in
+    (f.0, f.1, f.5)
+
 pub returns-clause-turn : goal.returns-clause-turn
 returns-clause-turn g c not =
     let l = c.listen-heard.ensures.listened in

@@ -7,4 +7,5 @@ returns-clause-found g c = (
   rw c.read_next-next.ensures.held at c.take_all-place.ensures.held,
   c.take_all-place.ensures.joined,
   c.take_all-place.ensures.ended,
+  c.take_all-place.ensures.busy,
 )
