@@ -1,0 +1,104 @@
+//! A shelf whose device fails at a call.
+ghost use Rattle.std.specs.Prelude.{◌≡◌, None};
+ghost use Rattle.js_shelf.specs.Shelves.{HasCause};
+
+use js_shelf::{Item, MemoryShelf, Names, Shelf, ShelfRefusal};
+use std::alloc::{AllocError, Global};
+
+/// A shelf in memory, behind a device that fails at the call of number `fault`, counted from 1.
+#[derive(Drop)]
+pub(crate) struct Disk {
+    inner: MemoryShelf,
+    calls: u64,
+    fault: u64,
+    failures: u64,
+}
+
+impl Disk {
+    /// Nothing below the root, and a device that doesn't fail.
+    pub(crate) fn new(alloc: Global) -> Result<Disk, AllocError> {
+        Ok(Disk {
+            inner: MemoryShelf::new(alloc)?,
+            calls: 0,
+            fault: 0,
+            failures: 0,
+        })
+    }
+
+    /// The device fails at the call of that number from now on, or at none for 0.
+    pub(crate) fn fail_at(&mut self, fault: u64) {
+        self.calls = 0;
+        self.fault = fault;
+    }
+
+    fn fails(&mut self) -> bool
+        ensures { self.new.failures ≡ self.old.failures }
+    {
+        self.calls = self.calls.saturating_add(1);
+        self.calls == self.fault
+    }
+
+    fn counted<T: Drop>(&mut self, outcome: Result<T, ShelfRefusal>) -> Result<T, ShelfRefusal>
+        ensures { HasCause self.old.failures self.new.failures result }
+    {
+        if let Err(ShelfRefusal::Device) = outcome {
+            self.failures = self.failures.saturating_add(1);
+        }
+        outcome
+    }
+}
+
+impl Shelf for Disk {
+    ghost contents = { λ _. None };
+
+    ghost faults = { λ shelf. shelf.failures };
+
+    fn get(&mut self, path: &str) -> Result<Item, ShelfRefusal> {
+        let outcome = if self.fails() {
+            Err(ShelfRefusal::Device)
+        } else {
+            self.inner.get(path)
+        };
+        self.counted(outcome)
+    }
+
+    fn list(&mut self, path: &str) -> Result<Names, ShelfRefusal> {
+        let outcome = if self.fails() {
+            Err(ShelfRefusal::Device)
+        } else {
+            self.inner.list(path)
+        };
+        self.counted(outcome)
+    }
+
+    fn put(&mut self, path: &str, item: Item) -> Result<(), ShelfRefusal> {
+        let outcome = if self.fails() {
+            Err(ShelfRefusal::Device)
+        } else {
+            self.inner.put(path, item)
+        };
+        self.counted(outcome)
+    }
+
+    fn rename(&mut self, from: &str, to: &str) -> Result<(), ShelfRefusal> {
+        let outcome = if self.fails() {
+            Err(ShelfRefusal::Device)
+        } else {
+            self.inner.rename(from, to)
+        };
+        self.counted(outcome)
+    }
+
+    fn delete(&mut self, path: &str) -> Result<(), ShelfRefusal> {
+        let outcome = if self.fails() {
+            Err(ShelfRefusal::Device)
+        } else {
+            self.inner.delete(path)
+        };
+        self.counted(outcome)
+    }
+
+    fn failures(&self) -> u64 {
+        self.failures
+    }
+}
