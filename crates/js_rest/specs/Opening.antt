@@ -1,5 +1,5 @@
 -- A new session (Jupyter Server REST API): POST /api/sessions.
-use Rattle.std.specs.Prelude.{◌≡◌, ℕ, List, [], map, Option, Some, None, Result, Ok, Err, if◌then◌else◌, codes}
+use Rattle.std.specs.Prelude.{◌≡◌, ℕ, false, List, [], map, Option, Some, None, Result, Ok, Err, if◌then◌else◌, codes}
 use Rattle.serde_json.specs.Data.{Data}
 use Rattle.json_form.specs.Forms.{given, needed, object_of}
 use Rattle.nb_doc.specs.declared.notebook.Notebook.{Notebook}
@@ -92,7 +92,7 @@ recorder_of path n = record { path = path; pages = fresh n }
 
 abbrev pub recording_of : List ℕ → List ℕ → Option Notebook → Option Recording
 recording_of kernel path None = None
-recording_of kernel path (Some n) = Some (record { kernel = kernel; recorder = recorder_of path n })
+recording_of kernel path (Some n) = Some (record { kernel = kernel; recorder = recorder_of path n; due = false })
 
 abbrev pub new_session : Given → Fields → Session
 new_session given f = record { id = second_id given; path = f.path; name = f.name; kind = f.kind }

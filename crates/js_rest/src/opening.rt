@@ -146,6 +146,7 @@ fn recording_of(
             Ok(Some(Recording {
                 kernel,
                 recorder: recorder_of(alloc, path, notebook),
+                due: false,
             }))
         }
     }

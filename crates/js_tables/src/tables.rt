@@ -67,10 +67,12 @@ pub struct Dated {
     pub date: Text,
 }
 
-/// The recorder of a kernel.
+/// The recorder of a kernel's session.
 pub struct Recording {
     pub kernel: Text,
     pub recorder: Recorder,
+    /// Whether it has to be saved: a stored cell has ended, or a notebook was put, since it was saved last.
+    pub due: bool,
 }
 
 impl Drop for Recording {
@@ -78,6 +80,7 @@ impl Drop for Recording {
         let Recording {
             kernel: _,
             recorder: _,
+            due: _,
         } = self;
     }
 }

@@ -3,10 +3,11 @@
 ghost use Rattle.std.specs.Prelude.{◌≡◌, IfOk, string_bytes};
 ghost use Rattle.jp_msg.specs.Writing.{traceback_text};
 ghost use Rattle.nb_record.specs.Book.{is_stored, wish_of, begins, error_of, event_told, event_of};
+ghost use Rattle.nb_record.specs.State as spec;
 ghost use Rattle.nb_record.specs.State.{IsReadableEvent};
 
 use jk_core::{Entry, Told};
-use jp_msg::{Content, Failure, Message, Output as ToldOutput, Request};
+use jp_msg::{Content, Failure, Message, Output as ToldOutput, Request, State};
 use json_form::Text;
 use nb_doc::{Notebook, Output};
 use serde_json::Value;
@@ -74,6 +75,22 @@ fn begun(alloc: Global, request: &Message, source: &Text, count: u64) -> Result<
         source: source.copy()?,
         count,
     })
+}
+
+/// Whether an entry is the idle of an execute request that is stored. Then its cell has ended.
+pub fn ends_stored(entry: &Entry) -> bool
+    ensures { result ≡ spec.ends_stored entry.now }
+{
+    match &entry.parent {
+        None => false,
+        Some(request) => stored(&request.value().content) && is_idle(&entry.content),
+    }
+}
+
+fn is_idle(content: &Told) -> bool
+    ensures { result ≡ spec.is_idle content.now }
+{
+    matches!(content, Told::Output(ToldOutput::Status(State::Idle)))
 }
 
 fn stored(content: &Content) -> bool

@@ -6,6 +6,6 @@ mod event;
 mod pages;
 mod recorder;
 
-pub use event::Event;
+pub use event::{Event, ends_stored};
 pub use pages::Pages;
 pub use recorder::Recorder;

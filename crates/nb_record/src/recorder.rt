@@ -1,6 +1,6 @@
 //! The recorder: a notebook that follows what a kernel shows.
 
-ghost use Rattle.std.specs.Prelude.{◌≡◌, ◌≤◌, [], Ok, OnOk, OnErr};
+ghost use Rattle.std.specs.Prelude.{◌≡◌, ◌≤◌, [], Ok, OnOk, OnErr, take, length};
 ghost use Rattle.serde_json.specs.Data.{depth};
 ghost use Rattle.serde_json.specs.Read.{max_depth};
 ghost use Rattle.js_shelf.specs.Shelves.{Tells, HasCause};
@@ -9,7 +9,7 @@ ghost use Rattle.nb_doc.specs.Documents.{IsDocument, joined_notebook};
 ghost use Rattle.nb_doc.specs.Reading.{notebook_at};
 ghost use Rattle.nb_doc.specs.Writing.{notebook_form, notebook_text};
 ghost use Rattle.nb_record.specs.Book.{Shown, Put};
-ghost use Rattle.nb_record.specs.State.{StandsAt, IsTold, Saves};
+ghost use Rattle.nb_record.specs.State.{StandsAt, IsTold, AreTold, Saves};
 
 use crate::event::{Event, event_in};
 use crate::pages::{Pages, take};
@@ -68,6 +68,13 @@ impl Recorder {
         Recorder { alloc, path, pages }
     }
 
+    /// The path of its file.
+    pub fn path(&self) -> &Text
+        ensures { result.now ≡ self.now.path }
+    {
+        &self.path
+    }
+
     /// The path of its file has changed.
     pub fn moved(&mut self, path: Text)
         ensures { self.new ≡ record self.old { path = path } }
@@ -83,6 +90,20 @@ impl Recorder {
     {
         let event = event_in(self.alloc, entry)?;
         take(self.alloc, &mut self.pages, event)
+    }
+
+    /// Entries were shown. It is told the first of them, as many as there is memory for, and answers how many.
+    pub fn entries(&mut self, entries: &[Entry]) -> usize
+        ensures told { AreTold (take result entries.now) self.old.pages self.new.pages }
+        ensures within { result ≤ length entries.now }
+        ensures path { self.new.path ≡ self.old.path }
+    {
+        for (count, entry) in entries.iter().enumerate() {
+            if self.entry(entry).is_err() {
+                return count;
+            }
+        }
+        entries.len()
     }
 
     /// A notebook was put: a document of 4.5 that nests no deeper than JSON is read, as one that was read is. Where

@@ -1,0 +1,100 @@
+-- What becomes of entries that a kernel showed: its recorder is told them, and saves where a stored cell has ended.
+use Rattle.std.specs.Prelude.{◌≡◌, ◌⊎◌, ◌||◌, ◌&&◌, ℕ, Bool, true, false, List, ◌++◌, Option, Some, None, Result, Ok, Err, slice_get, slice_set, position}
+use Rattle.std.specs.List.{list_any}
+use Rattle.std.specs.Str.{bytes_eq}
+use Rattle.jk_core.specs.declared.entry.Entry.{Entry}
+use Rattle.js_shelf.specs.declared.item.ShelfRefusal.{ShelfRefusal}
+use Rattle.js_shelf.specs.Shelves.{Contents, Tells, HasCause}
+use Rattle.nb_record.specs.State.{AreTold, Saves, ends_stored}
+use Rattle.js_tables.specs.declared.tables.Kernel.{Kernel}
+use Rattle.js_tables.specs.declared.tables.Recording.{Recording}
+use Rattle.js_tables.specs.declared.tables.Session.{Session}
+use Rattle.js_tables.specs.Tables.{Rows, find_kernel, set_date}
+
+-- where the recorder of a kernel stands
+abbrev pub place_of : List ℕ → Rows → Option ℕ
+place_of kernel r = position (λ c. bytes_eq c.kernel kernel) r.recordings
+
+abbrev pub with_recording : ℕ → Recording → Rows → Rows
+with_recording place c r = record r { recordings = slice_set r.recordings place c }
+
+-- whether a recorder of a kernel is still to be saved
+abbrev pub is_due : List ℕ → Rows → Bool
+is_due kernel r = list_any (λ c. c.due && bytes_eq c.kernel kernel) r.recordings
+
+-- ---- the path of a recorder's file: that of its kernel's session
+
+abbrev pub session_path : List ℕ → Option Session → List ℕ
+session_path path None = path
+session_path path (Some s) = s.path
+
+abbrev pub kernel_path : List ℕ → Option Kernel → List ℕ
+kernel_path path None = path
+kernel_path path (Some k) = session_path path k.session
+
+abbrev pub path_of : List Kernel → Recording → List ℕ
+path_of ks c = kernel_path c.recorder.path (find_kernel c.kernel ks)
+
+abbrev pub moved : List ℕ → Recording → Recording
+moved path c = record c { recorder = record c.recorder { path = path } }
+
+-- ---- telling
+
+-- A recorder was told these entries. A save is due where one of them ends a stored cell, and where it was due before.
+pub record HasTold (told : List Entry) (old new : Recording) : Type 0 where
+  pub kernel : new.kernel ≡ old.kernel
+  pub path : new.recorder.path ≡ old.recorder.path
+  pub pages : AreTold told old.recorder.pages new.recorder.pages
+  pub due : new.due ≡ (old.due || list_any ends_stored told)
+
+-- ---- saving
+
+-- a refused save is due still
+abbrev pub saved : Result Unit ShelfRefusal → Recording → Recording
+saved (Ok done) c = record c { due = false }
+saved (Err e) c = c
+
+-- after a save the file has this date
+abbrev pub dated : Result Unit ShelfRefusal → List ℕ → List ℕ → Rows → Rows
+dated (Ok done) path date r = set_date path date r
+dated (Err e) path date r = r
+
+-- of a shelf: what it tells and how often its device failed, before and after
+module _ (c d : Option Contents) (f g : ℕ) where
+  abbrev pub Stays : Type 0
+  Stays = (d ≡ c) × (g ≡ f)
+
+  -- the save of a recorder that has gone to this path
+  abbrev pub SavesTo : List ℕ → Result Unit ShelfRefusal → Recording → Recording → Type 0
+  SavesTo path result x y =
+      (y ≡ saved result (moved path x)) × Tells c d (Saves (moved path x).recorder result) × HasCause f g result
+
+  -- the recorder at a place saves at the path of its session
+  abbrev pub SavesAt : List ℕ → ℕ → Recording → Rows → Rows → Type 0
+  SavesAt date place x r s =
+      (result : Result Unit ShelfRefusal) × (y : Recording) × SavesTo (path_of r.kernels x) result x y
+      × (s ≡ dated result (path_of r.kernels x) date (with_recording place y r))
+
+  -- a save is tried; or there was no memory, and it is due still
+  abbrev pub SavesDue : List ℕ → ℕ → Recording → Rows → Rows → Type 0
+  SavesDue date place x r s = ((s ≡ r) × Stays) ⊎ SavesAt date place x r s
+
+  abbrev pub SavesIf : Bool → List ℕ → ℕ → Recording → Rows → Rows → Type 0
+  SavesIf false date place x r s = (s ≡ r) × Stays
+  SavesIf true date place x r s = SavesDue date place x r s
+
+  -- the entries that were told and those that were not are all that were shown, in order
+  abbrev pub FollowsAt : ℕ → List ℕ → List Entry → List Entry → Rows → Rows → Type 0
+  FollowsAt place date entries rest r s =
+      (told : List Entry) × (told ++ rest ≡ entries)
+      × ((x : Recording) × (y : Recording) × (slice_get r.recordings place ≡ Some x) × HasTold told x y
+      × SavesIf y.due date place y (with_recording place y r) s)
+
+  -- where the kernel has no recorder nothing changes
+  abbrev pub FollowsBy : Option ℕ → List ℕ → List Entry → Option (List Entry) → Rows → Rows → Type 0
+  FollowsBy None date entries result r s = (result ≡ None) × (s ≡ r) × Stays
+  FollowsBy (Some place) date entries result r s =
+      (rest : List Entry) × (result ≡ Some rest) × FollowsAt place date entries rest r s
+
+  abbrev pub Follows : List ℕ → List ℕ → List Entry → Option (List Entry) → Rows → Rows → Type 0
+  Follows kernel date entries result r s = FollowsBy (place_of kernel r) date entries result r s

@@ -1,0 +1,165 @@
+//! What a kernel shows goes into the notebook of its session.
+ghost use Rattle.std.specs.Prelude.{◌≡◌, ◌≤◌, ◌<◌, take, drop, length, position, slice_get, Some, IfOk};
+ghost use Rattle.std.specs.List.{list_any};
+ghost use Rattle.std.specs.Str.{bytes_eq};
+ghost use Rattle.nb_record.specs.State.{ends_stored as is_ending};
+ghost use Rattle.js_follow.specs.Following as spec;
+ghost use Rattle.js_tables.specs.Tables.{rows};
+
+use jk_core::Entry;
+use js_shelf::{Shelf, ShelfRefusal};
+use js_tables::{Kernel, Recording, Tables, Update, find_kernel};
+use json_form::Text;
+use nb_doc::Listed;
+use nb_record::ends_stored;
+use std::alloc::AllocError;
+
+pub(crate) fn place_of(recordings: &[Recording], kernel: &str) -> Option<usize>
+    ensures { result ≡ position (λ c. bytes_eq c.kernel kernel.now) recordings.now }
+{
+    recordings
+        .iter()
+        .position(|recording| recording.kernel.as_str() == kernel)
+}
+
+// ---- telling
+
+// Whether one of the entries ends a stored cell.
+fn end_stored(entries: &[Entry]) -> bool
+    ensures { result ≡ list_any is_ending entries.now }
+{
+    entries.iter().any(|entry| ends_stored(entry))
+}
+
+// Tells a recorder the first of the entries, as many as there is memory for, and answers how many.
+fn tell(recording: &mut Recording, entries: &[Entry]) -> usize
+    ensures told { spec.HasTold (take result entries.now) recording.old recording.new }
+    ensures within { result ≤ length entries.now }
+{
+    let count = recording.recorder.entries(entries);
+    let ended = end_stored(&entries[..count]);
+    recording.due = recording.due || ended;
+    count
+}
+
+// The entries after the first so many.
+fn rest_of(entries: Vec<Entry>, count: usize) -> Listed<Entry>
+    requires { count ≤ length entries.items }
+    ensures { result ≡ drop count entries.items }
+{
+    let mut entries = entries;
+    drop(entries.drain(..count));
+    Listed::new(entries)
+}
+
+// ---- saving
+
+// The path of a recorder's file: that of its kernel's session.
+fn path_of(kernels: &[Kernel], recording: &Recording) -> Result<Text, AllocError>
+    ensures { IfOk result (λ path. path ≡ spec.path_of kernels.now recording.now) }
+{
+    match find_kernel(kernels, recording.kernel.as_str().as_bytes()) {
+        None => recording.recorder.path().copy(),
+        Some(kernel) => match &kernel.session {
+            None => recording.recorder.path().copy(),
+            Some(session) => session.path.copy(),
+        },
+    }
+}
+
+// Saves a recorder that goes to a path. It says whether that is saved; a refused save is due still.
+pub(crate) fn save_to<S: Shelf>(
+    recording: &mut Recording,
+    shelf: &mut S,
+    path: Text,
+) -> Result<(), ShelfRefusal>
+    ensures { spec.SavesTo (S.contents shelf.old) (S.contents shelf.new) (S.faults shelf.old) (S.faults shelf.new) path result recording.old recording.new }
+{
+    recording.recorder.moved(path);
+    recording.recorder.save(shelf)?;
+    recording.due = false;
+    Ok(())
+}
+
+// The path of a recorder's file and a copy of it.
+fn two_paths(kernels: &[Kernel], recording: &Recording) -> Result<(Text, Text), AllocError>
+    ensures { IfOk result (λ paths. (paths.0 ≡ spec.path_of kernels.now recording.now) × (paths.1 ≡ spec.path_of kernels.now recording.now)) }
+{
+    let path = path_of(kernels, recording)?;
+    let copy = path.copy()?;
+    Ok((path, copy))
+}
+
+// Saves the recorder at a place. Where there is no memory, that is due still.
+fn save_at<S: Shelf>(tables: &mut Tables, shelf: &mut S, date: &Text, place: usize)
+    requires { place < length (rows tables.old).recordings }
+    ensures { (x : Recording) → slice_get (rows tables.old).recordings place ≡ Some x
+        → spec.SavesDue (S.contents shelf.old) (S.contents shelf.new) (S.faults shelf.old) (S.faults shelf.new) date.now place x (rows tables.old) (rows tables.new) }
+{
+    if tables.make_room().is_err() {
+        return;
+    }
+    let Ok((path, file)) = two_paths(&tables.kernels, &tables.recordings[place]) else {
+        return;
+    };
+    let Ok(date) = date.copy() else {
+        return;
+    };
+    if save_to(&mut tables.recordings[place], shelf, path).is_ok() {
+        tables.update(Update::SetDate(file, date));
+    }
+}
+
+// Saves the recorder at a place where that is due. Where there is no memory, it is due still.
+fn save_if_due<S: Shelf>(tables: &mut Tables, shelf: &mut S, date: &Text, place: usize)
+    requires { place < length (rows tables.old).recordings }
+    ensures { (x : Recording) → slice_get (rows tables.old).recordings place ≡ Some x
+        → spec.SavesIf (S.contents shelf.old) (S.contents shelf.new) (S.faults shelf.old) (S.faults shelf.new) x.due date.now place x (rows tables.old) (rows tables.new) }
+{
+    if tables.recordings[place].due {
+        save_at(tables, shelf, date, place);
+    }
+}
+
+// Tells the recorder at a place entries, and saves it where that is due. It answers the entries that were not told.
+fn follow_at<S: Shelf>(
+    tables: &mut Tables,
+    shelf: &mut S,
+    date: &Text,
+    place: usize,
+    entries: Vec<Entry>,
+) -> Listed<Entry>
+    requires { place < length (rows tables.old).recordings }
+    ensures { spec.FollowsAt (S.contents shelf.old) (S.contents shelf.new) (S.faults shelf.old) (S.faults shelf.new) place date.now entries.items result (rows tables.old) (rows tables.new) }
+{
+    let count = tell(&mut tables.recordings[place], entries.as_slice());
+    save_if_due(tables, shelf, date, place);
+    rest_of(entries, count)
+}
+
+/// Tells the recorder of a kernel what the kernel showed, in order, and saves it where a stored cell has ended or a save was
+/// refused before. After a save the file has this date.
+///
+/// It answers the last of the entries, which the recorder was not told since memory was refused. There is no answer where the
+/// kernel has no recorder.
+pub fn follow<S: Shelf>(
+    tables: &mut Tables,
+    shelf: &mut S,
+    date: &Text,
+    kernel: &str,
+    entries: Vec<Entry>,
+) -> Option<Listed<Entry>>
+    ensures { spec.Follows (S.contents shelf.old) (S.contents shelf.new) (S.faults shelf.old) (S.faults shelf.new) kernel.now date.now entries.items result (rows tables.old) (rows tables.new) }
+{
+    match place_of(&tables.recordings, kernel) {
+        None => None,
+        Some(place) => Some(follow_at(tables, shelf, date, place, entries)),
+    }
+}
+
+/// Whether a recorder of a kernel is still to be saved.
+pub fn is_due(tables: &Tables, kernel: &str) -> bool
+    ensures { result ≡ spec.is_due kernel.now (rows tables.now) }
+{
+    tables.recordings.iter().any(|recording| recording.due && recording.kernel.as_str() == kernel)
+}

@@ -1,0 +1,8 @@
+//! The recorders of sessions: what kernels show goes into the notebooks of their sessions.
+#![tactic(auto)]
+
+mod following;
+mod putting;
+
+pub use following::{follow, is_due};
+pub use putting::{Booked, book_for, file_put, put_booked};
