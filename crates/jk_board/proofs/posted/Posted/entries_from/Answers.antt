@@ -1,4 +1,4 @@
-use Rattle.std.proofs.Common.{◌-◌, length, ap, ◌∙◌}
+use Rattle.std.proofs.Common.{◌-◌, ap, ◌∙◌}
 use Rattle.jk_board.specs.Levels.{of_newest, of_older, of_oldest}
 use Rattle.jk_board.proofs.Lists.{three_windows}
 use Rattle.jk_board.proofs.posted.Posted.entries_from.Goals as goal
