@@ -21,11 +21,13 @@ use Rattle.jk_board.proofs.Crossing.{follower_send}
 use Rattle.jk_board.specs.contracts.board.Followers as Followers
 use Rattle.jk_core.proofs.job.ParsedCell.TheSendSync as parsed
 use Rattle.jk_core.specs.contracts.job.ParsedCell as ParsedCell
+use Rattle.jk_core.proofs.Crossing.{entry_send}
 use Rattle.jk_queues.proofs.pool.WorkerEnd.TheSendSync as end
 use Rattle.jk_queues.specs.contracts.inbox.Seats as Seats
 use Rattle.jk_queues.specs.contracts.pool.WorkerEnd as WorkerEnd
 use Rattle.js_serve.specs.contracts.call.Call as Call
 use Rattle.js_serve.specs.contracts.call.Place as Place
+use Rattle.js_serve.specs.contracts.call.Reading as Reading
 use Rattle.js_serve.specs.contracts.call.Reply as Reply
 use Rattle.js_serve.specs.contracts.driving.Opened as Opened
 use Rattle.js_serve.specs.contracts.driving.Opening as Opening
@@ -49,8 +51,20 @@ place_send L S T M g = declared_send (Place.the_type L S T M g) (text.the_send, 
 reply_send : (L S T M : RattleType) (g : language.Ghosts L.Denot S.Denot T.Denot M.Denot) → IsSend (Reply.the_row L S T M g)
 reply_send L S T M g = variants_send (Reply.enum L S T M g) ((response.the_send, tt), ((response.the_send, (place_send L S T M g, (names.the_send, tt))), tt))
 
+reading_send : (L S T M : RattleType) (g : language.Ghosts L.Denot S.Denot T.Denot M.Denot) → IsSend (Reading.the_row L S T M g)
+reading_send L S T M g = declared_send (Reading.the_type L S T M g) (text.the_send, (follower_send L S T M g, (Vec-send _ entry_send, search (crosses, sendable) depth 60 fits 20000)))
+
 call_send : (L S T M : RattleType) (g : language.Ghosts L.Denot S.Denot T.Denot M.Denot) → IsSend (Call.the_row L S T M g)
-call_send L S T M g = variants_send (Call.enum L S T M g) ((tcp_send, tt), ((request.the_send, (sender_send (Reply.the_row L S T M g) (reply_send L S T M g), tt)), ((place_send L S T M g, tt), tt)))
+call_send L S T M g = variants_send (Call.enum L S T M g) (
+  (tcp_send, tt),
+  (
+    (request.the_send, (sender_send (Reply.the_row L S T M g) (reply_send L S T M g), tt)),
+    (
+      (place_send L S T M g, tt),
+      ((text.the_send, (sender_send (Reading.the_row L S T M g) (reading_send L S T M g), tt)), ((reading_send L S T M g, (sender_send (Reading.the_row L S T M g) (reading_send L S T M g), tt)), ((reading_send L S T M g, tt), tt))),
+    ),
+  ),
+)
 
 seats_send : IsSend Seats.the_row
 seats_send = declared_send Seats.the_type (seat_send, (seat_send, (seat_send, (seat_send, (seat_send, (seat_send, (seat_send, (seat_send, tt))))))))
@@ -76,6 +90,6 @@ job_send L S T M g tree =
       (listener_send, (calls, tt)),
       (
         (tcp_send, (calls, tt)),
-        ((opening_send L S T M g tree, tt), ((worker_send L S T M g tree, tt), tt)),
+        ((opening_send L S T M g tree, tt), ((worker_send L S T M g tree, tt), ((text.the_send, (calls, tt)), tt))),
       ),
     )

@@ -1,16 +1,17 @@
 //! The desk: the one thread that has the tables, the kernels and the files, and answers requests one after the other.
 
-use crate::call::{Call, Place, Reply};
+use crate::call::{Call, Place, Reading, Reply};
 use crate::clock::{date_now, given_now};
 use crate::driving::Opened;
 use crate::job::Job;
 use crate::kernels::{Kernels, Unopened};
 use crossbeam_channel::{Receiver, Sender, unbounded};
 use jk_language::Language;
-use js_http::{ErrorStatus, Request, Response};
+use js_follow::{file_put, follow, is_due};
+use js_http::{ErrorStatus, Method, Request, Response};
 use js_rest::{Manager, Running};
 use js_shelf::Shelf;
-use js_tables::{Answer, Given, Update};
+use js_tables::{Answer, Given, Kernel, Tables, Update};
 use js_ws::{Names, handshake};
 use json_form::Text;
 use std::alloc::Global;
@@ -19,7 +20,7 @@ use std::random::RandomSource;
 use std::sync::Wait;
 use std::time::Clock;
 
-/// How many jobs may wait: the parsers of one kernel.
+/// How many jobs may wait with no memory for more: the parsers of one kernel, and the thread of its recorder.
 const ROOM: usize = 4;
 
 /// A kernel whose thread was given out, and the reply that waits for its ends.
@@ -100,6 +101,18 @@ where
                 self.take_back(place);
                 None
             }
+            Call::Reads(kernel, reply) => {
+                self.lend_reading(kernel, reply);
+                None
+            }
+            Call::Shown(reading, reply) => {
+                self.record(reading, reply);
+                None
+            }
+            Call::Read(reading) => {
+                self.end_reading(reading);
+                None
+            }
         }
     }
 
@@ -108,6 +121,109 @@ where
         self.manager.running.follow();
         self.manager.running.give_place(place);
         self.manager.running.drop_left();
+    }
+
+    /// Lends what is to be read for a recorder, where nobody has it.
+    fn lend_reading(&mut self, kernel: Text, reply: Sender<Reading<L>>) {
+        if let Some(reading) = self.manager.running.take_reading(kernel) {
+            let _ = reply.send(&self.rt, reading);
+        }
+    }
+
+    /// Lets a kernel's recorder follow what was read, and replies what is left. There is no reply where the recorder is gone.
+    fn record(&mut self, reading: Reading<L>, reply: Sender<Reading<L>>) {
+        let Some(date) = date_now(&self.rt, self.alloc) else {
+            let _ = reply.send(&self.rt, reading);
+            return;
+        };
+        let Reading {
+            kernel,
+            follower,
+            entries,
+            due: _,
+            ended,
+        } = reading;
+        let tables = &mut self.manager.tables;
+        match follow(tables, &mut self.shelf, &date, kernel.as_str(), entries) {
+            Some(rest) => {
+                let left = Reading {
+                    due: is_due(&self.manager.tables, kernel.as_str()),
+                    kernel,
+                    follower,
+                    entries: rest.into_vec(),
+                    ended,
+                };
+                let _ = reply.send(&self.rt, left);
+            }
+            None => self.forget_reading(kernel.as_str()),
+        }
+    }
+
+    /// The thread of a recorder has ended.
+    fn end_reading(&mut self, reading: Reading<L>) {
+        self.forget_reading(reading.kernel.as_str());
+    }
+
+    fn forget_reading(&mut self, kernel: &str) {
+        self.manager.running.give_reading(kernel);
+        self.manager.running.follow();
+        self.manager.running.drop_left();
+    }
+
+    /// Gives the recorder of a session whose file was put at this moment the notebook that was put. Where that can't be had the
+    /// recorder goes, so that it does not write over the file.
+    fn tell_put(&mut self, date: &Text) {
+        if let Some(place) = put_place(&self.manager.tables, date) {
+            if self.give_put(place).is_none() {
+                self.stop_recorder(place);
+            }
+        }
+    }
+
+    /// Gives the recorder of the kernel in a row the notebook at its session's path. There is nothing where memory is refused,
+    /// or the file can't be read.
+    fn give_put(&mut self, place: usize) -> Option<()> {
+        let session = self.manager.tables.kernels.get(place)?.session.as_ref()?;
+        let path = session.path.copy().ok()?;
+        let item = self.shelf.get(path.as_str()).ok()?;
+        let tables = &mut self.manager.tables;
+        file_put(self.alloc, tables, &mut self.shelf, path, item).ok()
+    }
+
+    /// Drops the recorder of the kernel in a row.
+    fn stop_recorder(&mut self, place: usize) {
+        let tables = &mut self.manager.tables;
+        if let Some(kernel) = tables.kernels.get(place) {
+            let id = kernel.id.as_str();
+            tables
+                .recordings
+                .retain(|recording| recording.kernel.as_str() != id);
+        }
+    }
+
+    /// Lets each recorder that nobody reads for skip what was shown before, and adds the job of its thread.
+    fn start_recorders(&mut self) {
+        for place in 0..self.manager.tables.recordings.len() {
+            if let Some(job) = self.recorder_job(place) {
+                let _ = self.jobs.push(job);
+            }
+        }
+    }
+
+    /// The identifier of the kernel of a recorder.
+    fn recorded_kernel(&self, place: usize) -> Option<Text> {
+        let recording = self.manager.tables.recordings.get(place)?;
+        recording.kernel.copy().ok()
+    }
+
+    /// The job of the thread of a recorder, where nobody reads for it.
+    fn recorder_job(&mut self, place: usize) -> Option<Job<L>> {
+        let kernel = self.recorded_kernel(place)?;
+        if !self.manager.running.skip(kernel.as_str()) {
+            return None;
+        }
+        let calls = self.sender.clone().ok()?;
+        Some(Job::Record(kernel, calls))
     }
 
     /// Replies to a request, after a look at what the kernels have published. Where it made a kernel, the answer is the job of
@@ -121,6 +237,10 @@ where
         let answer = self
             .manager
             .answer(self.alloc, &mut self.shelf, &given, request);
+        if matches!(request.method, Method::Put) {
+            self.tell_put(&given.date);
+        }
+        self.start_recorders();
         match answer {
             Answer::Reply(response) => self.respond(response, reply),
             Answer::Channels(id) => {
@@ -163,6 +283,7 @@ where
             reply,
         } = awaited;
         let answer = if self.take_opened(&opened) {
+            self.start_recorders();
             Reply::Response(response)
         } else {
             refused(ErrorStatus::InternalServerError)
@@ -252,6 +373,24 @@ where
             }
             None => refused(ErrorStatus::ServiceUnavailable),
         }
+    }
+}
+
+/// The row of the kernel whose session's file was put at this moment.
+fn put_place(tables: &Tables, date: &Text) -> Option<usize> {
+    for (place, kernel) in tables.kernels.iter().enumerate() {
+        if is_put(tables, kernel, date) {
+            return Some(place);
+        }
+    }
+    None
+}
+
+/// Whether the file of a kernel's session was put at this moment.
+fn is_put(tables: &Tables, kernel: &Kernel, date: &Text) -> bool {
+    match &kernel.session {
+        Some(session) => tables.date_of(session.path.as_str()) == date.as_str(),
+        None => false,
     }
 }
 

@@ -1,7 +1,7 @@
 //! The kernels that run, as the desk holds them.
 ghost use Rattle.std.specs.Prelude.{◌≡◌, ◌++◌, ◌∷◌, [], OnOk, OnErr};
 
-use crate::call::Place;
+use crate::call::{Place, Reading};
 use crate::driving::{Opened, Opening};
 use crate::watch::Watch;
 use crossbeam_channel::{Receiver, bounded};
@@ -47,6 +47,12 @@ struct Ends<L: Language> {
     free: Vec<Free<L>>,
     /// How many seats are lent.
     lent: u64,
+    /// The follower for a recorder of the session, where it is not lent.
+    recorder: Option<Follower<L>>,
+    /// Whether that follower has read all that was shown before there was a recorder.
+    skipped: bool,
+    /// Whether that follower is lent.
+    recording: bool,
     /// Set once nobody follows the kernel any more.
     left: Arc<AtomicBool, Global>,
 }
@@ -112,6 +118,25 @@ fn free_of<L: Language>(
     Ok(free)
 }
 
+/// How many entries are read at once.
+const ENTRIES: usize = 64;
+
+/// Reads on until a read finds nothing, or memory is refused. It says whether nothing is left.
+fn skip_all<L: Language>(alloc: Global, follower: Follower<L>) -> (Follower<L>, bool) {
+    let mut follower = follower;
+    for _ in 0..u64::MAX {
+        let (same, found) = follower.read(alloc, ENTRIES);
+        follower = same;
+        match found {
+            Ok(entries) => if entries.is_empty() {
+                return (follower, true);
+            },
+            Err(_) => return (follower, false),
+        }
+    }
+    (follower, false)
+}
+
 impl<L: Language> Ends<L> {
     /// Nothing came of the kernel yet.
     fn new(alloc: Global, left: Arc<AtomicBool, Global>) -> Ends<L> {
@@ -121,6 +146,9 @@ impl<L: Language> Ends<L> {
             found: false,
             free: Vec::new(alloc),
             lent: 0,
+            recorder: None,
+            skipped: false,
+            recording: false,
             left,
         }
     }
@@ -151,7 +179,7 @@ impl<L: Language> Ends<L> {
             five: fifth,
             six: sixth,
             seven: seventh,
-            recorder: _,
+            recorder,
         } = followers;
         self.free = free_of(
             alloc,
@@ -160,6 +188,7 @@ impl<L: Language> Ends<L> {
         )?;
         self.zero = Some(zero);
         self.watch = Some(Watch::new(watch));
+        self.recorder = Some(recorder);
         Ok(())
     }
 
@@ -190,9 +219,35 @@ impl<L: Language> Ends<L> {
         }
     }
 
-    /// Whether the kernel was shut down and no seat of it is lent.
+    /// Whether the kernel was shut down, and neither a seat of it nor the follower for a recorder is lent.
     fn is_left(&self) -> bool {
-        self.has_ended() && self.lent == 0
+        self.has_ended() && self.lent == 0 && !self.recording
+    }
+
+    /// Reads what was shown before there was a recorder, until a read finds nothing. It says whether the follower for the
+    /// recorder may be lent then.
+    fn skip(&mut self, alloc: Global) -> bool {
+        let Some(follower) = self.recorder.take() else {
+            return false;
+        };
+        if self.skipped {
+            self.recorder = Some(follower);
+            return true;
+        }
+        let (follower, skipped) = skip_all(alloc, follower);
+        self.recorder = Some(follower);
+        self.skipped = skipped;
+        skipped
+    }
+
+    /// Lends the follower for a recorder.
+    fn lend_recorder(&mut self) -> Option<Follower<L>> {
+        if !self.skipped {
+            return None;
+        }
+        let follower = self.recorder.take()?;
+        self.recording = true;
+        Some(follower)
     }
 
     /// Lends a seat.
@@ -345,6 +400,35 @@ impl<R: Wait + Drop, L: Language> Kernels<R, L> {
         } = place;
         if let Some(ends) = self.ends_of(kernel.as_str()) {
             ends.take_back(Free { seat, follower });
+        }
+    }
+
+    /// Skips, for the recorder of a kernel, what was shown before. It says whether the recorder's follower may be lent.
+    pub(crate) fn skip(&mut self, id: &str) -> bool {
+        let alloc = self.alloc;
+        match self.ends_of(id) {
+            Some(ends) => ends.skip(alloc),
+            None => false,
+        }
+    }
+
+    /// Lends the follower for the recorder of a kernel. There is none where it is lent already.
+    pub(crate) fn take_reading(&mut self, kernel: Text) -> Option<Reading<L>> {
+        let alloc = self.alloc;
+        let follower = self.ends_of(kernel.as_str())?.lend_recorder()?;
+        Some(Reading {
+            kernel,
+            follower,
+            entries: Vec::new(alloc),
+            due: false,
+            ended: false,
+        })
+    }
+
+    /// Takes the follower for a recorder back. It is not lent again, since its kernel or its recorder has ended.
+    pub(crate) fn give_reading(&mut self, kernel: &str) {
+        if let Some(ends) = self.ends_of(kernel) {
+            ends.recording = false;
         }
     }
 

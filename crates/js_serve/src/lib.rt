@@ -10,9 +10,10 @@ mod driving;
 mod job;
 mod kernels;
 mod paced;
+mod recording;
 mod watch;
 
-pub use call::{Call, Place, Reply};
+pub use call::{Call, Place, Reading, Reply};
 pub use desk::Desk;
 pub use driving::{Opened, Opening};
 pub use job::{Job, Open, work};
