@@ -20,12 +20,12 @@ const LONGEST: u64 = 2_000;
 const PART: u64 = 32;
 
 /// How many milliseconds any other read waits.
-const LONG_WAIT: u64 = 50;
+const LONG_WAIT: u64 = 20;
 
 /// A stream whose reads end by a time limit.
 ///
 /// A short read asks for what is there, and sleeps where that is nothing: for 50 microseconds at first, and longer the longer
-/// nothing was read or written, up to 2 milliseconds. A long read waits 50 milliseconds, and ends at once where something comes.
+/// nothing was read or written, up to 2 milliseconds. A long read waits 20 milliseconds, and ends at once where something comes.
 /// Reads are short while the kernel is busy, and for some 50 milliseconds after something was read or written. The system's own
 /// limits are no finer than its clock's ticks.
 #[derive(Drop)]
