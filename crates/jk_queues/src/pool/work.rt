@@ -5,14 +5,14 @@ ghost use Rattle.jk_queues.specs.Work.{IsRound, HasWorked};
 
 use super::WorkerEnd;
 use crate::line::{AlsoGets, AlsoPuts};
+use crate::pauses::Pauses;
 use crate::stop::Looks;
-use crossbeam_utils::Backoff;
 use jk_core::{Job, ParsedCell};
 use jk_language::Language;
 use std::alloc::Global;
 use std::sync::Wait;
 use std::thread;
-use std::time::{Clock, Duration};
+use std::time::Clock;
 
 /// What a worker passes before and after each job.
 pub trait Gate {
@@ -99,17 +99,8 @@ impl<L: Language> WorkerEnd<ParsedCell<L>> {
     }
 }
 
-/// Waits a little, and a millisecond where there was no job for some rounds.
-fn pause<R: Clock>(rt: &R, backoff: &Backoff) {
-    if backoff.is_completed() {
-        thread::sleep(rt, Duration::from_millis(1));
-    } else {
-        backoff.snooze();
-    }
-}
-
 /// Reads the texts of jobs until it finds the pool stopped. Each job that it takes has its result handed in, but for one that was
-/// in hand where the pool was found stopped. While there is no job it sleeps a millisecond at a time.
+/// in hand where the pool was found stopped. While there is no job it pauses, the longer the longer that has been so.
 pub fn worker<L: Language, R: Wait + Clock, G: Gate>(
     rt: &R,
     alloc: Global,
@@ -118,12 +109,12 @@ pub fn worker<L: Language, R: Wait + Clock, G: Gate>(
 ) -> WorkerEnd<ParsedCell<L>>
     ensures { HasWorked end result }
 {
-    let backoff = Backoff::new();
+    let mut pauses = Pauses::new();
     let mut end = end;
     for _ in rt.forever() {
         match end.round(rt, alloc, gate) {
-            Round::Worked => backoff.reset(),
-            Round::Idle => pause(rt, &backoff),
+            Round::Worked => pauses.pause_unless(rt, true),
+            Round::Idle => pauses.pause_unless(rt, false),
             Round::Stopped => return end,
         }
     }
