@@ -4,7 +4,7 @@
 pub mod inbox;
 pub mod line;
 pub mod part;
-mod pauses;
+pub mod pauses;
 pub mod pool;
 pub mod rule;
 pub mod stop;

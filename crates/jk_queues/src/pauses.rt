@@ -17,7 +17,7 @@ const PART: u64 = 256;
 /// The pauses of one thread. After something was found a few of them only let other threads run. Those that follow are sleeps,
 /// which grow with what was slept since: a thread that has waited for long looks seldom.
 #[derive(Drop)]
-pub(crate) struct Pauses {
+pub struct Pauses {
     backoff: Backoff,
     /// How many microseconds were slept since something was found.
     slept: u64,
@@ -25,7 +25,7 @@ pub(crate) struct Pauses {
 
 impl Pauses {
     /// Something was just found.
-    pub(crate) fn new() -> Pauses
+    pub fn new() -> Pauses
         ensures { result.slept ≡ 0 }
     {
         Pauses {
@@ -35,7 +35,7 @@ impl Pauses {
     }
 
     /// Pauses, unless something was found.
-    pub(crate) fn pause_unless<R: Clock>(&mut self, rt: &R, found: bool)
+    pub fn pause_unless<R: Clock>(&mut self, rt: &R, found: bool)
         ensures short { found ≡ true → self.new.slept ≡ 0 }
         ensures longer { found ≡ false → self.old.slept ≤ self.new.slept }
     {

@@ -7,7 +7,6 @@ mod board;
 mod driver;
 mod jobs;
 mod law;
-mod pauses;
 mod round;
 mod running;
 

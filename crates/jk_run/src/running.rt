@@ -6,10 +6,10 @@ ghost use Rattle.jk_queues.specs.Pool.{has_stopped};
 ghost use Rattle.jk_run.specs.Driver.{HasDriven};
 
 use crate::driver::Driver;
-use crate::pauses::Pauses;
 use crate::round::round;
 use jk_core::Work;
 use jk_language::Language;
+use jk_queues::pauses::Pauses;
 use std::sync::Wait;
 use std::time::Clock;
 
