@@ -5,4 +5,6 @@
 mod client;
 pub mod crew;
 #[cfg(test)]
+mod notebooks;
+#[cfg(test)]
 mod screens;
