@@ -1,13 +1,11 @@
-ghost use Rattle.std.specs.Prelude.{◌≡◌, None};
-ghost use Rattle.js_shelf.specs.Shelves.{HasCause};
-
-use js_shelf::{Bytes, FileShelf, Item, MemoryShelf, Names, Shelf, ShelfRefusal, is_path};
+use js_shelf::{Bytes, FileShelf, Item, MemoryShelf, Shelf, ShelfRefusal, is_path};
 use std::alloc::Global;
 use std::fs;
 use std::fs::OpenFile;
 use std::os::unix::fs::symlink;
 use std::process::Abort;
 use std::test::Fail;
+use test_shelf::FailingShelf;
 
 fn file(alloc: Global, text: &[u8]) -> Result<Item, Fail> {
     Ok(Item::File(Bytes::from(Vec::from_slice(alloc, text)?)))
@@ -184,88 +182,6 @@ fn paths(rt: HostRuntime) -> Result<(), Fail> {
     Ok(())
 }
 
-/// A shelf whose device fails at one call, counted from 1.
-#[derive(Drop)]
-struct FailingShelf {
-    inner: MemoryShelf,
-    calls: u64,
-    fault: u64,
-    failures: u64,
-}
-
-impl FailingShelf {
-    fn fails(&mut self) -> bool
-        ensures { self.new.failures ≡ self.old.failures }
-    {
-        self.calls = self.calls.saturating_add(1);
-        self.calls == self.fault
-    }
-
-    fn counted<T: Drop>(&mut self, outcome: Result<T, ShelfRefusal>) -> Result<T, ShelfRefusal>
-        ensures { HasCause self.old.failures self.new.failures result }
-    {
-        if let Err(ShelfRefusal::Device) = outcome {
-            self.failures = self.failures.saturating_add(1);
-        }
-        outcome
-    }
-}
-
-impl Shelf for FailingShelf {
-    ghost contents = { λ _. None };
-
-    ghost faults = { λ shelf. shelf.failures };
-
-    fn get(&mut self, path: &str) -> Result<Item, ShelfRefusal> {
-        let outcome = if self.fails() {
-            Err(ShelfRefusal::Device)
-        } else {
-            self.inner.get(path)
-        };
-        self.counted(outcome)
-    }
-
-    fn list(&mut self, path: &str) -> Result<Names, ShelfRefusal> {
-        let outcome = if self.fails() {
-            Err(ShelfRefusal::Device)
-        } else {
-            self.inner.list(path)
-        };
-        self.counted(outcome)
-    }
-
-    fn put(&mut self, path: &str, item: Item) -> Result<(), ShelfRefusal> {
-        let outcome = if self.fails() {
-            Err(ShelfRefusal::Device)
-        } else {
-            self.inner.put(path, item)
-        };
-        self.counted(outcome)
-    }
-
-    fn rename(&mut self, from: &str, to: &str) -> Result<(), ShelfRefusal> {
-        let outcome = if self.fails() {
-            Err(ShelfRefusal::Device)
-        } else {
-            self.inner.rename(from, to)
-        };
-        self.counted(outcome)
-    }
-
-    fn delete(&mut self, path: &str) -> Result<(), ShelfRefusal> {
-        let outcome = if self.fails() {
-            Err(ShelfRefusal::Device)
-        } else {
-            self.inner.delete(path)
-        };
-        self.counted(outcome)
-    }
-
-    fn failures(&self) -> u64 {
-        self.failures
-    }
-}
-
 // One of each call, as far as the first refusal.
 fn one_of_each(alloc: Global, shelf: &mut impl Shelf) -> Result<(), ShelfRefusal> {
     shelf.put("a", Item::Folder)?;
@@ -282,12 +198,8 @@ fn one_of_each(alloc: Global, shelf: &mut impl Shelf) -> Result<(), ShelfRefusal
 #[test]
 fn a_device_that_fails_at_each_call(rt: HostRuntime) -> Result<(), Fail> {
     for fault in 1..9 {
-        let mut shelf = FailingShelf {
-            inner: MemoryShelf::new(rt.alloc())?,
-            calls: 0,
-            fault,
-            failures: 0,
-        };
+        let mut shelf = FailingShelf::new(rt.alloc())?;
+        shelf.fail_at(fault);
         let result = one_of_each(rt.alloc(), &mut shelf);
         if fault <= 6 {
             assert_eq!(rt; result, Err(ShelfRefusal::Device));

@@ -1,4 +1,4 @@
--- A follower may go to another thread, whatever the language.
+-- A follower may go to another thread, and so may news, whatever the language.
 use denote.Param.Send.{IsSend, IsSync, sendable}
 use denote.RattleType.{RattleType}
 use Rattle.std.proofs.Crossing.{crosses}
@@ -9,6 +9,7 @@ use Rattle.jk_board.proofs.posted.Row.TheSendSync as row
 use Rattle.jk_board.specs.contracts.posted.Publication as Publication
 use Rattle.jk_board.specs.contracts.posted.Posted as Posted
 use Rattle.jk_board.specs.contracts.follower.Follower as Follower
+use Rattle.jk_board.specs.contracts.news.News as News
 
 publication_send : IsSend Publication.the_row
 publication_send = search (entry_send, entry_sync, crosses, sendable) depth 60 fits 20000
@@ -21,3 +22,6 @@ posted_sync = search (publication_send, publication_sync, row.the_send, row.the_
 
 pub follower_send : (L S T M : RattleType) (g : language.Ghosts L.Denot S.Denot T.Denot M.Denot) → IsSend (Follower.the_row L S T M g)
 follower_send L S T M g = search (posted_sync, reader.the_field_send, crosses, sendable) depth 60 fits 20000
+
+pub news_send : (L S T M : RattleType) (g : language.Ghosts L.Denot S.Denot T.Denot M.Denot) → IsSend (News.the_row L S T M g)
+news_send L S T M g = search (posted_sync, reader.the_field_send, crosses, sendable) depth 60 fits 20000

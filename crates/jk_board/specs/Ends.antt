@@ -6,6 +6,7 @@ use Rattle.left_right.specs.Sides.{view}
 use Rattle.jk_board.specs.Posted.{all_of}
 use Rattle.jk_board.specs.declared.publisher.Publisher.{Publisher}
 use Rattle.jk_board.specs.declared.follower.Follower.{Follower}
+use Rattle.jk_board.specs.declared.news.News.{News}
 use Rattle.jk_board.specs.declared.board.Followers.{Followers}
 
 module _ {L S T M : Type 0} where
@@ -29,6 +30,10 @@ module _ {L S T M : Type 0} where
   -- all that this follower has read, in order
   abbrev pub read_by : Follower L S T M → List Entry
   read_by f = take f.place (found_by f)
+
+  -- what the news tells of
+  abbrev pub news_of : News L S T M → List Entry
+  news_of n = (view n.reader.place).seen
 
   -- it follows this board, and has read nothing
   abbrev pub IsNewFollower : TableId → Follower L S T M → Type 0

@@ -12,6 +12,7 @@ use left_right::writer::Writer;
 use std::alloc::AllocError;
 
 mod steps;
+mod telling;
 
 /// What takes the place of all that was posted.
 #[derive(Drop)]

@@ -1,4 +1,4 @@
-use ob_base::{Boxed, Items, Text};
+use ob_base::{Items, Shared, SharedItems, Text};
 use ob_types::{
     Basic, Constant, Exported, Field, Formal, FormalKind, Interface, ObType, Object, RecordName,
     RecordType, Signature, assignable, interface_text, is_admitted, levels, same,
@@ -16,11 +16,11 @@ fn integer() -> ObType {
 }
 
 fn array(alloc: Global, length: u32, element: ObType) -> Result<ObType, AllocError> {
-    Ok(ObType::Array(length, Boxed::new(alloc, element)?))
+    Ok(ObType::Array(length, Shared::new(alloc, element)?))
 }
 
 fn open(alloc: Global, element: ObType) -> Result<ObType, AllocError> {
-    Ok(ObType::Open(Boxed::new(alloc, element)?))
+    Ok(ObType::Open(Shared::new(alloc, element)?))
 }
 
 fn field(alloc: Global, name: &[u8], exported: bool, of: ObType) -> Result<Field, AllocError> {
@@ -44,6 +44,8 @@ fn record(
         declared: text(alloc, b"T")?,
         before,
     };
+    let name = Shared::new(alloc, name)?;
+    let fields = SharedItems::new(alloc, fields)?;
     Ok(ObType::Record(RecordType { name, fields }))
 }
 

@@ -1,6 +1,6 @@
 use ob_code::checked::validate;
 use ob_code::instr::{
-    CodeModule, Entries, Entry, Extent, Instr, Line, LinkedModule, Procedure, Root, Target,
+    CodeModule, Entries, Entry, Extent, Instr, Length, Line, LinkedModule, Procedure, Root, Target,
 };
 use ob_code::linked::are_linked;
 use ob_mean::{Adjustment, Callee, Operator, Relation};
@@ -68,7 +68,7 @@ fn is_code(alloc: Global, first: Procedure, body: Procedure) -> Result<bool, All
         exported: vec![in alloc; 0usize]?,
         imports: vec![in alloc; known]?,
     };
-    Ok(validate(code).is_some())
+    Ok(validate(alloc, code)?.is_some())
 }
 
 // These lines as a body
@@ -113,6 +113,49 @@ fn objects(rt: HostRuntime) -> Result<(), Fail> {
     assert!(rt; !counting(alloc, Root::OfImport(1, Extent { from: 0, cells: 1 }), 4, 7)?);
     assert!(rt; !counting(alloc, Root::OfCall(Extent { from: 0, cells: 1 }), 4, 7)?);
     assert!(rt; !counting(alloc, Root::Named(0), 4, 7)?);
+    Ok(())
+}
+
+// This place in an object of three cells is read.
+fn reading_at(alloc: Global, at: Vec<Line>) -> Result<bool, AllocError> {
+    let mut lines = at;
+    lines.push(line(1, 0, Instr::LoadAt(cells(0, 3))))?;
+    lines.push(line(1, 0, Instr::Drop))?;
+    runs(alloc, lines)
+}
+
+#[test]
+fn places(rt: HostRuntime) -> Result<(), Fail> {
+    let alloc = rt.alloc();
+    let first = |k| vec![in alloc; line(0, 0, Instr::Push(k))];
+    let field = |n| vec![in alloc; line(0, 0, Instr::Push(0)), line(1, 0, Instr::AddOffset(n))];
+    assert!(rt; reading_at(alloc, first(2)?)?);
+    assert!(rt; !reading_at(alloc, first(3)?)?);
+    assert!(rt; !reading_at(alloc, first(70000)?)?);
+    assert!(rt; !reading_at(alloc, first(-1)?)?);
+    assert!(rt; reading_at(alloc, field(2)?)?);
+    assert!(rt; !reading_at(alloc, field(3)?)?);
+    assert!(rt; !reading_at(alloc, vec![in alloc; line(0, 0, Instr::Load(cells(0, 1)))]?)?);
+    Ok(())
+}
+
+// An element of an array of so many, each of so many cells
+fn element(alloc: Global, count: usize, size: usize) -> Result<bool, AllocError> {
+    let lines = vec![in alloc;
+        line(0, 0, Instr::Push(0)),
+        line(1, 0, Instr::Load(cells(0, 1))),
+        line(2, 0, Instr::Index(Length::Elements(count), size, 1)),
+    ]?;
+    reading_at(alloc, lines)
+}
+
+#[test]
+fn elements(rt: HostRuntime) -> Result<(), Fail> {
+    let alloc = rt.alloc();
+    assert!(rt; element(alloc, 3, 1)?);
+    assert!(rt; !element(alloc, 4, 1)?);
+    assert!(rt; !element(alloc, 3, 2)?);
+    assert!(rt; element(alloc, 2, 2)?);
     Ok(())
 }
 

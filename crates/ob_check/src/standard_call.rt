@@ -4,7 +4,7 @@ ghost use Rattle.std.specs.Prelude.{◌≡◌, IfOk};
 ghost use Rattle.ob_declare.specs.Rule.{Judges};
 ghost use Rattle.ob_check.specs.StandardCalls as spec;
 
-use ob_base::{Boxed, Code, Items, Refused};
+use ob_base::{Code, Items, Refused, Shared};
 use ob_declare::fault::{fault, open};
 use ob_declare::predeclared::{InputName, OutputName, ProperProcedure};
 use ob_declare::{Imports, Scope};
@@ -37,7 +37,7 @@ fn variable_formal(basic: Basic) -> Formal
 fn text_variable(alloc: Global) -> Result<Formal, AllocError>
     ensures { IfOk result (λ f. f ≡ spec.text_variable) }
 {
-    let of = ObType::Open(Boxed::new(alloc, ObType::Basic(Basic::Char))?);
+    let of = ObType::Open(Shared::new(alloc, ObType::Basic(Basic::Char))?);
     Ok(Formal {
         kind: FormalKind::Variable,
         of,
@@ -48,7 +48,7 @@ fn text_variable(alloc: Global) -> Result<Formal, AllocError>
 fn text_value(alloc: Global) -> Result<Formal, AllocError>
     ensures { IfOk result (λ f. f ≡ spec.text_value) }
 {
-    let of = ObType::Open(Boxed::new(alloc, ObType::Basic(Basic::Char))?);
+    let of = ObType::Open(Shared::new(alloc, ObType::Basic(Basic::Char))?);
     Ok(Formal {
         kind: FormalKind::Value,
         of,

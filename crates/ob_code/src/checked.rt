@@ -1,13 +1,18 @@
 // Code of Oberon that was validated.
 
-ghost use Rattle.std.specs.Prelude.{◌≡◌, ℕ, ◌+◌, ◌-◌, ◌<◌, ◌≤◌, length, IsTrue, IfSome, Option, Some, slice_get};
+ghost use Rattle.std.specs.Prelude.{◌≡◌, ℕ, ◌+◌, ◌-◌, ◌<◌, ◌≤◌, length, IsTrue, IfOk, IfSome, Option, Some, slice_get};
 ghost use Rattle.ob_code.specs.Valid.{height, results, height_at, RootFits, LengthFits, SpanFits, TargetFits, Calls, entry_of, is_ask, asks, Fits, LinesFit, ProcedureFits, IsBody, IsValid};
+ghost use Rattle.ob_code.specs.Kinds.{HasKinds, IsMeasured};
 ghost use Rattle.ob_code.specs.Stuck.{RunsSafely};
+ghost use Rattle.ob_code.specs.Astray.{StaysInObjects};
 
+use crate::found::find;
 use crate::instr::{
     CodeModule, Entry, Extent, Height, Instr, Length, Line, Procedure, Root, Span, Target,
 };
+use crate::measured::rows_fit;
 use ob_mean::Callee;
+use std::alloc::{AllocError, Global};
 use std::marker::Model;
 
 /// Code that never misses an operand or a name, never leads out of its lines, and reaches no cells but those of objects that
@@ -59,18 +64,51 @@ impl Checked {
 }
 
 /// Tests code that somebody made. What is answered is that code. Wherever it is linked among such modules, no run leaves the
-/// code, misses an operand or a name, reaches cells that are not there, or goes on for ever without a turn or a line.
+/// code, misses an operand or a name, reaches cells that are not there, or goes on for ever without a turn or a line; and
+/// none takes cells out of an object of a module, of an import or of the running call. Of a name's object nothing is said.
 #[tactic(auto, using(crate::proofs::machine::Never::runs_safely))]
-pub fn validate(code: CodeModule) -> Option<Checked>
-    ensures value { IfSome result (λ c. c ≡ code) }
-    ensures valid { IfSome result (λ _. IsValid code) }
-    ensures runs { IfSome result (λ _. RunsSafely code) }
+pub fn validate(alloc: Global, code: CodeModule) -> Result<Option<Checked>, AllocError>
+    ensures value { IfOk result (λ o. IfSome o (λ c. c ≡ code)) }
+    ensures valid { IfOk result (λ o. IfSome o (λ _. IsValid code)) }
+    ensures measured { IfOk result (λ o. IfSome o (λ _. IsMeasured code)) }
+    ensures runs { IfOk result (λ o. IfSome o (λ _. RunsSafely code)) }
+    ensures stays { IfOk result (λ o. IfSome o (λ _. StaysInObjects code)) }
 {
-    if is_valid(&code) {
-        Some(Checked::new(code))
+    if is_measured(alloc, &code)? {
+        Ok(Some(Checked::new(code)))
     } else {
-        None
+        Ok(None)
     }
+}
+
+// Whether code is valid, and enough is known of its operands.
+fn is_measured(alloc: Global, code: &CodeModule) -> Result<bool, AllocError>
+    ensures { IfOk result (λ b. IsTrue b → IsMeasured code.now) }
+{
+    if !is_valid(code) {
+        return Ok(false);
+    }
+    have_kinds(alloc, code)
+}
+
+// Whether enough is known of the operands of each procedure.
+fn have_kinds(alloc: Global, code: &CodeModule) -> Result<bool, AllocError>
+    ensures { IfOk result (λ b. IsTrue b → (p : ℕ) (f : Procedure) → slice_get code.now.procedures.items p ≡ Some f → HasKinds code.now f) }
+{
+    for place in 0..code.procedures.len() {
+        let known = has_kinds(alloc, code, &code.procedures[place])?;
+        if !known {
+            return Ok(false);
+        }
+    }
+    Ok(true)
+}
+
+fn has_kinds(alloc: Global, code: &CodeModule, procedure: &Procedure) -> Result<bool, AllocError>
+    ensures { IfOk result (λ b. IsTrue b → HasKinds code.now procedure.now) }
+{
+    let rows = find(alloc, code, procedure)?;
+    Ok(rows_fit(code, procedure, rows.as_slice()))
 }
 
 fn is_valid(code: &CodeModule) -> bool
@@ -250,7 +288,7 @@ fn target_fits(code: &CodeModule, procedure: &Procedure, target: Target) -> bool
 }
 
 // What a call takes and leaves.
-fn entry_of(code: &CodeModule, callee: Callee) -> Option<Entry>
+pub(crate) fn entry_of(code: &CodeModule, callee: Callee) -> Option<Entry>
     ensures { result ≡ entry_of code.now callee }
 {
     match callee {

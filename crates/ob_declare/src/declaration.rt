@@ -441,7 +441,7 @@ fn variable(alloc: Global, of: &ObType, so_far: Scope, name: &IdentDef) -> Resul
     match cells_behind(outermost, so_far.cells_taken, of) {
         Some(cells) => {
             so_far.cells_taken = cells;
-            let of = of.copy(alloc)?;
+            let of = of.another()?;
             variable_in(alloc, outermost, name.mark.is_some(), so_far, ident, of)
         }
         None => Err(Refused::Fault(fault(Code::Size, ident.span))),

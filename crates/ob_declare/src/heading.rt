@@ -14,7 +14,7 @@ use crate::imports::Imports;
 use crate::names::Names;
 use crate::scope::Scope;
 use crate::written_type::type_in_heading;
-use ob_base::{Boxed, Code, Items, Refused};
+use ob_base::{Boxed, Code, Items, Refused, Shared};
 use ob_parse::tree::{FormalSection, FormalType, Formals, Ident, Procedure, Qualident};
 use ob_scan::Span;
 use ob_types::{Basic, Formal, FormalKind, ObType, Signature, is_admitted};
@@ -46,7 +46,7 @@ pub struct Entered {
 fn open_of(alloc: Global, element: ObType, span: Span) -> Result<ObType, Refused>
     ensures { Judges (spec.open_of element) result }
 {
-    let of = ObType::Open(Boxed::new(alloc, element)?);
+    let of = ObType::Open(Shared::new(alloc, element)?);
     if !is_admitted(&of) {
         return Err(Refused::Fault(fault(Code::Size, span)));
     }
@@ -67,7 +67,7 @@ fn formal_type(
     ensures { Judges (spec.formal_at modules.now (in_heading scope.now parameters.now) levels of.now) result }
 {
     match of {
-        FormalType::Named(name) => type_in_heading(alloc, modules, scope, parameters, name),
+        FormalType::Named(name) => type_in_heading(modules, scope, parameters, name),
         FormalType::Open(span, element) => {
             let element = inner_formal(
                 alloc,
@@ -139,11 +139,11 @@ fn parameter(
         return Err(Refused::Fault(fault(Code::DeclaredTwice, name.span)));
     }
     let number = so_far.block.declared().len();
-    let entry = Entry::Variable(of.copy(alloc)?, standing_of(by_reference, of, number));
+    let entry = Entry::Variable(of.another()?, standing_of(by_reference, of, number));
     so_far.block.declare(alloc, &name.name, false, entry)?;
     so_far.formals.push(Formal {
         kind: kind_of(by_reference),
-        of: of.copy(alloc)?,
+        of: of.another()?,
     })?;
     Ok(so_far)
 }
@@ -257,7 +257,6 @@ fn basic_of(of: &ObType, span: Span) -> Result<Basic, Refused>
 /// The type of the result behind these parameters, if there is one.
 #[tactic(auto, unfolding(crate::specs::Headings::result_rule))]
 fn result_type(
-    alloc: Global,
     modules: &Imports,
     scope: &Scope,
     parameters: &Block,
@@ -268,7 +267,7 @@ fn result_type(
     match name {
         None => Ok(None),
         Some(name) => {
-            let of = type_in_heading(alloc, modules, scope, parameters, name)?;
+            let of = type_in_heading(modules, scope, parameters, name)?;
             let basic = basic_of(&of, name.first.span)?;
             Ok(Some(basic))
         }
@@ -286,7 +285,7 @@ fn formals(
     ensures { Judges (spec.formals_rule modules.now levels scope.now formals.now) result }
 {
     let parameters = sections(alloc, modules, levels, scope, formals.sections.as_slice())?;
-    let result_type = result_type(alloc, modules, scope, &parameters.block, &formals.result)?;
+    let result_type = result_type(modules, scope, &parameters.block, &formals.result)?;
     Ok(Heading {
         signature: Signature {
             formals: parameters.formals,

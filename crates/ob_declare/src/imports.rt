@@ -78,8 +78,8 @@ fn copied_object(alloc: Global, object: &Object) -> Result<Object, AllocError>
 {
     match object {
         Object::Constant(constant) => Ok(Object::Constant(constant.copy(alloc)?)),
-        Object::TypeName(of) => Ok(Object::TypeName(of.copy(alloc)?)),
-        Object::Variable(of) => Ok(Object::Variable(of.copy(alloc)?)),
+        Object::TypeName(of) => Ok(Object::TypeName(of.another()?)),
+        Object::Variable(of) => Ok(Object::Variable(of.another()?)),
         Object::Procedure(signature) => Ok(Object::Procedure(signature.copy(alloc)?)),
     }
 }

@@ -14,8 +14,8 @@ fn object_of(alloc: Global, entry: &Entry) -> Result<Option<Object>, AllocError>
 {
     match entry {
         Entry::Constant(constant) => Ok(Some(Object::Constant(constant.copy(alloc)?))),
-        Entry::TypeName(of) => Ok(Some(Object::TypeName(of.copy(alloc)?))),
-        Entry::Variable(of, _) => Ok(Some(Object::Variable(of.copy(alloc)?))),
+        Entry::TypeName(of) => Ok(Some(Object::TypeName(of.another()?))),
+        Entry::Variable(of, _) => Ok(Some(Object::Variable(of.another()?))),
         Entry::Procedure(signature, _) => Ok(Some(Object::Procedure(signature.copy(alloc)?))),
         Entry::In | Entry::Out | Entry::Module(_, _) => Ok(None),
     }

@@ -12,7 +12,7 @@ use crate::imports::Imports;
 use crate::names::Names;
 use crate::predeclared::{Predeclared, absent, input_named, is_input, is_output, output_named};
 use crate::scope::Scope;
-use ob_base::{Boxed, Code, Items, Refused};
+use ob_base::{Code, Items, Refused, Shared, SharedItems};
 use ob_parse::tree::{Expr, Ident, IdentDef, Qualident, TypeExpr, TypedNames};
 use ob_scan::Span;
 use ob_types::{
@@ -50,26 +50,21 @@ fn predeclared_type(predeclared: Predeclared, span: Span) -> Result<ObType, Refu
 
 /// The type that a name alone stands for.
 #[tactic(auto, unfolding(crate::specs::WrittenTypes::own_type))]
-fn own_type(
-    alloc: Global,
-    entry: Option<&Entry>,
-    predeclared: Predeclared,
-    span: Span,
-) -> Result<ObType, Refused>
+fn own_type(entry: Option<&Entry>, predeclared: Predeclared, span: Span) -> Result<ObType, Refused>
     ensures { Judges (spec.own_type (option_copied entry.entry) predeclared) result }
 {
     match entry {
-        Some(Entry::TypeName(of)) => Ok(of.copy(alloc)?),
+        Some(Entry::TypeName(of)) => Ok(of.another()?),
         Some(_) => Err(Refused::Fault(fault(Code::Types, span))),
         None => predeclared_type(predeclared, span),
     }
 }
 
-fn object_type(alloc: Global, object: &Object, span: Span) -> Result<ObType, Refused>
+fn object_type(object: &Object, span: Span) -> Result<ObType, Refused>
     ensures { Judges (spec.object_type object.now) result }
 {
     match object {
-        Object::TypeName(of) => Ok(of.copy(alloc)?),
+        Object::TypeName(of) => Ok(of.another()?),
         _ => Err(Refused::Fault(fault(Code::Types, span))),
     }
 }
@@ -88,7 +83,6 @@ fn no_type(exported: bool) -> Code
 /// The type that a name of another module stands for.
 #[tactic(auto, unfolding(crate::specs::WrittenTypes::other_type))]
 fn other_type(
-    alloc: Global,
     modules: &Imports,
     entry: Option<&Entry>,
     predeclared: Predeclared,
@@ -99,7 +93,7 @@ fn other_type(
 {
     match entry {
         Some(Entry::Module(_, place)) => match modules.exported_at(*place, &name.name) {
-            Some(object) => object_type(alloc, object, name.span),
+            Some(object) => object_type(object, name.span),
             None => Err(Refused::Fault(fault(Code::NotExported, name.span))),
         },
         Some(Entry::In) => {
@@ -118,7 +112,6 @@ fn other_type(
 /// The type that a name stands for, by what its first part stands for.
 #[tactic(auto, unfolding(crate::specs::WrittenTypes::qualified))]
 fn qualified(
-    alloc: Global,
     modules: &Imports,
     entry: Option<&Entry>,
     predeclared: Predeclared,
@@ -128,30 +121,24 @@ fn qualified(
 {
     let first = name.first.span;
     match &name.second {
-        None => own_type(alloc, entry, predeclared, first),
-        Some(second) => other_type(alloc, modules, entry, predeclared, first, second),
+        None => own_type(entry, predeclared, first),
+        Some(second) => other_type(modules, entry, predeclared, first, second),
     }
 }
 
 /// The type that a name stands for. 10 and 21 where nothing declares it, 12 where it is no type's, 18 where its module doesn't
 /// export it.
 #[tactic(auto, unfolding(crate::specs::WrittenTypes::type_named))]
-fn type_named(
-    alloc: Global,
-    modules: &Imports,
-    scope: &Scope,
-    name: &Qualident,
-) -> Result<ObType, Refused>
+fn type_named(modules: &Imports, scope: &Scope, name: &Qualident) -> Result<ObType, Refused>
     ensures { Judges (spec.type_named modules.now scope.now name.now) result }
 {
     let first = &name.first.name;
-    qualified(alloc, modules, scope.seen(first), scope.outer(first), name)
+    qualified(modules, scope.seen(first), scope.outer(first), name)
 }
 
 /// The type that a name stands for in a heading, behind these parameters. The codes are those of any name of a type.
 #[tactic(auto, unfolding(crate::specs::WrittenTypes::type_named))]
 pub(crate) fn type_in_heading(
-    alloc: Global,
     modules: &Imports,
     scope: &Scope,
     parameters: &Block,
@@ -161,7 +148,6 @@ pub(crate) fn type_in_heading(
 {
     let first = &name.first.name;
     qualified(
-        alloc,
         modules,
         scope.seen_in_heading(parameters, first),
         scope.outer_in_heading(parameters, first),
@@ -243,7 +229,7 @@ fn lengths_of(
 fn array_of(alloc: Global, element: ObType, length: u32, span: Span) -> Result<ObType, Refused>
     ensures { Judges (spec.array_of element length) result }
 {
-    let of = ObType::Array(length, Boxed::new(alloc, element)?);
+    let of = ObType::Array(length, Shared::new(alloc, element)?);
     if !is_admitted(&of) {
         return Err(Refused::Fault(fault(Code::Size, span)));
     }
@@ -307,7 +293,7 @@ fn push_fields(
         let field = Field {
             name: name.name.name.copy(alloc)?,
             exported: name.mark.is_some(),
-            of: of.copy(alloc)?,
+            of: of.another()?,
         };
         so_far.push(field)?;
     }
@@ -345,7 +331,7 @@ pub fn written_type(
 {
     match t {
         TypeExpr::Named(name) => {
-            let of = type_named(alloc, modules, scope, name)?;
+            let of = type_named(modules, scope, name)?;
             Ok(Written { of, records })
         }
         TypeExpr::Array(span, lengths, element) => {
@@ -410,12 +396,10 @@ fn record_type(
         span,
         list,
     )?;
-    let name = numbered(alloc, naming, records)?;
+    let name = Shared::new(alloc, numbered(alloc, naming, records)?)?;
+    let fields = SharedItems::new(alloc, all.fields)?;
     Ok(Written {
-        of: ObType::Record(RecordType {
-            name,
-            fields: all.fields,
-        }),
+        of: ObType::Record(RecordType { name, fields }),
         records: all.records,
     })
 }

@@ -357,7 +357,7 @@ fn value_named(
             let (of, place, variables) = selected(
                 alloc, imports, scope, levels, of, whole, variables, behind,
             )?;
-            Ok((operand_of_variable(alloc, of, place)?, variables))
+            Ok((operand_of_variable(of, place)?, variables))
         }
     }
 }

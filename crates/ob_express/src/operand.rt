@@ -157,17 +157,13 @@ pub fn operand_of_constant(alloc: Global, constant: &Constant) -> Result<Operand
 
 /// What a variable or a part of one is: its value where it has a basic type, else where it stands.
 #[tactic(auto, unfolding(crate::specs::Operands::operand_of_variable))]
-pub fn operand_of_variable(
-    alloc: Global,
-    of: &ObType,
-    place: Designator,
-) -> Result<Operand, Refused>
+pub fn operand_of_variable(of: &ObType, place: Designator) -> Result<Operand, Refused>
     ensures { Judges (Given (spec.operand_of_variable of.now place)) result }
 {
     match of {
         ObType::Basic(basic) => Ok(Operand::Value(*basic, TypedExpr::Read(place))),
         ObType::Array(_, _) | ObType::Open(_) | ObType::Record(_) => {
-            Ok(Operand::Place(of.copy(alloc)?, place))
+            Ok(Operand::Place(of.another()?, place))
         }
     }
 }

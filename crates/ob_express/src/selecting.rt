@@ -61,7 +61,7 @@ fn record_field<'a>(
 ) -> Result<(usize, &'a ObType), Refused>
     ensures { Judges (spec.record_field scope.now structure.now name.now.name) (result_map (λ p. (p.0, p.1.now)) result) }
 {
-    let own = structure.name.module_name.same(&scope.module_name);
+    let own = structure.name.get().module_name.same(&scope.module_name);
     let field = field_in(structure.fields.as_slice(), &name.name);
     seen_field(own, field, name.span)
 }

@@ -26,7 +26,7 @@ pub fn target(
     ensures { Judges (spec.target_at imports.now scope.now levels variables d.now) result }
 {
     let (of, place, variables) = target_part(alloc, imports, scope, levels, variables, d)?;
-    Ok((of.copy(alloc)?, place, variables))
+    Ok((of.another()?, place, variables))
 }
 
 /// The actual parameters of a call, as many as there are formal ones. The called name stands at `span`.

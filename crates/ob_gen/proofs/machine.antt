@@ -11,6 +11,8 @@ pub mod Frames
 pub mod Linked
 pub mod Flows
 pub mod Fitting
+pub mod Telling
+pub mod Told
 pub mod Calls
 pub mod Ends
 pub mod Behaves

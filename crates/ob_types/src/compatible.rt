@@ -6,7 +6,7 @@ ghost use Rattle.std.specs.Str.{bytes_eq};
 ghost use Rattle.ob_types.specs.Types as spec;
 
 use crate::structure::{Basic, Field, ObType, RecordName};
-use ob_base::Text;
+use ob_base::{Shared, Text};
 
 /// Whether two types are the same: basic types by name, arrays by length and element, open arrays by element, records by
 /// name and written-out structure.
@@ -47,7 +47,13 @@ fn same_field(left: &Field, right: &Field) -> bool
     left.name.same(&right.name) && left.exported == right.exported && same(&left.of, &right.of)
 }
 
-fn same_record(left: &RecordName, right: &RecordName) -> bool
+fn same_record(left: &Shared<RecordName>, right: &Shared<RecordName>) -> bool
+    ensures { result ≡ spec.same_record left.now right.now }
+{
+    same_declaration(left.get(), right.get())
+}
+
+fn same_declaration(left: &RecordName, right: &RecordName) -> bool
     ensures { result ≡ spec.same_record left.now right.now }
 {
     left.module_name.same(&right.module_name)

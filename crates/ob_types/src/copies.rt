@@ -1,10 +1,10 @@
-//! Copies, which are equal values.
+//! Copies, which are equal values, and types with more than one owner.
 
 ghost use Rattle.std.specs.Prelude.{◌≡◌, IfOk};
 
 use crate::exports::{Constant, Formal, Signature};
-use crate::structure::{Field, ObType, RecordName, RecordType};
-use ob_base::{Boxed, Items, Text};
+use crate::structure::{ObType, RecordName, RecordType};
+use ob_base::{Items, Text};
 use std::alloc::{AllocError, Global};
 
 fn copy_names(alloc: Global, names: &[Text]) -> Result<Items<Text>, AllocError>
@@ -32,62 +32,27 @@ impl RecordName {
 }
 
 impl ObType {
-    /// An equal type, or want of memory.
-    #[cycle(copy)]
-    pub fn copy(&self, alloc: Global) -> Result<ObType, AllocError>
+    /// An equal type, which shares its parts with this one: in constant time and without memory. Refused only where no more owners
+    /// of a part can be counted.
+    pub fn another(&self) -> Result<ObType, AllocError>
         ensures { IfOk result (λ c. c ≡ self.now) }
     {
         match self {
             ObType::Basic(basic) => Ok(ObType::Basic(*basic)),
-            ObType::Array(length, element) => {
-                let element = element.get().copy(alloc)?;
-                Ok(ObType::Array(*length, Boxed::new(alloc, element)?))
-            }
-            ObType::Open(element) => {
-                let element = element.get().copy(alloc)?;
-                Ok(ObType::Open(Boxed::new(alloc, element)?))
-            }
-            ObType::Record(record) => Ok(ObType::Record(record.copy(alloc)?)),
+            ObType::Array(length, element) => Ok(ObType::Array(*length, element.another()?)),
+            ObType::Open(element) => Ok(ObType::Open(element.another()?)),
+            ObType::Record(record) => Ok(ObType::Record(record.another()?)),
         }
     }
 }
 
 impl RecordType {
-    /// An equal type, or want of memory.
-    #[cycle(copy)]
-    pub fn copy(&self, alloc: Global) -> Result<RecordType, AllocError>
+    fn another(&self) -> Result<RecordType, AllocError>
         ensures { IfOk result (λ c. c ≡ self.now) }
     {
-        let name = self.name.copy(alloc)?;
-        let fields = copy_fields(alloc, self.fields.as_slice())?;
+        let name = self.name.another()?;
+        let fields = self.fields.another()?;
         Ok(RecordType { name, fields })
-    }
-}
-
-#[cycle(copy)]
-fn copy_fields(alloc: Global, fields: &[Field]) -> Result<Items<Field>, AllocError>
-    ensures { IfOk result (λ c. c ≡ fields.now) }
-{
-    let mut copies = Items::new(alloc);
-    for field in fields {
-        copies.push(field.copy(alloc)?)?;
-    }
-    Ok(copies)
-}
-
-impl Field {
-    /// An equal field, or want of memory.
-    #[cycle(copy)]
-    pub fn copy(&self, alloc: Global) -> Result<Field, AllocError>
-        ensures { IfOk result (λ c. c ≡ self.now) }
-    {
-        let name = self.name.copy(alloc)?;
-        let of = self.of.copy(alloc)?;
-        Ok(Field {
-            name,
-            exported: self.exported,
-            of,
-        })
     }
 }
 
@@ -106,13 +71,13 @@ impl Constant {
 }
 
 impl Formal {
-    /// An equal formal parameter, or want of memory.
-    pub fn copy(&self, alloc: Global) -> Result<Formal, AllocError>
+    /// An equal formal parameter, whose type shares its parts with this one's.
+    pub fn another(&self) -> Result<Formal, AllocError>
         ensures { IfOk result (λ c. c ≡ self.now) }
     {
         Ok(Formal {
             kind: self.kind,
-            of: self.of.copy(alloc)?,
+            of: self.of.another()?,
         })
     }
 }
@@ -122,7 +87,7 @@ fn copy_formals(alloc: Global, formals: &[Formal]) -> Result<Items<Formal>, Allo
 {
     let mut copies = Items::new(alloc);
     for formal in formals {
-        copies.push(formal.copy(alloc)?)?;
+        copies.push(formal.another()?)?;
     }
     Ok(copies)
 }

@@ -1,6 +1,7 @@
-//! Types, written out: an alias is the type that it stands for.
+//! Types, written out: an alias is the type that it stands for. Types share their parts, so that one more use of a type takes
+//! no copy of them.
 
-use ob_base::{Boxed, Items, Text};
+use ob_base::{Items, Shared, SharedItems, Text};
 
 /// A basic type.
 #[derive(Clone, Copy, Debug, PartialEq, Eq)]
@@ -17,9 +18,9 @@ pub enum Basic {
 pub enum ObType {
     Basic(Basic),
     /// So many elements of a type.
-    Array(u32, Boxed<ObType>),
+    Array(u32, Shared<ObType>),
     /// An open array of a type, which a formal parameter alone may have.
-    Open(Boxed<ObType>),
+    Open(Shared<ObType>),
     Record(RecordType),
 }
 
@@ -27,9 +28,9 @@ pub enum ObType {
 #[cycle(structure)]
 #[derive(Drop)]
 pub struct RecordType {
-    pub name: RecordName,
+    pub name: Shared<RecordName>,
     /// In the order of their declaration.
-    pub fields: Items<Field>,
+    pub fields: SharedItems<Field>,
 }
 
 /// A field of a record.

@@ -93,7 +93,7 @@ fn put_record(output: &mut String, of: &RecordType) -> Result<(), AllocError>
     ensures { OnOk result (string_bytes output.new ≡ string_bytes output.old ++ spec.record_text of.now) }
 {
     output.push('R')?;
-    put_record_name(output, &of.name)?;
+    put_record_name(output, of.name.get())?;
     output.push('(')?;
     put_fields(output, of.fields.as_slice())?;
     output.push(')')

@@ -6,7 +6,6 @@
 #[cfg(test)]
 mod contents;
 #[cfg(test)]
-mod disk;
 #[cfg(test)]
 mod failures;
 #[cfg(test)]

@@ -8,7 +8,6 @@
 //! - `! EVENT` is an event.
 //! - `-- ` begins a remark.
 
-use crate::disk::Disk;
 use crate::notes::Notes;
 use js_http::{Response, read_request, write_response};
 use js_rest::Manager;
@@ -17,6 +16,7 @@ use js_tables::{Answer, Given, date_text};
 use std::alloc::Global;
 use std::process::Abort;
 use std::test::Fail;
+use test_shelf::FailingShelf;
 
 /// 9 September 2001, and a day later, in microseconds since 1970.
 const TODAY: u64 = 1_000_000_000_123_456;
@@ -28,14 +28,14 @@ const TOMORROW: u64 = 1_000_086_400_123_456;
 #[derive(Drop)]
 pub(crate) struct Server {
     manager: Manager<Notes>,
-    shelf: Disk,
+    shelf: FailingShelf,
     posts: u64,
     is_tomorrow: bool,
 }
 
 /// A server over a shelf with nothing below its root.
 pub(crate) fn start(alloc: Global) -> Result<Server, Fail> {
-    let shelf = Disk::new(alloc)?;
+    let shelf = FailingShelf::new(alloc)?;
     let date = date_text(alloc, 0)?;
     let manager = Manager::new(alloc, date, Notes::new(alloc))?;
     Ok(Server {

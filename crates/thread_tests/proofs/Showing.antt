@@ -1,9 +1,8 @@
--- What is shown of a kernel that takes joins.
+-- What is shown of a kernel that takes joins and leaves.
 use Rattle.std.proofs.Common.{◌≡◌, ℕ, List, ◌++◌, take, drop, sym, ap, ◌∙◌, subst}
 use Rattle.jk_language.specs.Spoken.{Spoken}
 use Rattle.jk_core.specs.declared.entry.Entry.{Entry}
 use Rattle.jk_core.specs.declared.arrival.Arrival.{Arrival}
-use Rattle.jk_core.specs.declared.arrival.What.TheVariants.{Join}
 use Rattle.jk_core.specs.Legal.{IsLegal}
 use Rattle.jk_core.specs.Render.{render}
 use Rattle.jk_core.specs.State.{KernelState, joined}
@@ -11,9 +10,6 @@ use Rattle.jk_core.specs.Steps.{Takes, without}
 use Rattle.jk_core.proofs.Shown.{shown_takes, shown_without}
 use Rattle.jk_board.specs.Boards.{IsBoard}
 use Rattle.thread_tests.specs.Shown.{HasShown}
-
-abbrev pub join_of : ℕ → ℕ → Arrival
-join_of seat number = record { seat = seat; number = number; what = Join }
 
 module _ {S T : Type 0} (spoken : Spoken S T) where
   -- an arrival that is taken

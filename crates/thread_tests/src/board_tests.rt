@@ -1,6 +1,6 @@
 //! Followers in threads of their own read beside one publisher.
 ghost use Rattle.std.specs.Prelude.{◌≡◌, []};
-ghost use Rattle.jk_board.specs.Ends.{published, publisher_board, AreNew};
+ghost use Rattle.jk_board.specs.Ends.{published, publisher_board, found_by, told_to, AreNew};
 
 use crate::following::{begin, read_times};
 use crate::joins::publish_joins;
@@ -31,27 +31,30 @@ where
     Ok(readers)
 }
 
-/// Each of the eight has read all. So have the ninth, in sixteen reads, and a follower that comes when all is published.
+/// Each of the eight has read all. The ninth, which has read nothing, learns the publisher's news and has all after sixteen
+/// reads. So has a follower that comes when all is published.
 fn end_all<R>(
     rt: R,
     alloc: Global,
     publisher: &mut Publisher<TestLanguage>,
     readers: Readers,
-    recorder: Follower<TestLanguage>,
+    ninth: Follower<TestLanguage>,
 ) -> Result<(), Fail>
 where
     R: Threads + Wait + Abort + Copy + Send + 'static,
+    requires { (found_by ninth ≡ []) × (told_to ninth ≡ []) }
 {
     for reader in readers {
         assert_eq!(&rt; reader.join(&rt)?, 1_000);
     }
+    let ninth = ninth.learn(publisher.news()?);
+    assert_eq!(&rt; read_times(alloc, ninth, 16)?, 1_000);
     let late = publisher.late_follower()?;
     assert_eq!(&rt; read_times(alloc, late, 16)?, 1_000);
-    assert_eq!(&rt; read_times(alloc, recorder, 16)?, 1_000);
     Ok(())
 }
 
-/// Eight follow beside the publisher, each all of a thousand publications. The ninth was told of the board before.
+/// Eight follow beside the publisher, each all of a thousand publications, and the ninth after them.
 fn follow<R>(
     rt: R,
     alloc: Global,
@@ -72,10 +75,8 @@ where
         five,
         six,
         seven,
-        mut recorder,
+        recorder,
     } = followers;
-    let mut publisher = publisher;
-    publisher.inform(&mut recorder);
     let eight = [zero, one, two, three, four, five, six, seven];
     let readers = match begin_eight(rt, alloc, eight) {
         Ok(readers) => readers,

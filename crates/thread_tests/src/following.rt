@@ -1,4 +1,4 @@
-//! Followers that read joins, in threads of their own or not.
+//! Followers that read joins and leaves, in threads of their own or not.
 
 use jk_board::Follower;
 use jk_core::{Entry, Told};
@@ -9,18 +9,22 @@ use std::thread;
 use std::thread::{JoinHandle, Threads};
 use test_language::TestLanguage;
 
-/// Whether the entry is the join of this number.
+/// Whether the entry is the join or leave of this number: numbers that are odd are joins.
 fn is_join(entry: &Entry, number: u64) -> bool {
     match &entry.content {
         Told::Joined {
             seat: _,
             number: known,
-        } => *known == number,
-        _ => false,
+        } => number % 2 == 1 && *known == number,
+        Told::Left {
+            seat: _,
+            number: known,
+        } => number % 2 == 0 && *known == number,
+        Told::Output(_) => false,
     }
 }
 
-/// How many entries in order are the joins that follow the join of this number, from the first on.
+/// How many entries in order are the joins and leaves that follow the one of this number, from the first on.
 fn in_order(entries: &[Entry], before: u64) -> u64 {
     let mut count = 0u64;
     for entry in entries {
@@ -32,7 +36,7 @@ fn in_order(entries: &[Entry], before: u64) -> u64 {
     count
 }
 
-/// Reads so many times. The answer is the number of the last join, where all joins come from the first on and in order.
+/// Reads so many times. The answer is the number of the last join or leave, where all come from the first on and in order.
 pub fn read_times<L: Language>(
     alloc: Global,
     follower: Follower<L>,

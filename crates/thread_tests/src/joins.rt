@@ -1,4 +1,4 @@
-//! A kernel's joins, published: the simplest source of a board's entries.
+//! A kernel's joins and leaves, published: the simplest source of a board's entries.
 ghost use Rattle.std.specs.Prelude.{◌≡◌, [], List, OnOk, IfOk};
 ghost use Rattle.jk_core.specs.declared.entry.Entry.{Entry};
 ghost use Rattle.jk_board.specs.Ends.{published};
@@ -17,16 +17,26 @@ fn fresh_kernel<L: Language>(alloc: Global) -> Result<Kernel<L>, AllocError>
     Kernel::new(alloc)
 }
 
-/// Takes the join of a seat, which is shown by one entry.
-fn take_join<L: Language>(kernel: &mut Kernel<L>, seat: u8, number: u64) -> Result<(), AllocError>
+/// What seat 1 sends at this number: by turns a join and a leave, each of which is shown by one entry.
+fn arrival(number: u64) -> Arrival {
+    let seat = 1;
+    let what = if number % 2 == 1 {
+        What::Join
+    } else {
+        What::Leave
+    };
+    Arrival { seat, number, what }
+}
+
+/// Takes an arrival.
+fn take_one<L: Language>(kernel: &mut Kernel<L>, arrival: Arrival) -> Result<(), AllocError>
     ensures { OnOk result ((shown : List Entry) → HasShown L.spoken shown kernel.old → HasShown L.spoken shown kernel.new) }
 {
-    let what = What::Join;
-    kernel.take(Arrival { seat, number, what })?;
+    kernel.take(arrival)?;
     Ok(())
 }
 
-/// Takes joins of these numbers.
+/// Takes joins and leaves of these numbers.
 fn take_joins<L: Language>(
     kernel: &mut Kernel<L>,
     first: u64,
@@ -35,7 +45,7 @@ fn take_joins<L: Language>(
     ensures { OnOk result ((shown : List Entry) → HasShown L.spoken shown kernel.old → HasShown L.spoken shown kernel.new) }
 {
     for number in first..behind {
-        take_join(kernel, 1, number)?;
+        take_one(kernel, arrival(number))?;
     }
     Ok(())
 }
@@ -63,7 +73,7 @@ fn publish_pending<L: Language, R: Wait>(
     (publisher, Ok(()))
 }
 
-/// Takes the joins of one publication, and publishes them.
+/// Takes the joins and leaves of one publication, and publishes them.
 fn publish_next<L: Language, R: Wait>(
     rt: &R,
     alloc: Global,
@@ -81,7 +91,7 @@ fn publish_next<L: Language, R: Wait>(
     }
 }
 
-/// Publishes joins numbered from 1 in so many publications, so many in each.
+/// Publishes joins and leaves numbered from 1 in so many publications, so many in each.
 pub fn publish_joins<L: Language, R: Wait>(
     rt: &R,
     alloc: Global,

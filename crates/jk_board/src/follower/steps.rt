@@ -1,10 +1,11 @@
 //! What a follower does.
 ghost use Rattle.std.specs.Prelude.{◌≡◌, ◌≤◌, ◌++◌, take, drop, IfOk, OnErr};
-ghost use Rattle.jk_board.specs.Ends.{found_by, told_to, read_by};
+ghost use Rattle.jk_board.specs.Ends.{found_by, told_to, read_by, news_of};
 ghost use Rattle.jk_board.specs.Rule.{Each};
 ghost use Rattle.jk_board.specs.Boards.{IsBoard, StartsWith};
 
 use super::Follower;
+use crate::news::News;
 use crate::rule::Finds;
 use jk_core::Entry;
 use jk_language::Language;
@@ -38,6 +39,18 @@ impl<L: Language> Follower<L> {
         match place.checked_add(entries.len()) {
             Some(place) => (Follower { reader, place }, Ok(entries)),
             None => (Follower { reader, place }, Err(AllocError)),
+        }
+    }
+
+    /// Learns what was published: from now on it finds no less. What it has read stays as it was.
+    pub fn learn(self, news: News<L>) -> Follower<L>
+        requires { StartsWith (news_of news) (found_by self) × Each (StartsWith (news_of news)) (told_to self) }
+        ensures found { found_by result ≡ news_of news }
+        ensures read { read_by result ≡ read_by self }
+    {
+        Follower {
+            reader: news.reader,
+            place: self.place,
         }
     }
 }

@@ -1,15 +1,13 @@
 //! What the publisher does.
-ghost use Rattle.std.specs.Prelude.{◌≡◌, ◌++◌, ◌∷◌, [], drop, fold, MatchResult};
-ghost use Rattle.std.specs.Arc.{arc_value};
+ghost use Rattle.std.specs.Prelude.{◌≡◌, ◌++◌, [], drop, fold, MatchResult};
 ghost use Rattle.left_right.specs.Sides.{view};
-ghost use Rattle.jk_board.specs.Ends.{published, publisher_board, follower_board, found_by, told_to, read_by};
+ghost use Rattle.jk_board.specs.Ends.{published};
 ghost use Rattle.jk_board.specs.Posted.{all_of};
 ghost use Rattle.jk_board.specs.Pending.{IsNext};
 ghost use Rattle.jk_board.specs.Boards.{IsBoard};
 
 use super::{Copies, Publisher, Replace};
-use crate::follower::Follower;
-use crate::rule::{Finds, Notes};
+use crate::rule::Finds;
 use jk_core::Entry;
 use jk_language::Language;
 use std::alloc::{AllocError, Global};
@@ -44,16 +42,6 @@ impl<L: Language> Publisher<L> {
                 (Publisher { copies }, Err((entries, AllocError)))
             }
         }
-    }
-
-    /// Tells a follower of all that was published: from now on it finds no less.
-    pub fn inform(&mut self, follower: &mut Follower<L>)
-        requires { follower_board follower.old ≡ publisher_board self.old }
-        ensures told { told_to follower.new ≡ published self.old ∷ told_to follower.old }
-        ensures same { published self.new ≡ published self.old }
-        ensures kept { (found_by follower.new ≡ found_by follower.old) × (read_by follower.new ≡ read_by follower.old) }
-    {
-        follower.reader.learn::<Notes>(self.copies.tell::<Notes>());
     }
 
     /// Waits for those who read.

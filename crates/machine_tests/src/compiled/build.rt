@@ -20,7 +20,7 @@ use std::alloc::Global;
 fn code_of(alloc: Global, known: &[Face], tree: &TypedModule) -> Result<CodeModule, NoAnswer>
     ensures { IfOk result IsValid }
 {
-    match validate(module_code(alloc, known, tree)?) {
+    match validate(alloc, module_code(alloc, known, tree)?)? {
         Some(code) => Ok(code.into_code()),
         None => Err(NoAnswer),
     }

@@ -76,7 +76,7 @@ one_of_each names (argument.Open d) parameter.Value h = absurd h
 one_of_each names (argument.Open d) (parameter.Place t) h = absurd h
 
 -- so many values and names are passed
-row_counts : (names : Names) {k : _} (row : Row_of-Argument k) (ps : List Parameter) → RowPassed names row ps → (row_names row ≡ named_count ps) × (row_values row + row_names row ≡ parameter_count ps)
+pub row_counts : (names : Names) {k : _} (row : Row_of-Argument k) (ps : List Parameter) → RowPassed names row ps → (row_names row ≡ named_count ps) × (row_values row + row_names row ≡ parameter_count ps)
 row_counts names end_of-Argument [] h = (refl, refl)
 row_counts names end_of-Argument (p ∷ ps) h = absurd h
 row_counts names (more_of-Argument a rest) [] h = absurd h
@@ -85,7 +85,7 @@ row_counts names (more_of-Argument a rest) (p ∷ ps) h =
     let r = row_counts names rest ps h.1 in
     (omega (arith, i.1, r.0), omega (arith, i.0, r.1))
 
-list_counts : (names : Names) (args : List Argument) (ps : List Parameter) → ListPassed names args ps → (list_names args ≡ named_count ps) × (list_values args + list_names args ≡ parameter_count ps)
+pub list_counts : (names : Names) (args : List Argument) (ps : List Parameter) → ListPassed names args ps → (list_names args ≡ named_count ps) × (list_values args + list_names args ≡ parameter_count ps)
 list_counts names [] [] h = (refl, refl)
 list_counts names [] (p ∷ ps) h = absurd h
 list_counts names (a ∷ rest) [] h = absurd h
@@ -94,18 +94,18 @@ list_counts names (a ∷ rest) (p ∷ ps) h =
     let r = list_counts names rest ps h.1 in
     (omega (arith, i.1, r.0), omega (arith, i.0, r.1))
 
-valued : (ps : List Parameter) → valued_count ps + named_count ps ≡ parameter_count ps
+pub valued : (ps : List Parameter) → valued_count ps + named_count ps ≡ parameter_count ps
 valued [] = refl
 valued (parameter.Value ∷ ps) = let h = valued ps in omega (arith, h)
 valued (parameter.Place t ∷ ps) = let h = valued ps in omega (arith, h)
 valued (parameter.Open t ∷ ps) = let h = valued ps in omega (arith, h)
 
 -- the values have cells
-parameters_row : (ps : List Parameter) → IsRow (parameter_row ps)
+pub parameters_row : (ps : List Parameter) → IsRow (parameter_row ps)
 parameters_row [] = tt
 parameters_row (p ∷ ps) = parameters_row ps
 
-parameters_size : (ps : List Parameter) → size (parameter_row ps) + named_count ps ≡ parameter_count ps
+pub parameters_size : (ps : List Parameter) → size (parameter_row ps) + named_count ps ≡ parameter_count ps
 parameters_size [] = refl
 parameters_size (parameter.Value ∷ ps) = let h = parameters_size ps in omega (arith, h)
 parameters_size (parameter.Place t ∷ ps) = let h = parameters_size ps in omega (arith, h)
@@ -114,7 +114,7 @@ parameters_size (parameter.Open t ∷ ps) = let h = parameters_size ps in omega 
 -- ---- room
 
 -- there is more room than any line has operands or names before it
-abbrev IsRoomy : Procedure → Type 0
+abbrev pub IsRoomy : Procedure → Type 0
 IsRoomy g = (place : ℕ) (l : Line) → slice_get g.lines.items place ≡ Some l → (l.operands < g.operand_room) × (l.names < g.name_room)
 
 below_most : (ls : List Line) (k : ℕ) (l : Line) → slice_get ls k ≡ Some l → (l.operands ≤ most_operands ls) × (l.names ≤ most_names ls)
@@ -131,7 +131,7 @@ below_most (x ∷ ls) (suc k) l e =
 room_is : (g : Procedure) → HasRoom g → IsRoomy g
 room_is g h place l e = let b = below_most g.lines.items place l e in (omega (arith, b.0, h.operands), omega (arith, b.1, h.names))
 
-room_at : (gs : List Procedure) (p : ℕ) (g : Procedure) → AllHaveRoom gs → slice_get gs p ≡ Some g → IsRoomy g
+pub room_at : (gs : List Procedure) (p : ℕ) (g : Procedure) → AllHaveRoom gs → slice_get gs p ≡ Some g → IsRoomy g
 room_at [] p g h e = absurd (let n : None ≡ Some g = e in cc)
 room_at (x ∷ gs) zero g h e = room_is g (subst HasRoom (some_same x g e) h.0)
 room_at (x ∷ gs) (suc p) g h e = room_at gs p g h.1 e
@@ -160,7 +160,7 @@ module _ (names : Names) (m : CodeModule) (f : Procedure) (known : IsNamed names
   abbrev Leads : List Line → Height → Height → Type 0
   Leads c x y = Flows m f lines c x y
 
-  face_there : (o : Option Face) (x : ℕ) (b : Object) → face_object o x ≡ Some b → (face : Face) × (o ≡ Some face)
+  pub face_there : (o : Option Face) (x : ℕ) (b : Object) → face_object o x ≡ Some b → (face : Face) × (o ≡ Some face)
   face_there None x b e = absurd (let n : None ≡ Some b = e in cc)
   face_there (Some face) x b e = (face, refl)
 
@@ -204,7 +204,7 @@ module _ (names : Names) (m : CodeModule) (f : Procedure) (known : IsNamed names
   heading_there None x h e = absurd (let n : None ≡ Some h = e in cc)
   heading_there (Some face) x h e = (face, refl, e)
 
-  callee_entry : (g : Callee) (h : Heading) → called names g ≡ Some h → entry_of m g ≡ Some (heading_entry h)
+  pub callee_entry : (g : Callee) (h : Heading) → called names g ≡ Some h → entry_of m g ≡ Some (heading_entry h)
   callee_entry (callee.OfModule p) h e =
       let t = heading_found (slice_get names.procedures p) h e in
       known.procedures p t.0 t.1 ∙ ap (λ x. Some (heading_entry x)) t.2
@@ -553,7 +553,7 @@ module _ (faces : List Face) (m : TypedModule) (code : CodeModule) (formed : IsW
   abbrev names_with : List Parameter → List Shape → Names
   names_with ps ts = record { faces = faces; variables = m.variables; procedures = m.procedures; parameters = ps; own = ts }
 
-  named_in : (ps : List Parameter) (ts : List Shape) (g : Procedure) → g.cells ≡ size (own_row (names_with ps ts)) → g.entry.names ≡ named_count ps → IsRoomy g → IsNamed (names_with ps ts) code g
+  pub named_in : (ps : List Parameter) (ts : List Shape) (g : Procedure) → g.cells ≡ size (own_row (names_with ps ts)) → g.entry.names ≡ named_count ps → IsRoomy g → IsNamed (names_with ps ts) code g
   named_in ps ts g cells counted room = record {
     variables = omega (arith, made.cells);
     own = omega (arith, cells);

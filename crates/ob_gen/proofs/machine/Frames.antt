@@ -60,7 +60,7 @@ held_import (t ∷ ts) (Declared u ∷ vs) (suc x) o h e =
     (k.0, k.1, held_later (zero_of u) (declared_row vs) x k.0 (extent_at (zeros ts) x) (extent_at (zeros (t ∷ ts)) (suc x)) (omega (arith, same)) refl k.2)
 
 -- those of a call
-held_zeros : (ts : List Shape) (x : ℕ) (o : Object) → shape_object (slice_get ts x) ≡ Some o → (t : Shape) × (o ≡ Of t) × HeldAt (zeros ts) x t (extent_at (zeros ts) x)
+pub held_zeros : (ts : List Shape) (x : ℕ) (o : Object) → shape_object (slice_get ts x) ≡ Some o → (t : Shape) × (o ≡ Of t) × HeldAt (zeros ts) x t (extent_at (zeros ts) x)
 held_zeros [] x o e = absurd (let n : None ≡ Some o = e in cc)
 held_zeros (t ∷ ts) zero o e = (t, sym (some_same (Of t) o e), record { there = omega arith; is = refl; from = refl; cells = refl })
 held_zeros (t ∷ ts) (suc x) o e =

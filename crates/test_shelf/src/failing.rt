@@ -7,17 +7,17 @@ use std::alloc::{AllocError, Global};
 
 /// A shelf in memory, behind a device that fails at the call of number `fault`, counted from 1.
 #[derive(Drop)]
-pub(crate) struct Disk {
+pub struct FailingShelf {
     inner: MemoryShelf,
     calls: u64,
     fault: u64,
     failures: u64,
 }
 
-impl Disk {
-    /// Nothing below the root, and a device that doesn't fail.
-    pub(crate) fn new(alloc: Global) -> Result<Disk, AllocError> {
-        Ok(Disk {
+impl FailingShelf {
+    /// Nothing below the root, and a device that doesn't fail. `Err` where memory was refused.
+    pub fn new(alloc: Global) -> Result<FailingShelf, AllocError> {
+        Ok(FailingShelf {
             inner: MemoryShelf::new(alloc)?,
             calls: 0,
             fault: 0,
@@ -26,7 +26,7 @@ impl Disk {
     }
 
     /// The device fails at the call of that number from now on, or at none for 0.
-    pub(crate) fn fail_at(&mut self, fault: u64) {
+    pub fn fail_at(&mut self, fault: u64) {
         self.calls = 0;
         self.fault = fault;
     }
@@ -48,7 +48,7 @@ impl Disk {
     }
 }
 
-impl Shelf for Disk {
+impl Shelf for FailingShelf {
     ghost contents = { λ _. None };
 
     ghost faults = { λ shelf. shelf.failures };

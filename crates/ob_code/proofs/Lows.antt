@@ -1,0 +1,35 @@
+-- What the tests of kinds rest on.
+use Rattle.std.proofs.Common.{◌≡◌, ℕ, zero, suc, ◌+◌, ◌<◌, ◌≤◌, List, [], ◌∷◌, length, Some, Bool, true, false, refl, ap, subst, ⊎_elim, arith}
+use Rattle.std.specs.Prelude.{slice_get, nat_lt, if◌then◌else◌}
+use Rattle.std.proofs.lemmas.Bool.{cases_lt}
+use Rattle.std.proofs.lemmas.Bool.Decides.{nat_tests}
+use Rattle.ob_code.specs.declared.kinds.Kind.{Kind}
+use Rattle.ob_code.specs.declared.kinds.Kind.TheVariants.{Number, UpTo}
+use Rattle.ob_code.specs.Kinds.{Kinds, CoversAt, CoverAll, low}
+
+pub low_fits : (n : ℕ) → n < 2147483648 → low n ≡ UpTo n
+low_fits n lt = ap (λ b. if b then UpTo n else Number) yes
+  where
+    yes : nat_lt n 2147483648 ≡ true
+    yes = grind (arith, nat_tests, lt)
+
+pub low_high : (n : ℕ) → 2147483648 ≤ n → low n ≡ Number
+low_high n le = ap (λ b. if b then UpTo n else Number) no
+  where
+    no : nat_lt n 2147483648 ≡ false
+    no = grind (arith, nat_tests, le)
+
+-- each covers the one at its place
+pub all_covered : (es ks : Kinds) → length es ≡ length ks → ((i : ℕ) → i < length es → CoversAt es ks i) → CoverAll es ks
+all_covered [] [] same h = tt
+all_covered [] (k ∷ ks) same h = absurd (omega (arith, same))
+all_covered (e ∷ es) [] same h = absurd (omega (arith, same))
+all_covered (e ∷ es) (k ∷ ks) same h = (h 0 (omega arith) e k refl refl, all_covered es ks (omega (arith, same)) (λ i lt. h (suc i) (omega (arith, lt))))
+
+-- one place more
+pub one_more : (P : ℕ → Type 0) (n : ℕ) → ((i : ℕ) → i < n → P i) → P n → (i : ℕ) → i < n + 1 → P i
+one_more P n below at i less =
+    ⊎_elim
+    (λ lt. below i lt)
+    (λ le. let same : n ≡ i = omega arith in subst P same at)
+    (cases_lt i n)
