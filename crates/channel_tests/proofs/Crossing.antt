@@ -1,0 +1,15 @@
+-- The end of a pool over the small language may go to another thread.
+use denote.Param.Send.{IsSend}
+use denote.Struct.Field.{u8-field}
+use Rattle.test_meaning.specs.contracts.text.Text as Tree
+use Rattle.test_meaning.proofs.text.Text.TheSendSync as tree
+use Rattle.test_language.specs.contracts.language.TestLanguage as Texts
+use Rattle.test_language.specs.contracts.machine.Machine as Machine
+use Rattle.test_language.specs.contracts.language.TestLanguageLanguage.TheImpl as texts
+use Rattle.jk_core.specs.contracts.job.ParsedCell as ParsedCell
+use Rattle.jk_core.proofs.job.ParsedCell.TheSendSync as parsed
+use Rattle.jk_queues.specs.contracts.pool.WorkerEnd as WorkerEnd
+use Rattle.jk_queues.proofs.pool.WorkerEnd.TheSendSync as end
+
+pub texts_worker_send : IsSend (WorkerEnd.the_row (ParsedCell.the_row Texts.the_row u8-field.row Tree.the_row Machine.the_row texts.ghosts))
+texts_worker_send = end.the_send _ (parsed.the_send Texts.the_row u8-field.row Tree.the_row Machine.the_row texts.ghosts tree.the_send)

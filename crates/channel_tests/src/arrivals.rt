@@ -1,0 +1,97 @@
+//! What becomes of the frames that a frontend sends.
+
+use crate::scene::play;
+use crate::socket::{End, Socket};
+use std::test::Fail;
+use test_language::TestLanguage;
+
+/// A text frame of a kernel_info request, masked by zeros.
+const ASKS: &[u8] =
+    b"\x81\xd7\x00\x00\x00\x00{\"header\":{\"msg_id\":\"m1\",\"session\":\"s1\",\"msg_type\":\"kernel_info_request\"},\"content\":{}}";
+
+/// The text "Hello" of RFC 6455, section 5.7, masked; and the same bytes as a binary message, a ping and a pong.
+const NO_MESSAGES: &[u8] =
+    b"\x81\x85\x37\xfa\x21\x3d\x7f\x9f\x4d\x51\x58\x82\x85\x37\xfa\x21\x3d\x7f\x9f\x4d\x51\x58\x89\x85\x37\xfa\x21\x3d\x7f\x9f\x4d\x51\x58\x8a\x85\x37\xfa\x21\x3d\x7f\x9f\x4d\x51\x58";
+
+const CLOSE: &[u8] = b"\x88\x80\x00\x00\x00\x00";
+
+const PING: &[u8] = b"\x89\x80\x00\x00\x00\x00";
+
+/// Frames, what the stream gives after them, and what comes of steps.
+struct Play {
+    frames: &'static [u8],
+    end: End,
+    is_full: bool,
+    steps: &'static str,
+    wanted: &'static str,
+}
+
+const PLAYS: [Play; 5] = [
+    // No message of Jupyter is dropped as an arrival; then the stream ends.
+    Play {
+        frames: NO_MESSAGES,
+        end: End::Ends,
+        is_full: false,
+        steps: "tttttt",
+        wanted: "ooooccJ1L2",
+    },
+    // A close is answered, and the read after it is a fault.
+    Play {
+        frames: CLOSE,
+        end: End::Waits,
+        is_full: false,
+        steps: "tt",
+        wanted: "ocJ1L2",
+    },
+    // A ping is answered by the next read, and where that answer can't be written, the read is a fault.
+    Play {
+        frames: PING,
+        end: End::TakesNothing,
+        is_full: false,
+        steps: "ttt",
+        wanted: "occJ1L2",
+    },
+    // A ping whose answer is written.
+    Play {
+        frames: PING,
+        end: End::Waits,
+        is_full: false,
+        steps: "ttt",
+        wanted: "oqqJ1",
+    },
+    // Where the inbox is full, the channel holds its arrival and reads nothing. So its leave comes after each of them, once
+    // there is room.
+    Play {
+        frames: ASKS,
+        end: End::Ends,
+        is_full: true,
+        steps: "tttptptpt",
+        wanted: "wwwwwcJ1S2L3",
+    },
+];
+
+/// Plays whose frames come at once.
+#[test]
+fn frames_that_come_at_once(rt: HostRuntime) -> Result<(), Fail> {
+    for (place, row) in PLAYS.iter().enumerate() {
+        let socket = Socket::new(row.frames, row.end);
+        let text = play::<_, _, TestLanguage>(&rt, rt.alloc(), socket, row.is_full, row.steps)?;
+        assert_eq!(rt; text.as_str(), row.wanted, "{place}");
+    }
+    Ok(())
+}
+
+/// One message is one arrival, wherever its frame is cut by the stream's time limit. A frame that the stream's end cuts is no
+/// arrival.
+#[test]
+fn a_frame_cut_at_every_byte(rt: HostRuntime) -> Result<(), Fail> {
+    for cut in 0..ASKS.len() {
+        let socket = Socket::cut(ASKS, cut);
+        let text = play::<_, _, TestLanguage>(&rt, rt.alloc(), socket, false, "ttt")?;
+        assert_eq!(rt; text.as_str(), "qoqJ1S2", "{cut}");
+        let socket = Socket::new(&ASKS[..cut], End::Ends);
+        let text = play::<_, _, TestLanguage>(&rt, rt.alloc(), socket, false, "tt")?;
+        assert_eq!(rt; text.as_str(), "ccJ1L2", "{cut}");
+    }
+    Ok(())
+}

@@ -1,0 +1,197 @@
+//! Channels of a kernel that works: their turns and the rounds of its driver take turns in one thread.
+ghost use Rattle.std.specs.Prelude.{◌≡◌, [], IfOk};
+ghost use Rattle.jk_core.specs.State.{fresh};
+ghost use Rattle.jk_queues.specs.Ends.{taken_by};
+
+use crate::scene::{DATE, names};
+use crate::socket::{End, Socket};
+use jk_board::{Board, Follower};
+use jk_core::{Kernel, ParsedCell, Work};
+use jk_language::Language;
+use jk_queues::{Gate, Inbox, Pool, Seat, Seats, Taker, WorkerEnd, worker};
+use jk_run::{Driver, Parts, drive_some};
+use js_ws::{Channel, Turn, channel_turn};
+use std::alloc::{AllocError, Global};
+use std::io::{Read, Write};
+use std::sync::Wait;
+use std::test::Fail;
+use std::thread;
+use std::thread::{JoinHandle, Threads};
+use std::time::Clock;
+use test_language::TestLanguage;
+
+/// A text frame of a cell that asks for a line and shows it, masked by zeros.
+const CELL: &[u8] =
+    b"\x81\xde\x00\x00\x00\x00{\"header\":{\"msg_id\":\"m1\",\"session\":\"s1\",\"msg_type\":\"execute_request\"},\"content\":{\"code\":\"?$\"}}";
+
+/// A text frame of a shutdown request without restart, on the control channel, masked by zeros.
+const SHUTDOWN: &[u8] =
+    b"\x81\xf7\x00\x00\x00\x00{\"channel\":\"control\",\"content\":{\"restart\":false},\"header\":{\"msg_id\":\"m1\",\"session\":\"s1\",\"msg_type\":\"shutdown_request\"}}";
+
+type Parser = WorkerEnd<ParsedCell<TestLanguage>>;
+
+/// Lets every job pass.
+#[derive(Drop)]
+struct Open;
+
+impl Gate for Open {
+    fn before(&self, _job: u64) {}
+
+    fn after(&self, _job: u64) {}
+}
+
+/// A new kernel with the ends of its driver but for the publisher, its seats and its parser.
+#[derive(Drop)]
+struct Made<L: Language> {
+    kernel: Kernel<L>,
+    taker: Taker,
+    pool: Pool<ParsedCell<L>>,
+    seats: Seats,
+    parsers: Vec<WorkerEnd<ParsedCell<L>>>,
+}
+
+/// A driver, seat 3 and its follower, and a parser.
+struct Cast<L: Language> {
+    driver: Driver<L>,
+    seat: Seat,
+    follower: Follower<L>,
+    parsers: Vec<WorkerEnd<ParsedCell<L>>>,
+}
+
+fn make<L: Language>(alloc: Global) -> Result<Made<L>, AllocError>
+    ensures kernel { IfOk result (λ made. made.kernel ≡ fresh) }
+    ensures taker { IfOk result (λ made. taken_by made.taker ≡ []) }
+{
+    let Inbox { taker, seats } = Inbox::new(alloc)?;
+    let (pool, parsers) = Pool::<ParsedCell<L>>::new(alloc, 1)?;
+    let kernel = Kernel::<L>::new(alloc)?;
+    Ok(Made {
+        kernel,
+        taker,
+        pool,
+        seats,
+        parsers,
+    })
+}
+
+/// A driver with what it works with.
+fn make_cast<R: Wait, L: Language>(rt: &R, alloc: Global) -> Result<Cast<L>, AllocError> {
+    let made = make::<L>(alloc)?;
+    let Board {
+        publisher,
+        followers,
+    } = Board::<L>::new(rt, alloc)?;
+    let Made {
+        kernel,
+        taker,
+        pool,
+        seats,
+        parsers,
+    } = made;
+    Ok(Cast {
+        driver: Driver::new(alloc, kernel, taker, pool, publisher),
+        seat: seats.three,
+        follower: followers.three,
+        parsers,
+    })
+}
+
+/// Stops the parser, and ends the board.
+fn finish<R: Wait, L: Language>(rt: &R, driver: Driver<L>) {
+    let Parts {
+        kernel: _,
+        taker: _,
+        mut pool,
+        publisher,
+        arrival: _,
+        job: _,
+        entries: _,
+    } = driver.into_parts();
+    pool.stop(rt);
+    publisher.end(rt);
+}
+
+/// Rounds of a kernel and turns of a channel, until the channel is closed and the kernel rests. How many entries the channel
+/// sent, or none where that never came.
+fn run<R, S, L>(rt: &R, driver: Driver<L>, channel: Channel<S, L>) -> Option<usize>
+where
+    R: Wait,
+    S: Read + Write + Drop,
+    L: Language,
+{
+    let mut driver = driver;
+    let mut channel = channel;
+    let mut sent: usize = 0;
+    let mut count = None;
+    for _ in 0..1_000_000 {
+        let (same, answer) = channel_turn(rt, DATE, channel);
+        channel = same;
+        let (same, work) = drive_some(rt, 1, driver);
+        driver = same;
+        sent = sent.saturating_add(sent_by(answer));
+        if matches!(answer, Turn::Closed(_)) && work == Work::Rest {
+            count = Some(sent);
+            break;
+        }
+        thread::yield_now();
+    }
+    finish(rt, driver);
+    count
+}
+
+/// How many entries a turn sent.
+fn sent_by(turn: Turn) -> usize {
+    match turn {
+        Turn::Open(count) | Turn::Quiet(count) | Turn::Closed(count) => count,
+    }
+}
+
+/// Starts a parser.
+fn begin<R>(rt: R, alloc: Global, end: Parser) -> Result<JoinHandle<Parser>, AllocError>
+where
+    R: Threads + Wait + Clock + Copy + Send + 'static,
+{
+    Ok(thread::spawn(&rt, move || {
+        worker::<TestLanguage, R, Open>(&rt, alloc, &Open, end)
+    })?)
+}
+
+/// How many entries a channel over this stream sends until it is closed and its kernel rests.
+fn sent<R>(rt: R, alloc: Global, socket: Socket<'_>) -> Result<Option<usize>, Fail>
+where
+    R: Threads + Wait + Clock + Copy + Send + 'static,
+{
+    let names = names(alloc)?;
+    let cast = make_cast::<R, TestLanguage>(&rt, alloc)?;
+    let Cast {
+        driver,
+        seat,
+        follower,
+        mut parsers,
+    } = cast;
+    let channel = Channel::new(alloc, socket, names, seat, follower);
+    let parser = match parsers.pop() {
+        Some(end) => begin(rt, alloc, end).ok(),
+        None => None,
+    };
+    let count = run(&rt, driver, channel);
+    match parser {
+        Some(parser) => {
+            drop(parser.join(&rt));
+            Ok(count)
+        }
+        None => Err("no parser".into()),
+    }
+}
+
+/// A connection that ends once its cell asks for a line: busy, the input and the input request were sent, and the kernel is told
+/// of the end, so that it has no line and rests. And a shutdown without restart: busy, the reply and idle are sent, and with
+/// them the channel is closed.
+#[test]
+fn channels_that_are_closed(rt: HostRuntime) -> Result<(), Fail> {
+    let lost = sent(rt, rt.alloc(), Socket::new(CELL, End::EndsAtInput))?;
+    assert_eq!(rt; lost, Some(3));
+    let shut = sent(rt, rt.alloc(), Socket::new(SHUTDOWN, End::Waits))?;
+    assert_eq!(rt; shut, Some(3));
+    Ok(())
+}

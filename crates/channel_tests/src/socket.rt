@@ -1,0 +1,82 @@
+//! A stream in memory.
+
+use std::io;
+use std::io::{ErrorKind, Read, Write};
+
+/// What a stream gives after its bytes.
+#[derive(Clone, Copy)]
+pub(crate) enum End {
+    /// Its time limit comes, again and again.
+    Waits,
+    /// It has ended.
+    Ends,
+    /// Its time limit comes until an input request was written to it. From then on it has ended.
+    EndsAtInput,
+    /// Its time limit comes, again and again, and it takes no bytes.
+    TakesNothing,
+}
+
+/// A stream that gives so many bytes, then says once that its time limit came, and then gives the others. What is written is
+/// gone.
+#[derive(Drop)]
+pub(crate) struct Socket<'s> {
+    rest: &'s [u8],
+    before: usize,
+    end: End,
+}
+
+impl Socket<'_> {
+    /// A stream of these bytes, which all come at once.
+    pub(crate) fn new(bytes: &[u8], end: End) -> Socket<'_> {
+        Socket {
+            rest: bytes,
+            before: usize::MAX,
+            end,
+        }
+    }
+
+    /// The same, but its time limit comes after so many bytes.
+    pub(crate) fn cut(bytes: &[u8], before: usize) -> Socket<'_> {
+        Socket {
+            rest: bytes,
+            before,
+            end: End::Waits,
+        }
+    }
+}
+
+impl Read for Socket<'_> {
+    fn read(&mut self, buf: &mut [u8]) -> io::Result<usize> {
+        let count = self.rest.len().min(buf.len()).min(self.before);
+        if count == 0 {
+            if self.rest.is_empty() && matches!(self.end, End::Ends) {
+                return Ok(0);
+            }
+            self.before = usize::MAX;
+            return Err(ErrorKind::WouldBlock.into());
+        }
+        buf[..count].copy_from_slice(&self.rest[..count]);
+        self.rest = &self.rest[count..];
+        self.before -= count;
+        Ok(count)
+    }
+}
+
+impl Write for Socket<'_> {
+    fn write(&mut self, buf: &[u8]) -> io::Result<usize> {
+        if matches!(self.end, End::TakesNothing) {
+            return Err(ErrorKind::BrokenPipe.into());
+        }
+        let asks = buf
+            .windows(13)
+            .any(|part| part == b"input_request".as_slice());
+        if asks && matches!(self.end, End::EndsAtInput) {
+            self.end = End::Ends;
+        }
+        Ok(buf.len())
+    }
+
+    fn flush(&mut self) -> io::Result<()> {
+        Ok(())
+    }
+}
