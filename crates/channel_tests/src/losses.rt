@@ -88,10 +88,13 @@ fn make_cast<R: Wait, L: Language>(rt: &R, alloc: Global) -> Result<Cast<L>, All
         seats,
         parsers,
     } = made;
+    let seat = seats.three;
+    let follower = followers.three;
+    let driver = Driver::new(alloc, kernel, taker, pool, publisher);
     Ok(Cast {
-        driver: Driver::new(alloc, kernel, taker, pool, publisher),
-        seat: seats.three,
-        follower: followers.three,
+        driver,
+        seat,
+        follower,
         parsers,
     })
 }

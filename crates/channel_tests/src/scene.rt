@@ -59,14 +59,17 @@ fn make_ends<R: Wait, L: Language>(
         publisher,
         followers,
     } = Board::<L>::new(rt, alloc)?;
+    let other = seats.zero;
+    let seat = seats.three;
+    let follower = followers.three;
     publisher.end(rt);
     if is_full {
-        fill(rt, seats.zero);
+        fill(rt, other);
     }
     Ok(Ends {
         taker,
-        seat: seats.three,
-        follower: followers.three,
+        seat,
+        follower,
     })
 }
 
