@@ -10,6 +10,10 @@ pub begin_module-requires : goal.begin_module-requires
 begin_module-requires c =
     (planned_in c.args.session c.args.tree.now c.modules.result.now _ (plan.Module c.in-Ok-Module.planned) c.modules.ensures.value c.in-Ok-Module.field-0-is c.in-Ok-Module.ensures.found).1
 
+pub run_commands-requires : goal.run_commands-requires
+run_commands-requires c =
+    let p = planned_in c.args.session c.args.tree.now c.modules.result.now _ (plan.Commands c.in-Ok-Commands.commands) c.modules.ensures.value c.in-Ok-Commands.field-0-is c.in-Ok-Commands.ensures.found in (p.0, p.2)
+
 pub returns-in-Ok-Module-clause-begun : goal.returns-in-Ok-Module-clause-begun
 returns-in-Ok-Module-clause-begun c = λ text is.
     fresh_module c.args.session text c.args.tree.now c.in-Ok-Module.planned _ is
