@@ -14,10 +14,13 @@ pub struct Tree {
 
 impl Model for Tree {
     ghost use Rattle.std.specs.Prelude.{ℕ, List};
+    ghost use Rattle.ob_parse.specs.contracts.tree.Cell as tree;
     ghost use Rattle.ob_parse.specs.declared.tree.Cell.{Cell};
     ghost use Rattle.ob_cell.specs.Oberon.{IsTreeOf};
 
     ghost Value = { Cell };
+
+    ghost coded = { tree.the_row.coded };
 
     ghost view = { λ t. t.cell };
 
