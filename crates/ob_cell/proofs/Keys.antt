@@ -1,9 +1,8 @@
 -- The key of a module whose names are words says its face.
-use Rattle.std.proofs.Common.{◌≡◌, ℕ, zero, suc, ◌+◌, ◌*◌, ◌/◌, ◌%◌, ◌<◌, ◌≤◌, ◌^◌, ℤ, pos, negsuc, Bool, true, false, cond, List, [], ◌∷◌, ◌++◌, Option, Some, None, is_some, if◌then◌else◌, refl, sym, ap, ◌∙◌, subst, arith, append_assoc}
-use Rattle.std.specs.Prelude.{codes, encode_utf8, nat_lt, nat_le, ◌==◌, ◌&&◌, ◌||◌}
+use Rattle.std.proofs.Common.{◌≡◌, ℕ, zero, suc, ◌+◌, ◌*◌, ◌/◌, ◌%◌, ◌<◌, ◌≤◌, ◌^◌, ℤ, pos, negsuc, Bool, true, false, cond, List, [], ◌∷◌, ◌++◌, Option, Some, None, is_some, refl, sym, ap, ◌∙◌, subst, arith, append_assoc}
+use Rattle.std.specs.Prelude.{codes, encode_utf8, nat_lt, ◌==◌, ◌&&◌}
 use Rattle.std.specs.Char.{digit_value, is_ascii_alphanumeric}
 use Rattle.std.specs.Fmt.{decimal, signed_decimal, digits, digits_onto, digit_glyph}
-use Rattle.std.specs.List.{list_all}
 use Rattle.std.specs.Str.Parse.{AllDigits, digits_value_after}
 use Rattle.std.proofs.lemmas.Bool.Decides.{nat_tests}
 use Rattle.std.proofs.lemmas.Fmt.{decimal_is_IsNumeral}
@@ -25,7 +24,7 @@ use Rattle.ob_types.specs.declared.structure.ObType.TheBlock.{Row_of-Field, end_
 use Rattle.ob_types.specs.declared.structure.ObType.TheVariants.{Basic as OfBasic, Array', Open', Record}
 use Rattle.ob_types.specs.declared.structure.RecordName.{RecordName}
 use Rattle.ob_types.specs.declared.structure.RecordType.{RecordType'}
-use Rattle.ob_types.specs.InterfaceText.{name_text, basic_text, enclosing_text, record_name_text, mark_text, type_text, fields_text, hex_digit, hex_text, truth_text, constant_text, kind_text, formals_text, result_text, signature_text, object_text, exports_text, interface_text}
+use Rattle.ob_types.specs.InterfaceText.{name_text, basic_text, enclosing_text, record_name_text, mark_text, type_text, fields_text, hex_digit, hex_text, constant_text, kind_text, formals_text, result_text, signature_text, object_text, exports_text, interface_text}
 use Rattle.ob_types.specs.InterfaceTree.{InterfaceTree}
 use Rattle.ob_mean.specs.declared.face.Face.{Face}
 use Rattle.ob_mean.specs.declared.face.Heading.{Heading}

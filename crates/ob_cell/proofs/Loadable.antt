@@ -13,7 +13,6 @@ use Rattle.ob_types.specs.declared.structure.Basic.{Basic}
 use Rattle.ob_types.specs.InterfaceText.{interface_text}
 use Rattle.ob_mean.specs.declared.face.Face.{Face}
 use Rattle.ob_mean.specs.declared.face.Heading.{Heading}
-use Rattle.ob_mean.specs.declared.module.TypedModule.{TypedModule}
 use Rattle.ob_mean.specs.declared.module.TypedProcedure.{TypedProcedure}
 use Rattle.ob_mean.specs.WellFormed.{AreHeadings, IsFaceOf, own_heading}
 use Rattle.ob_parse.specs.CellText.{IsCellOf}

@@ -1,9 +1,8 @@
 -- Names behind expressions and statements are words.
-use Rattle.std.proofs.Common.{◌≡◌, ℕ, zero, suc, true, false, List, [], ◌∷◌, Option, Some, None, subst}
+use Rattle.std.proofs.Common.{ℕ, zero, suc, true, false, List, [], ◌∷◌, Some, None}
 use Rattle.ob_scan.specs.declared.token.Kind.TheVariants as kinds
 use Rattle.ob_scan.specs.declared.token.Symbol.{Symbol}
 use Rattle.ob_scan.specs.declared.token.Symbol.TheVariants as s
-use Rattle.ob_scan.specs.declared.token.Token.{Token}
 use Rattle.ob_parse.specs.declared.tree.AddedTerm.{AddedTerm, out-AddedTerm}
 use Rattle.ob_parse.specs.declared.tree.Branch.{Branch, out-Branch}
 use Rattle.ob_parse.specs.declared.tree.Case.{Case, out-Case}
@@ -27,10 +26,10 @@ use Rattle.ob_parse.specs.declared.tree.Term.{Term, out-Term}
 use Rattle.ob_parse.specs.Expression as p
 use Rattle.ob_parse.specs.Expression.{FactorLayer, SelectorLayer, mul_symbol, add_symbol, relation_symbol, sign_phrase, sign_symbol}
 use Rattle.ob_parse.specs.Name as n
-use Rattle.ob_parse.specs.Phrase.{Phrase, ◌⨾◌, symbol_at, symbol, ident, maybe, separated}
+use Rattle.ob_parse.specs.Phrase.{Phrase, ◌⨾◌, symbol_at, symbol, ident}
 use Rattle.ob_parse.specs.Statement as st
 use Rattle.ob_parse.specs.Statement.{StatementLayer}
-use Rattle.ob_cell.proofs.Tokens.{TokenWords, Keeps, then, one, empty, never, sign, mark, name, deeper, every, perhaps, between, list_of, behind_word}
+use Rattle.ob_cell.proofs.Tokens.{Keeps, then, one, empty, never, sign, mark, name, deeper, every, perhaps, between, list_of, behind_word}
 
 -- ---- names and labels
 

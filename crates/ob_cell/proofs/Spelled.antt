@@ -1,5 +1,5 @@
 -- The names that a module's text declares are words.
-use Rattle.std.proofs.Common.{◌≡◌, ◌⊎◌, ℕ, zero, suc, List, [], ◌∷◌, Option, Some, None, inl, inr, subst, sym}
+use Rattle.std.proofs.Common.{ℕ, zero, suc, List, [], ◌∷◌, inl, inr, subst, sym}
 use Rattle.ob_scan.specs.declared.token.Symbol.{Symbol}
 use Rattle.ob_scan.specs.declared.token.Symbol.TheVariants as s
 use Rattle.ob_scan.specs.declared.token.Token.{Token}
@@ -26,7 +26,7 @@ use Rattle.ob_parse.specs.Declaration as d
 use Rattle.ob_parse.specs.Expression as expression
 use Rattle.ob_parse.specs.Grammar as grammar
 use Rattle.ob_parse.specs.Name as n
-use Rattle.ob_parse.specs.Phrase.{Phrase, ◌⨾◌, symbol_at, symbol, ident, each, maybe, separated, listed, optional}
+use Rattle.ob_parse.specs.Phrase.{Phrase, ◌⨾◌, symbol_at, symbol, ident, each, separated, listed, optional}
 use Rattle.ob_parse.specs.Statement as st
 use Rattle.ob_parse.specs.Structure as t
 use Rattle.ob_load.specs.Words.{IsWord}

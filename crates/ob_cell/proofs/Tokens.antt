@@ -1,5 +1,5 @@
 -- What stands behind a phrase stood among its tokens: names of tokens are words, and so are those behind a phrase.
-use Rattle.std.proofs.Common.{◌≡◌, ◌⊎◌, ℕ, zero, suc, ◌<◌, Bool, true, false, List, [], ◌∷◌, Option, Some, None, inl, inr, refl, sym, ap, ◌∙◌, subst}
+use Rattle.std.proofs.Common.{◌≡◌, ℕ, List, [], ◌∷◌, Option, Some, None, inl, inr, sym, subst}
 use Rattle.ob_scan.specs.declared.class.Class.{Class}
 use Rattle.ob_scan.specs.declared.class.Class.TheVariants as classes
 use Rattle.ob_scan.specs.declared.class.Suffix.{Suffix}
@@ -9,9 +9,8 @@ use Rattle.ob_scan.specs.declared.token.Kind.{Kind}
 use Rattle.ob_scan.specs.declared.token.Kind.TheVariants as kinds
 use Rattle.ob_scan.specs.declared.token.Span.{Span}
 use Rattle.ob_scan.specs.declared.token.Symbol.{Symbol}
-use Rattle.ob_scan.specs.declared.token.Symbol.TheVariants as s
 use Rattle.ob_scan.specs.declared.token.Token.{Token}
-use Rattle.ob_scan.specs.Tokens.{Word, WordKind, Number, NumberKind, StringOf, Sign, StandsAs, Stands, Scans, done, next, class_at, suffix_of}
+use Rattle.ob_scan.specs.Tokens.{WordKind, NumberKind, StandsAs, Scans, done, next, class_at, suffix_of}
 use Rattle.ob_parse.specs.Phrase.{Phrase, ◌⨾◌, nothing, symbol_at, symbol, ident, each, maybe, separated, listed, opens, optional}
 use Rattle.ob_parse.specs.declared.tree.Ident.{Ident}
 use Rattle.ob_load.specs.Words.{IsWord}

@@ -1,5 +1,5 @@
 -- The interface of a checked module has names that are words, and its imports don't reach it.
-use Rattle.std.proofs.Common.{◌≡◌, ℕ, zero, suc, ◌+◌, ◌++◌, length, Bool, true, false, List, [], ◌∷◌, Option, Some, None, refl, sym, ap, ◌∙◌, subst}
+use Rattle.std.proofs.Common.{◌≡◌, ℕ, zero, suc, ◌++◌, Bool, true, false, List, [], ◌∷◌, refl, sym, ap, ◌∙◌, subst}
 use Rattle.std.specs.Prelude.{◌&&◌}
 use Rattle.ob_parse.specs.declared.tree.ConstDeclaration.{ConstDeclaration}
 use Rattle.ob_parse.specs.declared.tree.Declarations.{Declarations, out-Declarations}
@@ -11,7 +11,6 @@ use Rattle.ob_parse.specs.declared.tree.TypedNames.{TypedNames, out-TypedNames}
 use Rattle.ob_types.specs.declared.exports.Signature.{Signature}
 use Rattle.ob_types.specs.declared.structure.ObType.{ObType}
 use Rattle.ob_declare.specs.declared.block.Declared.{Declared}
-use Rattle.ob_declare.specs.declared.block.Entry.{Entry}
 use Rattle.ob_declare.specs.declared.block.Entry.TheVariants as entry
 use Rattle.ob_declare.specs.declared.heading.Entered.{Entered}
 use Rattle.ob_declare.specs.declared.scope.Scope.{Scope}
@@ -19,13 +18,13 @@ use Rattle.ob_declare.specs.Declarations.{new_constant, constant_rule, new_type,
 use Rattle.ob_declare.specs.Exports.{Modules}
 use Rattle.ob_declare.specs.Headings.{new_procedure, procedure_rule}
 use Rattle.ob_declare.specs.Interfaces.{interface_of}
-use Rattle.ob_declare.specs.Rule.{Rule, gives, through}
+use Rattle.ob_declare.specs.Rule.{gives}
 use Rattle.ob_declare.specs.Scope.{left, left_into}
 use Rattle.ob_declare.specs.Stack.{is_empty}
 use Rattle.ob_check.specs.CheckedTree.{CheckedTree}
 use Rattle.ob_check.specs.Modules.{all_imported, body_rule, procedures_rule, checked_rule, module_at}
 use Rattle.ob_check.specs.Procedures.{Checking, procedures_in, body_of, inside_of, procedure_of, procedure_at}
-use Rattle.ob_load.specs.Words.{IsWord, FormalWords, InterfaceWords}
+use Rattle.ob_load.specs.Words.{IsWord, InterfaceWords}
 use Rattle.ob_cell.proofs.Spelled.{Each, ProcedureIn, ModuleIn}
 use Rattle.ob_cell.proofs.WordTypes.{LoadedWords, through_keeps, always}
 use Rattle.ob_cell.proofs.WordScopes.{DeclaredRight, InModule, BlockTypes, block_types, each_more, heading_words, declared_right, interface_right}

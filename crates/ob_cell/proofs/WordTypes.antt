@@ -1,5 +1,5 @@
 -- Types as they are written have names that are words, where those that they name have.
-use Rattle.std.proofs.Common.{◌≡◌, ◌<◌, ◌≤◌, ◌^◌, ℕ, zero, suc, ◌+◌, pos, negsuc, nat_le, ◌&&◌, ◌++◌, map, reverse, Bool, true, false, cond, List, [], ◌∷◌, Option, Some, None, slice_get, refl, sym, ap, ◌∙◌, subst, arith}
+use Rattle.std.proofs.Common.{◌≡◌, ◌<◌, ◌^◌, ℕ, zero, suc, ◌+◌, pos, negsuc, nat_le, ◌&&◌, ◌++◌, map, reverse, Bool, true, false, cond, List, [], ◌∷◌, Option, Some, None, slice_get, refl, sym, ap, ◌∙◌, subst, arith}
 use Rattle.std.proofs.lemmas.Bool.Decides.{nat_tests}
 use Rattle.std.proofs.lemmas.List.{reverse-append}
 use Rattle.std.specs.Str.{bytes_eq}
@@ -28,7 +28,6 @@ use Rattle.ob_types.specs.declared.structure.RecordName.{RecordName}
 use Rattle.ob_types.specs.declared.structure.RecordType.{RecordType, RecordType', out-RecordType, roll-RecordType, out-roll-RecordType}
 use Rattle.ob_declare.specs.declared.block.Entry.{Entry}
 use Rattle.ob_declare.specs.declared.block.Entry.TheVariants as entry
-use Rattle.ob_declare.specs.declared.imports.StandardName.{StandardName}
 use Rattle.ob_declare.specs.declared.predeclared.Predeclared.{Predeclared}
 use Rattle.ob_declare.specs.declared.predeclared.Predeclared.TheVariants as predeclared
 use Rattle.ob_declare.specs.declared.scope.Scope.{Scope}
@@ -40,7 +39,7 @@ use Rattle.ob_declare.specs.Imports.{exported_at, exported_by}
 use Rattle.ob_declare.specs.LoadedTree.{LoadedTree}
 use Rattle.ob_declare.specs.Rule.{Rule, gives, there, through}
 use Rattle.ob_declare.specs.Scope.{seen, outer}
-use Rattle.ob_declare.specs.WrittenTypes.{predeclared_type, own_type, object_type, other_type, qualified, type_named, length_of, natural_length, next_length, array_of, field_of, next_fields, no_fields, record_rule, type_layer, type_rule, inner_constant, inner_type, type_at, numbered}
+use Rattle.ob_declare.specs.WrittenTypes.{predeclared_type, own_type, object_type, other_type, qualified, type_named, length_of, next_length, array_of, field_of, next_fields, no_fields, record_rule, type_layer, type_rule, inner_constant, inner_type, type_at, numbered}
 use Rattle.ob_load.specs.Words.{IsWord, RecordWords, TypeWords, RowWords, FieldWords, ObjectWords, ExportWords, InterfaceWords}
 use Rattle.ob_cell.proofs.Spelled.{Each, NameIn, TypedIn, LayerIn, InnerIn, TypeIn}
 
