@@ -1,7 +1,7 @@
 -- What a thread of a server of Oberon is given may go to it.
 use denote.Param.Send.{IsSend}
-use Rattle.ob_parse.specs.contracts.tree.Cell as Cell
-use Rattle.ob_parse.proofs.Crossing.{cell_send}
+use Rattle.ob_cell.specs.contracts.tree.Tree as Tree
+use Rattle.ob_cell.proofs.Crossing.{tree_send}
 use Rattle.ob_load.specs.contracts.machine.Machine as Machine
 use Rattle.ob_load.specs.contracts.session.Session as Session
 use Rattle.ob_language.specs.contracts.oberon.Oberon as Oberon
@@ -9,5 +9,5 @@ use Rattle.ob_language.specs.contracts.oberon.OberonLanguage.TheImpl as oberon
 use Rattle.js_serve.specs.contracts.job.Job as Job
 use Rattle.js_serve.proofs.Crossing.{job_send}
 
-pub oberon_job_send : IsSend (Job.the_row Oberon.the_row Session.the_row Cell.the_row Machine.the_row oberon.ghosts)
-oberon_job_send = job_send Oberon.the_row Session.the_row Cell.the_row Machine.the_row oberon.ghosts cell_send
+pub oberon_job_send : IsSend (Job.the_row Oberon.the_row Session.the_row Tree.the_row Machine.the_row oberon.ghosts)
+oberon_job_send = job_send Oberon.the_row Session.the_row Tree.the_row Machine.the_row oberon.ghosts tree_send

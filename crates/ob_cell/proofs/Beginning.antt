@@ -102,8 +102,8 @@ refused_rule s text tree fault shown is h e = (fault.code, e, inr (tree, is, h))
 
 -- ---- plans over the modules of a session
 
-pub planned_in : (s : Session) (cell : Cell) (ms : List Module) (p q : Plan) → ms ≡ s.modules → p ≡ q → ((store : Value) → IsPlanned (in_store ms store) cell p) → IsPlanned s cell q
-planned_in s cell ms p q e f h = subst (λ (x : Plan). IsPlanned s cell x) f (subst (λ (xs : List Module). IsPlanned (in_store xs s.store) cell p) e (h s.store))
+pub planned_in : (s : Session) (cell seen : Cell) (ms : List Module) (p q : Plan) → ms ≡ s.modules → seen ≡ cell → p ≡ q → ((store : Value) → IsPlanned (in_store ms store) seen p) → IsPlanned s cell q
+planned_in s cell seen ms p q e g f h = subst (λ (x : Plan). IsPlanned s cell x) f (subst (λ (xs : List Module). IsPlanned (in_store xs s.store) cell p) e (subst (λ (t : Cell). IsPlanned (in_store ms s.store) t p) g (h s.store)))
 
-pub refused_in : (s : Session) (cell : Cell) (ms : List Module) (p q : base.Refused) → ms ≡ s.modules → p ≡ q → ((store : Value) → IsStaticRefusal (in_store ms store) cell p) → IsStaticRefusal s cell q
-refused_in s cell ms p q e f h = subst (λ (x : base.Refused). IsStaticRefusal s cell x) f (subst (λ (xs : List Module). IsStaticRefusal (in_store xs s.store) cell p) e (h s.store))
+pub refused_in : (s : Session) (cell seen : Cell) (ms : List Module) (p q : base.Refused) → ms ≡ s.modules → seen ≡ cell → p ≡ q → ((store : Value) → IsStaticRefusal (in_store ms store) seen p) → IsStaticRefusal s cell q
+refused_in s cell seen ms p q e g f h = subst (λ (x : base.Refused). IsStaticRefusal s cell x) f (subst (λ (xs : List Module). IsStaticRefusal (in_store xs s.store) cell p) e (subst (λ (t : Cell). IsStaticRefusal (in_store ms s.store) t p) g (h s.store)))

@@ -27,6 +27,15 @@ use Rattle.ob_link.specs.Looking.{in_store}
 use Rattle.ob_link.specs.Modules.{AllSolid}
 use Rattle.ob_cell.specs.Planned.{face_named, IsCompiled, IsLoadable, IsStaticRefusal}
 use Rattle.ob_cell.specs.declared.planned.Planned.{Planned}
+use Rattle.ob_parse.specs.CellText.{IsCellOf}
+use Rattle.ob_mean.specs.WellFormed.{IsFaceOf}
+use Rattle.ob_fit.specs.Fitting.{face_of_interface}
+use Rattle.ob_linked.specs.Loading.{IsUnreached}
+use Rattle.ob_load.specs.Known.{IsSaid}
+use Rattle.ob_load.specs.Words.{InterfaceWords, AllWords}
+use Rattle.ob_cell.specs.Oberon.{IsTreeOf}
+use Rattle.ob_cell.proofs.Keys.{key_says}
+use Rattle.ob_cell.proofs.Loadable.{LoadsRight, loads_right, has_commands}
 
 -- ---- what a module comes to
 
@@ -106,8 +115,15 @@ rules_faults modules loaded m (refused.Fault fault) store same h =
 
 -- ---- a module that was compiled
 
-pub loadable : (modules : List Module) (own : List ℕ) (loaded : Loaded) (c : CheckedTree) (p : Planned) → loaded ≡ map (meaning.loaded_as modules own) modules → AllLoaded loaded c.imports → p.module ≡ meaning.module_of c → IsCompiled p → p.faces ≡ fit.faces_of loaded c.imports → link_fault modules (map meaning.import_of c.imports) ≡ None → IsLoadable modules p
-loadable modules own loaded c p same all is compiled faces links =
+tree_is : (text : List ℕ) (m : tree.Module) → IsTreeOf text (cells.Module m) → IsCellOf text (cells.Module m)
+unfolding IsTreeOf
+tree_is text m h = h
+
+pub right : (modules : List Module) (m : tree.Module) (loaded : Loaded) (c : CheckedTree) → AllWords modules → (text : List ℕ) → IsTreeOf text (cells.Module m) → loaded ≡ map (meaning.loaded_as modules m.name.name) modules → gives (module_at loaded m) c → LoadsRight modules loaded c
+right modules m loaded c words text is same h = loads_right modules m loaded c words text (tree_is text m is) same h
+
+pub loadable : (modules : List Module) (own : List ℕ) (loaded : Loaded) (c : CheckedTree) (p : Planned) → loaded ≡ map (meaning.loaded_as modules own) modules → AllLoaded loaded c.imports → p.module ≡ meaning.module_of c → IsCompiled p → p.faces ≡ fit.faces_of loaded c.imports → link_fault modules (map meaning.import_of c.imports) ≡ None → LoadsRight modules loaded c → IsLoadable modules p
+loadable modules own loaded c p same all is compiled faces links right =
     let there : AllLoaded (map (meaning.loaded_as modules own) modules) c.imports = subst (λ (ms : Loaded). AllLoaded ms c.imports) same all in
     let imports : p.module.imports ≡ map meaning.import_of c.imports = ap (λ (m : Module). m.imports) is in
     record {
@@ -118,4 +134,11 @@ loadable modules own loaded c p same all is compiled faces links =
           ∙ same_faces modules modules own c.imports there
           ∙ sym (ap (map Some) (faces ∙ ap (λ (ms : Loaded). fit.faces_of ms c.imports) same));
       links = ap (link_fault modules) imports ∙ links;
+      unreached = subst (λ (x : Module). IsUnreached modules (name_of x) x.imports) (sym is) right.unreached;
+      words = subst (λ (x : Module). InterfaceWords x.interface) (sym is) right.words;
+      said = subst (λ (x : Module). IsSaid x (record { face = p.face; faces = p.faces })) (sym is) (record {
+        face = compiled.said ∙ ap (λ (x : Module). face_of_interface x.interface) is ∙ sym (key_says c.interface right.words);
+        faces = faces ∙ right.faces;
+        commands = has_commands (meaning.module_of c) (subst (λ (x : Module). IsFaceOf (face_of_interface x.interface) x.tree) is (subst (λ (f : Face). IsFaceOf f p.module.tree) compiled.said compiled.face));
+      });
     }

@@ -8,12 +8,15 @@ use Rattle.ob_mean.specs.WellFormed.{IsFaceOf, IsWellFormed}
 use Rattle.ob_declare.specs.Rule.{answer, breaks}
 use Rattle.ob_fit.specs.Fitting.{face_of_interface}
 use Rattle.ob_types.specs.Solid.{ExportsSolid}
-use Rattle.ob_session.specs.Session.{Session, Module, Import, find_module, link_fault}
+use Rattle.ob_session.specs.Session.{Session, Module, Import, name_of, find_module, link_fault}
 use Rattle.ob_session.specs.Cells as cells
 use Rattle.ob_session.specs.Cells.{Checked, OfModule, OfCommands, CommandName, all_ready}
 use Rattle.ob_gen.specs.Generated.{IsGenerated}
 use Rattle.ob_cell.specs.Texts.{cell_rule}
 use Rattle.ob_linked.specs.Compiled.{AllFound}
+use Rattle.ob_linked.specs.Loading.{IsUnreached}
+use Rattle.ob_load.specs.Known.{IsSaid}
+use Rattle.ob_load.specs.Words.{InterfaceWords}
 use Rattle.ob_link.specs.Looking.{fault_seen}
 use Rattle.ob_cell.specs.declared.planned.Plan.{Plan}
 use Rattle.ob_cell.specs.declared.planned.Plan.TheVariants as plan
@@ -41,6 +44,11 @@ pub record IsLoadable (modules : List Module) (p : Planned) : Type 0 where
   pub found : AllFound modules p.module.imports
   pub faces : map (λ (i : Import). face_named modules i.name) p.module.imports ≡ map Some p.faces
   pub links : link_fault modules p.module.imports ≡ None
+  -- none of them reaches a module of its name
+  pub unreached : IsUnreached modules (name_of p.module) p.module.imports
+  -- the names that it exports are words, and what is known of it and of its imports is what their keys say
+  pub words : InterfaceWords p.module.interface
+  pub said : IsSaid p.module (record { face = p.face; faces = p.faces })
 
 -- ---- a cell that keeps the rules and does not link, for this
 

@@ -1,9 +1,11 @@
 //! The plan of a cell.
 
-ghost use Rattle.std.specs.Prelude.{IfOk, IfErr};
+ghost use Rattle.std.specs.Prelude.{ℕ, List, IfOk, IfErr};
 ghost use Rattle.ob_mean.specs.Values.{Value};
 ghost use Rattle.ob_link.specs.Looking.{in_store};
 ghost use Rattle.ob_link.specs.Modules.{AllSolid, AllDistinct};
+ghost use Rattle.ob_load.specs.Words.{AllWords};
+ghost use Rattle.ob_cell.specs.Oberon.{IsTreeOf};
 ghost use Rattle.ob_cell.specs.Planned.{IsPlanned, IsStaticRefusal};
 
 use crate::command::commands_plan;
@@ -22,6 +24,8 @@ use std::alloc::Global;
 pub fn plan(alloc: Global, modules: &Modules, cell: &Cell) -> Result<Plan, Refused>
     requires solid { AllSolid modules.now }
     requires distinct { AllDistinct modules.now }
+    requires words { AllWords modules.now }
+    requires read { (text : List ℕ) × IsTreeOf text cell.now }
     ensures found { IfOk result (λ plan. (store : Value) → IsPlanned (in_store modules.now store) cell.now plan) }
     ensures faults { IfErr result (λ refused. (store : Value) → IsStaticRefusal (in_store modules.now store) cell.now refused) }
 {

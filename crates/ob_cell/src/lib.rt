@@ -10,7 +10,9 @@ mod module;
 mod planned;
 mod reading;
 mod start;
+mod tree;
 
 pub use laws::{oberon_law, text_law};
 pub use reading::parse;
 pub use start::begin;
+pub use tree::Tree;

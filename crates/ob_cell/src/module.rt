@@ -1,10 +1,12 @@
 //! Cells that are modules.
 
-ghost use Rattle.std.specs.Prelude.{IfOk, IfErr};
+ghost use Rattle.std.specs.Prelude.{ℕ, List, IfOk, IfErr};
 ghost use Rattle.ob_parse.specs.declared.tree.Cell.TheVariants as cells;
 ghost use Rattle.ob_mean.specs.Values.{Value};
 ghost use Rattle.ob_link.specs.Looking.{in_store};
 ghost use Rattle.ob_link.specs.Modules.{AllSolid, AllDistinct};
+ghost use Rattle.ob_load.specs.Words.{AllWords};
+ghost use Rattle.ob_cell.specs.Oberon.{IsTreeOf};
 ghost use Rattle.ob_cell.specs.Planned.{IsPlanned, IsStaticRefusal};
 
 use crate::compiled::{compiled, keyed_imports};
@@ -24,6 +26,8 @@ use std::alloc::Global;
 pub fn module_plan(alloc: Global, modules: &Modules, tree: &Module) -> Result<Plan, Refused>
     requires solid { AllSolid modules.now }
     requires distinct { AllDistinct modules.now }
+    requires words { AllWords modules.now }
+    requires read { (text : List ℕ) × IsTreeOf text (cells.Module tree.now) }
     ensures found { IfOk result (λ plan. (store : Value) → IsPlanned (in_store modules.now store) (cells.Module tree.now) plan) }
     ensures faults { IfErr result (λ refused. (store : Value) → IsStaticRefusal (in_store modules.now store) (cells.Module tree.now) refused) }
 {

@@ -7,10 +7,10 @@ ghost use Rattle.ob_session.specs.Session.{Session};
 ghost use Rattle.ob_cell.specs.Codes.{code_number};
 ghost use Rattle.ob_cell.specs.Oberon.{spoken_oberon, IsTreeOf};
 
+use crate::tree::Tree;
 use jk_language::{Fault, Refused};
 use ob_base::Code;
 use ob_parse::parse_text;
-use ob_parse::tree::Cell;
 use std::alloc::Global;
 
 /// The number of a code.
@@ -39,13 +39,13 @@ pub(crate) fn numbered(fault: ob_base::Fault) -> Fault
 /// A fault of 1 to 4 where the text has no tokens, and one of 5 to 7 where they have no tree: it has these in every session,
 /// and a text with a tree has none of them.
 /// And want of memory.
-pub fn parse(alloc: Global, text: &str) -> Result<Cell, Refused>
+pub fn parse(alloc: Global, text: &str) -> Result<Tree, Refused>
     ensures found { IfOk result (λ tree. IsTreeOf text.now tree) }
     ensures faults { IfErr result (λ refused. (session : Session) → IsRefusal spoken_oberon session text.now refused) }
     ensures unread { IfErr result (λ refused. IsUnread spoken_oberon text.now refused) }
 {
     match parse_text(alloc, text) {
-        Ok(cell) => Ok(cell),
+        Ok(cell) => Ok(Tree::of(cell)),
         Err(ob_base::Refused::Fault(fault)) => Err(Refused::Fault(numbered(fault))),
         Err(ob_base::Refused::Memory) => Err(Refused::Memory),
     }

@@ -13,11 +13,11 @@ ghost use Rattle.ob_cell.specs.Oberon.{spoken_oberon, IsTreeOf};
 use crate::cell::plan;
 use crate::planned::{Plan, Planned};
 use crate::reading::numbered;
+use crate::tree::Tree;
 use jk_language::{Begun, LinkFault, Name, Refusal};
 use ob_base::{Refused, Text};
 use ob_image::KnownFaces;
 use ob_load::{Machine, Session};
-use ob_parse::tree::Cell;
 use std::alloc::{AllocError, Global};
 
 fn begin_module(session: Session, planned: Planned) -> Result<Machine, (Session, AllocError)>
@@ -62,12 +62,12 @@ fn told_link(alloc: Global, fault: &ob_link::LinkFault) -> Result<LinkFault, All
 pub fn begin(
     alloc: Global,
     session: Session,
-    tree: &Cell,
+    tree: &Tree,
 ) -> Result<Begun<Session, Machine>, (Session, AllocError)>
     ensures begun { IfOk result (λ begun. (text : List ℕ) → IsTreeOf text tree.now → HasBegun spoken_oberon state_of session text begun) }
     ensures back { IfErr result (λ back. back.0 ≡ session) }
 {
-    match plan(alloc, session.modules(), tree) {
+    match plan(alloc, session.modules(), tree.cell()) {
         Ok(Plan::Module(planned)) => Ok(Begun::Runs(begin_module(session, planned)?)),
         Ok(Plan::Commands(commands)) => Ok(Begun::Runs(session.run_commands(commands)?)),
         Ok(Plan::Unlinked(fault)) => match told_link(alloc, &fault) {

@@ -1,8 +1,8 @@
 //! The language that a kernel runs.
 
 use jk_language::{Begun, Language, Refused, Turned};
+use ob_cell::Tree;
 use ob_load::{Machine, Session};
-use ob_parse::tree::Cell;
 use std::alloc::{AllocError, Global};
 
 /// Oberon-07 (Wirth, The Programming Language Oberon), with the modules In and Out. A cell is a module, or commands.
@@ -16,7 +16,7 @@ impl Language for Oberon {
 
     type Session = Session;
 
-    type Tree = Cell;
+    type Tree = Tree;
 
     type Machine = Machine;
 
@@ -28,14 +28,14 @@ impl Language for Oberon {
         Session::new(alloc)
     }
 
-    fn parse(alloc: Global, text: &str) -> Result<Cell, Refused> {
+    fn parse(alloc: Global, text: &str) -> Result<Tree, Refused> {
         ob_cell::parse(alloc, text)
     }
 
     fn begin(
         alloc: Global,
         session: Session,
-        tree: &Cell,
+        tree: &Tree,
     ) -> Result<Begun<Session, Machine>, (Session, AllocError)> {
         ob_cell::begin(alloc, session, tree)
     }

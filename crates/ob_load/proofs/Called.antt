@@ -1,6 +1,7 @@
 -- Commands, their calls, and what is known of their modules, one after the other.
-use Rattle.std.proofs.Common.{◌≡◌, inl, inr, Bool, ℕ, zero, suc, ◌+◌, ◌<◌, ◌≤◌, true, false, List, [], ◌∷◌, ◌++◌, length, get_or, take, Option, Some, None, refl, sym, ap, ◌∙◌, subst, arith}
+use Rattle.std.proofs.Common.{◌≡◌, ◌≢◌, ◌⊎◌, inl, inr, Bool, ℕ, zero, suc, ◌+◌, ◌<◌, ◌≤◌, true, false, List, [], ◌∷◌, ◌++◌, length, get_or, take, Option, Some, None, refl, sym, ap, ◌∙◌, subst, arith}
 use Rattle.std.specs.Prelude.{is_some, slice_get, slice_index}
+use Rattle.std.proofs.lemmas.Bool.{cases_lt}
 use Rattle.std.proofs.lemmas.List.{take_more, take_all}
 use Rattle.ob_mean.specs.declared.expression.Callee.TheVariants.{OfImport}
 use Rattle.ob_mean.specs.declared.expression.TypedExpr.{TypedExpr}
@@ -26,18 +27,23 @@ use Rattle.ob_linked.proofs.Imports.{running_at}
 use Rattle.ob_load.specs.Commanded.{AreCalled, IsCodeOfCalls, WithHome}
 use Rattle.ob_load.proofs.Loaded.{known_many, some_within}
 
--- ---- a procedure that takes and leaves nothing
+-- ---- numbers that are nowhere in a list
 
-abbrev plain : Heading
-plain = record { parameters = []; is_function = false }
+-- a number that is not among the first of a list, nor the next, is not among one more
+pub nowhere_more : (xs : List ℕ) (n x : ℕ) → ((k : ℕ) → k < n → slice_get xs k ≢ Some x) → slice_index xs n ≢ x → n < length xs → (k : ℕ) → k < n + 1 → slice_get xs k ≢ Some x
+nowhere_more xs n x h other lt k less e = by (cases_lt k n)
+  where
+    indexed : (ys : List ℕ) (j y : ℕ) → slice_get ys j ≡ Some y → slice_index ys j ≡ y
+    indexed [] j y g = absurd (let f : None ≡ Some y = g in cc)
+    indexed (z ∷ ys) zero y g = let same : Some z ≡ Some y = g in cc
+    indexed (z ∷ ys) (suc j) y g = indexed ys j y g
 
-heading_is : (ps : List Parameter) (r : Option TypedExpr) → length ps ≡ 0 → is_some r ≡ false → (let h : Heading = record { parameters = ps; is_function = is_there r } in h) ≡ plain
-heading_is [] None none lacks = refl
-heading_is [] (Some e) none lacks = absurd (let n : true ≡ false = lacks in cc)
-heading_is (p ∷ ps) r none lacks = absurd (omega (arith, none))
+    by : (k < n) ⊎ (n ≤ k) → ⊥
+    by (inl l) = h k l e
+    by (inr le) = let same : k ≡ n = omega (arith, less, le) in other (ap (slice_index xs) (sym same) ∙ indexed xs k x e)
 
-pub plain_is : (f : TypedProcedure) → length f.parameters ≡ 0 → is_some f.result ≡ false → heading_of f ≡ plain
-plain_is f none lacks = heading_is f.parameters f.result none lacks
+pub nowhere_all : (xs : List ℕ) (x : ℕ) → ((k : ℕ) → k < length xs → slice_get xs k ≢ Some x) → (k : ℕ) → slice_get xs k ≢ Some x
+nowhere_all xs x h k e = h k (some_within xs k x e) e
 
 -- ---- one more
 

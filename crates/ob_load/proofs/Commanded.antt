@@ -104,6 +104,7 @@ module _ (modules : List Module) (known : List Known) (i : vm.ImageState) (h : I
     flags = let more = length-append i.may_run (true ∷ []) in let same = h.flags in omega (arith, more, same);
     sized = as_many ∙ ap all_cells (sym alone);
     checkable = h.checkable;
+    said = h.said;
   }
 
   module _ (behind : ℕ) (there : behind ≡ length i.code) where

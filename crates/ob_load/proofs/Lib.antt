@@ -1,3 +1,4 @@
+pub mod Said
 pub mod Machines
 pub mod Finished
 pub mod Loaded

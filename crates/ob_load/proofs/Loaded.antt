@@ -14,7 +14,7 @@ use Rattle.ob_gen.proofs.machine.Behaves.{body_behaves}
 use Rattle.ob_gen.proofs.machine.Store.{before-within}
 use Rattle.ob_vm.specs.Images as vm
 use Rattle.ob_types.specs.Solid.{ExportsSolid}
-use Rattle.ob_session.specs.Session.{Module, name_of, place_of, with_module, installed, program_of}
+use Rattle.ob_session.specs.Session.{Module, name_of, place_of, link_fault, with_module, installed, program_of}
 use Rattle.ob_session.specs.Cells.{name_in}
 use Rattle.ob_store.specs.Stores.{store_of, loaded_cells, session_of}
 use Rattle.ob_store.specs.Runs.{MayBeginWith}
@@ -23,18 +23,23 @@ use Rattle.ob_store.proofs.Runs.{each_may_begin}
 use Rattle.ob_image.proofs.Counted.{compiled_counts}
 use Rattle.ob_linked.specs.Compiled.{Known, AreCompiledFrom, AllFound, AreCompiled, IsReady, faces_at, runs_in, put_at, laid}
 use Rattle.ob_link.proofs.Loads.{each_load}
+use Rattle.ob_linked.specs.Loading.{IsUnreached}
 use Rattle.ob_linked.proofs.Imports.{running_at}
 use Rattle.ob_linked.proofs.Loads.{code_loads}
 use Rattle.ob_linked.proofs.MayRun.{each_may_run}
+use Rattle.ob_linked.proofs.Running.{loaded_runs}
 use Rattle.ob_load.specs.declared.body.Beginning.{Beginning}
 use Rattle.ob_load.specs.declared.loading.Prepared.{Prepared}
 use Rattle.ob_load.specs.declared.task.Task.TheVariants.{Body}
 use Rattle.ob_load.specs.Kept.{AreCheckable, IsHeld, IsRunning, opens}
-use Rattle.ob_load.specs.Loading.{IsPrepared, HasLoaded, BodyMayBegin, put_back_at}
+use Rattle.ob_load.specs.Known.{IsSaid, AreSaid}
+use Rattle.ob_load.specs.Loading.{IsPrepared, AreFlags, BodyMayBegin, put_back_at}
 use Rattle.ob_load.specs.MachineState.{begun_in, stands_at}
 use Rattle.ob_load.specs.Names.{NamesWithin}
+use Rattle.ob_load.specs.Words.{InterfaceWords, AllWords}
 use Rattle.ob_load.proofs.Machines.{begun, begun_state}
 use Rattle.ob_load.proofs.Finished.{sized_as}
+use Rattle.ob_load.proofs.Said.{faces_agree, said_with}
 
 -- ---- lists that are put somewhere
 
@@ -120,8 +125,16 @@ code_put from (y ∷ xs) (suc n) l x le e = code_put (from + y.code.cells) xs n 
 
 -- ---- what the checker asks
 
-pub checkable_with : (ms : List Module) (m : Module) → AreCheckable ms → ExportsSolid m.interface.exports → AreCheckable (with_module ms m)
-checkable_with ms m h s = let so = each_load ms m in (so.solid h.0 s, so.distinct h.1)
+either_words : (b : Bool) (xs ys : List Module) → AllWords xs → AllWords ys → AllWords (if b then xs else ys)
+either_words true xs ys h k = h
+either_words false xs ys h k = k
+
+words_with : (ms : List Module) (m : Module) → AllWords ms → InterfaceWords m.interface → AllWords (with_module ms m)
+words_with [] m h w = (w, tt)
+words_with (x ∷ ms) m h w = either_words (bytes_eq (name_of x) (name_of m)) (m ∷ ms) (x ∷ with_module ms m) (w, h.1) (h.0, words_with ms m h.1 w)
+
+pub checkable_with : (ms : List Module) (m : Module) → AreCheckable ms → ExportsSolid m.interface.exports → InterfaceWords m.interface → AreCheckable (with_module ms m)
+checkable_with ms m h s w = let so = each_load ms m in (so.solid h.0 s, so.distinct h.1, words_with ms m h.2 w)
 
 -- ---- names that are no longer than so many characters
 
@@ -187,24 +200,25 @@ module _ (modules : List Module) (m : Module) (known : List Known) (k : Known) (
       abbrev pub beginning : ℕ → Beginning
       beginning n = record { number = n; runs = runs; cells = p.cells; room = p.room }
 
-      begins_there : HasLoaded new_modules new_known place runs.items → BodyMayBegin new_modules new_known new_code (beginning place)
-      begins_there is = record {
-        compiled = record { each = each_now; agree = is.agree };
+      begins_there : AreSaid new_modules new_known → runs_in new_modules place ≡ true → AreFlags new_modules runs.items → BodyMayBegin new_modules new_known new_code (beginning place)
+      begins_there said may is = record {
+        compiled = record { each = each_now; agree = faces_agree new_modules new_known said };
         runs = is.flags;
         flags = is.count;
         row = many_now;
-        may_run = is.may_run;
+        may_run = may;
         room = room_there p.room prepared.room;
       }
 
-      pub may_begin : (n : ℕ) (ms : List Module) (ks : List Known) (kept put c : Code) → n ≡ place → ms ≡ new_modules → ks ≡ new_known → kept ≡ code → put ≡ put_at kept n l → c ≡ laid 0 put → HasLoaded ms ks place runs.items → BodyMayBegin ms ks c (beginning n)
-      may_begin n ms ks kept put c at em ek same ep ec is =
+      pub may_begin : (n : ℕ) (ms : List Module) (ks : List Known) (kept put c : Code) → n ≡ place → ms ≡ new_modules → ks ≡ new_known → kept ≡ code → put ≡ put_at kept n l → c ≡ laid 0 put → AreSaid modules known → IsSaid m k → link_fault modules m.imports ≡ None → IsUnreached modules (name_of m) m.imports → AreFlags ms runs.items → BodyMayBegin ms ks c (beginning n)
+      may_begin n ms ks kept put c at em ek same ep ec said own links un is =
           let now : c ≡ new_code = ec ∙ ap (λ (x : Code). laid 0 x) (ep ∙ ap (λ (x : Code). put_at x n l) same ∙ ap (λ i. put_at code i l) at) in
-          let has = subst (λ (x : List Module). HasLoaded x new_known place runs.items) em (subst (λ (x : List Known). HasLoaded ms x place runs.items) ek is) in
+          let flags = subst (λ (x : List Module). AreFlags x runs.items) em is in
+          let says = said_with modules known m k said own in
           subst (λ i. BodyMayBegin ms ks c (beginning i)) (sym at)
           (subst (λ (x : Code). BodyMayBegin ms ks x (beginning place)) (sym now)
           (subst (λ (x : List Known). BodyMayBegin ms x new_code (beginning place)) (sym ek)
-          (subst (λ (x : List Module). BodyMayBegin x new_known new_code (beginning place)) (sym em) (begins_there has))))
+          (subst (λ (x : List Module). BodyMayBegin x new_known new_code (beginning place)) (sym em) (begins_there says (loaded_runs modules m links un) flags))))
 
 -- ---- the machine of a body
 
@@ -222,13 +236,14 @@ module _ (modules : List Module) (known : List Known) (code : Code) (b : Beginni
       let many = code_many modules modules known code 0 h.compiled.each in
       (omega (arith, within, many), h.runs b.number ∙ h.may_run)
 
-  held : AreCheckable modules → IsHeld modules known now
-  held checkable = record {
+  held : AreCheckable modules → AreSaid modules known → IsHeld modules known now
+  held checkable said = record {
     compiled = subst (λ (c : Code). AreCompiled modules known c) (sym alone) h.compiled;
     runs = λ n _. h.runs n;
     flags = let same = h.flags in omega (arith, same);
     sized = ap all_cells (sym alone);
     checkable = checkable;
+    said = said;
   }
 
   abbrev before_all : vm.ImageState → Config
@@ -263,9 +278,9 @@ module _ (modules : List Module) (known : List Known) (code : Code) (b : Beginni
       at_then : vm.machine_config now run ≡ before_all now
       at_then = subst (λ (x : vm.ImageState). vm.machine_config x run ≡ before_all x) e at
 
-      pub begun_on : AreCheckable modules → IsHeld modules known i × IsRunning modules (store_of modules b.cells.items) (Body b.number) [] i run false
-      begun_on solid = (
-        subst (λ (x : vm.ImageState). IsHeld modules known x) (sym e) (held solid),
+      pub begun_on : AreCheckable modules → AreSaid modules known → IsHeld modules known i × IsRunning modules (store_of modules b.cells.items) (Body b.number) [] i run false
+      begun_on solid said = (
+        subst (λ (x : vm.ImageState). IsHeld modules known x) (sym e) (held solid said),
         subst (λ (x : vm.ImageState). IsRunning modules (store_of modules b.cells.items) (Body b.number) [] x run false) (sym e) (runs_now run fits_now at_then none),
       )
 

@@ -275,6 +275,7 @@ held modules known i i' e f h = record {
   flags = let same = ap (λ (fs : List Bool). length fs) f in let long = h.flags in omega (arith, same, long);
   sized = ap all_cells e ∙ h.sized ∙ ap (λ (c : Code). all_cells (take (length modules) c)) (sym e);
   checkable = h.checkable;
+  said = h.said;
 }
 
 -- Before the first turn.

@@ -8,12 +8,17 @@ use Rattle.ob_gen.specs.Generated.{IsGenerated}
 use Rattle.ob_vm.specs.Images.{IsRoomFor}
 use Rattle.ob_session.specs.Session.{Module}
 use Rattle.ob_linked.specs.Compiled.{Known, runs_in}
-use Rattle.ob_linked.specs.CommandsCode.{AllCallable, AreCallable, commands_tree}
+use Rattle.ob_linked.specs.CommandsCode.{AllCallable, AreCallable, IsCallable, commands_tree}
 use Rattle.ob_load.specs.declared.commands.Calls.{Calls}
 
 -- one more module is imported, if it was not
 abbrev pub WithHome : List ℕ → ℕ → List ℕ → Type 0
 WithHome before home after = (after ≡ before) ⊎ (after ≡ before ++ home ∷ [])
+
+-- each is called at some place
+abbrev pub AllRunnable : List Module → List Command → Type 0
+AllRunnable modules [] = Unit {0}
+AllRunnable modules (c ∷ cs) = ((place : ℕ) × IsCallable modules c place) × AllRunnable modules cs
 
 -- commands, called through imports of modules that may run
 pub record AreCalled (modules : List Module) (cs : List Command) (homes : List ℕ) (calls : List (ℕ × ℕ)) : Type 0 where

@@ -11,17 +11,19 @@ use Rattle.ob_vm.specs.Images.{ImageState, MachineState, IsOf, AsksFor, machine_
 use Rattle.ob_session.specs.Session.{Module, program_of}
 use Rattle.ob_link.specs.Modules.{AllSolid, AllDistinct}
 use Rattle.ob_linked.specs.Compiled.{Known, AreCompiled, runs_in}
+use Rattle.ob_load.specs.Known.{AreSaid}
 use Rattle.ob_load.specs.declared.task.Task.{Task}
 use Rattle.ob_load.specs.Tasks.{task_meaning, home_of}
+use Rattle.ob_load.specs.Words.{AllWords}
 
 -- the same with this text written before
 abbrev pub prefixed : List ℕ → Config → Config
 prefixed text c = record { at = c.at; stack = c.stack; names = c.names; frames = c.frames; memory = record { cells = c.memory.cells; written = text ++ c.memory.written; input = c.memory.input } }
 
--- what the checker asks of the modules that are loaded: each array of a type that they export has elements, and no two of
--- them have one name
+-- what is asked of the modules that are loaded where one more is checked: each array of a type that they export has elements,
+-- no two of them have one name, and the names that they export are words
 abbrev pub AreCheckable : List Module → Type 0
-AreCheckable modules = AllSolid modules × AllDistinct modules
+AreCheckable modules = AllSolid modules × AllDistinct modules × AllWords modules
 
 -- between cells there is the code of the modules alone
 pub record IsKept (modules : List Module) (known : List Known) (i : ImageState) : Type 0 where
@@ -30,6 +32,7 @@ pub record IsKept (modules : List Module) (known : List Known) (i : ImageState) 
   pub flags : length i.may_run ≡ length modules
   pub cells : length i.cells ≡ all_cells i.code
   pub checkable : AreCheckable modules
+  pub said : AreSaid modules known
 
 -- behind it the code of commands may stand, which has no cells
 pub record IsHeld (modules : List Module) (known : List Known) (i : ImageState) : Type 0 where
@@ -38,6 +41,7 @@ pub record IsHeld (modules : List Module) (known : List Known) (i : ImageState) 
   pub flags : length modules ≤ length i.may_run
   pub sized : all_cells i.code ≡ all_cells (take (length modules) i.code)
   pub checkable : AreCheckable modules
+  pub said : AreSaid modules known
 
 -- before the first turn
 abbrev pub opens : List Module → Value → Task → ImageState → Config

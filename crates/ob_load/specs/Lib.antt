@@ -4,6 +4,9 @@ pub mod Tasks
 pub mod MachineState
 pub mod Given
 pub mod Names
+pub mod Words
+pub mod Said
+pub mod Known
 pub mod Kept
 pub mod Loading
 pub mod Commanded

@@ -7,7 +7,7 @@ use Rattle.ob_code.specs.Machine.{Code}
 use Rattle.ob_vm.specs.Images.{IsRoomFor}
 use Rattle.ob_session.specs.Session.{Module, import_places}
 use Rattle.ob_store.specs.Stores.{loaded_cells}
-use Rattle.ob_linked.specs.Compiled.{Known, AreCompiled, FacesAgree, put_at, runs_in}
+use Rattle.ob_linked.specs.Compiled.{Known, AreCompiled, put_at, runs_in}
 use Rattle.ob_load.specs.declared.body.Beginning.{Beginning}
 use Rattle.ob_load.specs.declared.loading.Prepared.{Prepared}
 
@@ -17,12 +17,10 @@ pub record IsPrepared (modules : List Module) (cells : List ℤ) (m : Module) (c
   pub row : p.cells.items ≡ loaded_cells modules m cells
   pub room : IsRoomFor code p.room
 
--- which modules may run, that of a number among them; what was known of imports is so
-pub record HasLoaded (modules : List Module) (known : List Known) (number : ℕ) (runs : List Bool) : Type 0 where
+-- which modules may run
+pub record AreFlags (modules : List Module) (runs : List Bool) : Type 0 where
   pub flags : (n : ℕ) → runs_of runs n ≡ runs_in modules n
   pub count : length runs ≡ length modules
-  pub agree : FacesAgree modules known
-  pub may_run : runs_in modules number ≡ true
 
 -- The body of a module may begin: the modules, what is known of them and their code go together, its code may run, and there
 -- are the cells of all variables, and room for what the body begins with.

@@ -1,15 +1,18 @@
 //! The machine of a module's body.
 
-ghost use Rattle.std.specs.Prelude.{◌≡◌, ◌≤◌, [], IfOk, IfErr, length, vec_capacity};
+ghost use Rattle.std.specs.Prelude.{◌≡◌, ◌≤◌, [], None, IfOk, IfErr, length, vec_capacity};
 ghost use Rattle.ob_types.specs.Solid.{ExportsSolid};
 ghost use Rattle.ob_gen.specs.Generated.{IsGenerated};
 ghost use Rattle.ob_linked.specs.Compiled.{AllFound};
+ghost use Rattle.ob_linked.specs.Loading.{IsUnreached};
 ghost use Rattle.ob_load.specs.Kept.{AreCheckable};
+ghost use Rattle.ob_load.specs.Known.{AreSaid, IsSaid};
 ghost use Rattle.ob_load.specs.Loading.{BodyMayBegin};
 ghost use Rattle.ob_load.specs.MachineState.{begun_in};
 ghost use Rattle.ob_load.specs.Names.{NamesWithin};
+ghost use Rattle.ob_load.specs.Words.{InterfaceWords};
 ghost use Rattle.ob_mean.specs.WellFormed.{IsFaceOf, IsWellFormed};
-ghost use Rattle.ob_session.specs.Session.{installed, name_of, place_of};
+ghost use Rattle.ob_session.specs.Session.{installed, link_fault, name_of, place_of};
 ghost use Rattle.ob_store.specs.Stores.{session_of};
 
 use crate::given::GivenLines;
@@ -45,6 +48,7 @@ fn begin(
 ) -> Machine
     requires may { BodyMayBegin modules known.items code.items beginning }
     requires checkable { AreCheckable modules }
+    requires said { AreSaid modules known.items }
     requires named { NamesWithin modules longest }
     requires empty { name.items ≡ [] }
     requires long { longest ≤ vec_capacity name }
@@ -77,13 +81,12 @@ fn begin(
 
 impl Session {
     /// Loads a module, whose code was made over what is known of its imports, and makes a machine before the first turn of its
-    /// body.
+    /// body. The module's imports link, and none of its name is reached through them. What is known of it and of its imports
+    /// is what their keys say.
     ///
     /// # Errors
     ///
-    /// Want of memory, and then the session is handed back as it was. Where what is known of some import were no longer so
-    /// though it has the recorded key, or the module did not link, the answer is want of memory too: no session of a kernel
-    /// meets this.
+    /// Want of memory, and then the session is handed back as it was.
     pub fn run_module(
         self,
         added: SessionModule,
@@ -95,6 +98,10 @@ impl Session {
         requires face { IsFaceOf faces.face added.tree }
         requires found { AllFound self.modules added.imports }
         requires solid { ExportsSolid added.interface.exports }
+        requires words { InterfaceWords added.interface }
+        requires said { IsSaid added faces }
+        requires links { link_fault self.modules added.imports ≡ None }
+        requires unreached { IsUnreached self.modules (name_of added) added.imports }
         ensures begun { IfOk result (λ m. m ≡ begun_in (installed self added) (Task.Body (place_of self.modules (name_of added)))) }
         ensures back { IfErr result (λ back. back.0 ≡ self) }
     {

@@ -1,19 +1,18 @@
 //! Commands, and the machine that runs them one after the other.
 
-ghost use Rattle.std.specs.Prelude.{◌≡◌, ℕ, ◌<◌, List, [], ◌∷◌, ◌++◌, false, true, length, vec_capacity, slice_get, IsTrue, IfSome, IfOk, IfErr, Some, EachIndex, slice_index, OnOk};
-ghost use Rattle.ob_code.specs.Linked.{runs_of};
+ghost use Rattle.std.specs.Prelude.{◌≡◌, ◌≢◌, ℕ, ◌<◌, List, [], ◌∷◌, ◌++◌, length, vec_capacity, slice_get, IfSome, IfOk, IfErr, Some, None, EachIndex, slice_index, OnOk};
 ghost use Rattle.ob_code.specs.Machine.{Code};
 ghost use Rattle.ob_linked.specs.CommandsCode as code;
 ghost use Rattle.ob_linked.specs.CommandsCode.{IsCallable};
-ghost use Rattle.ob_linked.specs.Compiled.{face_in, runs_in, AreCompiled, AreKnown};
-ghost use Rattle.ob_load.specs.Commanded.{AreCalled, AreReady, IsCodeOfCalls, WithHome};
+ghost use Rattle.ob_linked.specs.Compiled.{face_in, AreCompiled, AreKnown};
+ghost use Rattle.ob_load.specs.Commanded.{AllRunnable, AreCalled, AreReady, IsCodeOfCalls, WithHome};
 ghost use Rattle.ob_load.specs.MachineState.{begun_in};
 ghost use Rattle.ob_load.specs.declared.task.Task.TheVariants as task;
 ghost use Rattle.ob_mean.specs.declared.expression.Callee.TheVariants as callee;
 ghost use Rattle.ob_mean.specs.declared.statement.Action.TheVariants as action;
 ghost use Rattle.ob_mean.specs.declared.statement.TypedStatement.TheVariants as statement;
 ghost use Rattle.ob_mean.specs.Programs as programs;
-ghost use Rattle.ob_mean.specs.WellFormed.{heading_of, own_heading};
+ghost use Rattle.ob_session.specs.Cells.{CommandName, Runs, all_ready};
 
 use crate::given::GivenLines;
 use crate::machine::Machine;
@@ -25,31 +24,16 @@ use ob_code::instr::LinkedModule;
 use ob_gen::generate;
 use ob_image::{KnownFaces, copy_face};
 use ob_link::{Command, Modules};
-use ob_mean::{Action, Callee, Face, TypedModule, TypedProcedure, TypedStatement};
+use ob_mean::{Action, Callee, Face, TypedModule, TypedStatement};
 use ob_vm::{Image, Room};
 use std::alloc::{AllocError, Global};
 use std::snapshot::Snapshot;
 
-// Whether a procedure takes and leaves nothing.
-fn is_plain(procedure: &TypedProcedure) -> bool
-    ensures { IsTrue result → heading_of procedure.now ≡ record { parameters = []; is_function = false } }
-{
-    procedure.parameters.len() == 0 && procedure.result.is_none()
-}
-
-// The same of the procedure of this number.
-fn is_plain_at(procedures: &[TypedProcedure], number: usize) -> bool
-    ensures { IsTrue result → own_heading (slice_get procedures.now number) ≡ Some (record { parameters = []; is_function = false }) }
-{
-    match procedures.get(number) {
-        Some(procedure) => is_plain(procedure),
-        None => false,
-    }
-}
-
-// Where among these numbers one stands.
+// Where among these numbers one stands, if it does.
+#[tactic(auto, using(crate::proofs::Called::nowhere_more, crate::proofs::Called::nowhere_all))]
 fn place_in(numbers: &[usize], number: usize) -> Option<usize>
-    ensures { IfSome result (λ place. slice_get numbers.now place ≡ Some number) }
+    ensures there { IfSome result (λ place. slice_get numbers.now place ≡ Some number) }
+    ensures nowhere { result ≡ None → (place : ℕ) → slice_get numbers.now place ≢ Some number }
 {
     for place in 0..numbers.len() {
         if numbers[place] == number {
@@ -60,23 +44,14 @@ fn place_in(numbers: &[usize], number: usize) -> Option<usize>
 }
 
 // Where a command's procedure stands among those that its module exports.
-fn place_of(modules: &Modules, runs: &[bool], command: Command) -> Option<usize>
-    requires { (n : ℕ) → runs_of runs.now n ≡ runs_in modules.now n }
-    ensures { IfSome result (IsCallable modules.now command) }
+fn place_of(modules: &Modules, command: Command) -> usize
+    requires { (place : ℕ) × IsCallable modules.now command place }
+    ensures { IsCallable modules.now command result }
 {
-    match (
-        runs.get(command.home()),
-        modules.as_slice().get(command.home()),
-    ) {
-        (Some(true), Some(module)) => {
-            let tree = module.tree();
-            if is_plain_at(tree.procedures.as_slice(), command.procedure()) {
-                place_in(tree.exported.as_slice(), command.procedure())
-            } else {
-                None
-            }
-        }
-        _ => None,
+    let tree = modules.as_slice()[command.home()].tree();
+    match place_in(tree.exported.as_slice(), command.procedure()) {
+        Some(place) => place,
+        None => unreachable!(),
     }
 }
 
@@ -102,22 +77,18 @@ struct Called {
     calls: Vec<(usize, usize)>,
 }
 
-// The calls of commands. Where a command has no place, the answer is want of memory.
-fn all_calls(modules: &Modules, runs: &[bool], commands: &[Command]) -> Result<Called, AllocError>
-    requires { (n : ℕ) → runs_of runs.now n ≡ runs_in modules.now n }
+// The calls of commands.
+fn all_calls(modules: &Modules, commands: &[Command]) -> Result<Called, AllocError>
+    requires { AllRunnable modules.now commands.now }
     ensures { IfOk result (λ c. AreCalled modules.now commands.now c.homes.items c.calls.items) }
 {
     let alloc = modules.alloc();
     let mut homes = Vec::new(alloc);
     let mut calls = Vec::new(alloc);
     for command in commands {
-        match place_of(modules, runs, *command) {
-            Some(place) => {
-                let import = import_of(&mut homes, command.home())?;
-                calls.push((import, place))?;
-            }
-            None => return Err(AllocError),
-        }
+        let place = place_of(modules, *command);
+        let import = import_of(&mut homes, command.home())?;
+        calls.push((import, place))?;
     }
     Ok(Called { homes, calls })
 }
@@ -198,16 +169,15 @@ pub(crate) struct Calls {
 fn calls_of(
     modules: &Modules,
     known: &[KnownFaces],
-    runs: &[bool],
     commands: &[Command],
     longest: usize,
 ) -> Result<Calls, AllocError>
     requires compiled { (all : Code) × AreCompiled modules.now known.now all }
-    requires flags { (n : ℕ) → runs_of runs.now n ≡ runs_in modules.now n }
+    requires runnable { AllRunnable modules.now commands.now }
     ensures { IfOk result (AreReady modules.now known.now commands.now longest) }
 {
     let alloc = modules.alloc();
-    let Called { homes, calls } = all_calls(modules, runs, commands)?;
+    let Called { homes, calls } = all_calls(modules, commands)?;
     let code = commands_code(modules, known, homes.as_slice(), calls.as_slice())?;
     let name = Vec::with_capacity(alloc, longest)?;
     let room = ob_vm::Machine::room(alloc, &code)?;
@@ -229,7 +199,7 @@ fn ready(
     longest: usize,
 ) -> Result<Calls, AllocError>
     requires compiled { AreCompiled modules.now known.now code.old.items }
-    requires flags { (n : ℕ) → runs_of runs.old.items n ≡ runs_in modules.now n }
+    requires runnable { AllRunnable modules.now commands.now }
     ensures ready { IfOk result (AreReady modules.now known.now commands.now longest) }
     ensures code { code.new.items ≡ code.old.items }
     ensures flags { runs.new.items ≡ runs.old.items }
@@ -238,7 +208,7 @@ fn ready(
 {
     code.reserve(1)?;
     runs.reserve(1)?;
-    calls_of(modules, known, runs.as_slice(), commands, longest)
+    calls_of(modules, known, commands, longest)
 }
 
 impl Session {
@@ -246,10 +216,9 @@ impl Session {
     ///
     /// # Errors
     ///
-    /// Want of memory, and then the session is handed back as it was. Where one of the commands were not the number of a
-    /// procedure that a module that may run exports, and that takes and leaves nothing, the answer is want of memory too: no
-    /// command that was looked up is so.
+    /// Want of memory, and then the session is handed back as it was.
     pub fn run_commands(self, commands: Vec<Command>) -> Result<Machine, (Session, AllocError)>
+        requires { (names : List CommandName) × (all_ready self names ≡ Runs commands.items) }
         ensures begun { IfOk result (λ m. m ≡ begun_in self (task.Commands commands)) }
         ensures back { IfErr result (λ back. back.0 ≡ self) }
     {

@@ -1,19 +1,21 @@
 //! A module that is loaded, with what is known of it and with its code.
 
-ghost use Rattle.std.specs.Prelude.{◌≡◌, ℕ, List, ◌<◌, ◌≤◌, length, vec_capacity, slice_get, OnOk, OnErr, IfOk};
-ghost use Rattle.ob_code.specs.Linked.{all_cells, runs_of};
+ghost use Rattle.std.specs.Prelude.{◌≡◌, List, ◌<◌, ◌≤◌, None, length, vec_capacity, slice_get, OnOk, OnErr, IfOk};
+ghost use Rattle.ob_code.specs.Linked.{all_cells};
 ghost use Rattle.ob_gen.specs.Generated.{IsGenerated};
-ghost use Rattle.ob_linked.specs.Compiled.{runs_in, AllFound, AreCompiledFrom, FacesAgree, Known};
+ghost use Rattle.ob_linked.specs.Compiled.{AllFound, AreCompiledFrom, Known};
 ghost use Rattle.ob_linked.specs.Compiled as linked;
-ghost use Rattle.ob_load.specs.Loading.{HasLoaded, IsPrepared, BodyMayBegin, put_back_at};
+ghost use Rattle.ob_linked.specs.Loading.{IsUnreached};
+ghost use Rattle.ob_load.specs.Known.{AreSaid, IsSaid};
+ghost use Rattle.ob_load.specs.Loading.{AreFlags, IsPrepared, BodyMayBegin, put_back_at};
 ghost use Rattle.ob_mean.specs.WellFormed.{IsFaceOf, IsWellFormed};
-ghost use Rattle.ob_session.specs.Session.{name_of, place_of, with_module};
+ghost use Rattle.ob_session.specs.Session.{link_fault, name_of, place_of, with_module};
 ghost use Rattle.ob_store.specs.Stores as stores;
 
 use crate::body::Beginning;
 use ob_code::checked::Checked;
 use ob_code::instr::LinkedModule;
-use ob_image::{KnownFaces, agree, bounds, lay, loaded_cells, put_at};
+use ob_image::{KnownFaces, bounds, lay, loaded_cells, put_at};
 use ob_link::{Modules, SessionModule};
 use ob_vm::Room;
 use std::alloc::AllocError;
@@ -59,32 +61,12 @@ fn prepare(
     })
 }
 
-// Which modules may run. What was known of their imports is so; where it were not, the answer is want of memory.
-fn running(modules: &Modules, known: &[KnownFaces]) -> Result<Vec<bool>, AllocError>
-    ensures runs { IfOk result (λ flags. (n : ℕ) → runs_of flags.items n ≡ runs_in modules.now n) }
-    ensures count { IfOk result (λ flags. length flags.items ≡ length modules.now) }
-    ensures agree { IfOk result (λ flags. FacesAgree modules.now known.now) }
+// Which modules may run.
+fn running(modules: &Modules) -> Result<Vec<bool>, AllocError>
+    ensures { IfOk result (λ flags. AreFlags modules.now flags.items) }
 {
     let flags = modules.may_run()?;
-    if agree(modules, known, flags.as_slice()) {
-        Ok(flags)
-    } else {
-        Err(AllocError)
-    }
-}
-
-fn after_loading(
-    modules: &Modules,
-    known: &[KnownFaces],
-    number: usize,
-) -> Result<Vec<bool>, AllocError>
-    ensures { IfOk result (λ runs. HasLoaded modules.now known.now number runs.items) }
-{
-    let runs = running(modules, known)?;
-    match runs.get(number) {
-        Some(true) => Ok(runs),
-        _ => Err(AllocError),
-    }
+    Ok(flags)
 }
 
 // In the place of what was known, which comes back, or behind all that is known.
@@ -123,14 +105,14 @@ fn take_place(
     requires sides { length known.old.items ≡ length modules.old }
     ensures modules { OnOk result (modules.new ≡ with_module modules.old added) }
     ensures known { OnOk result (known.new.items ≡ linked.put_at known.old.items (place_of modules.old (name_of added)) faces) }
-    ensures loaded { IfOk result (λ runs. HasLoaded modules.new known.new.items (place_of modules.old (name_of added)) runs.items) }
+    ensures flags { IfOk result (λ runs. AreFlags modules.new runs.items) }
     ensures err { OnErr result ((modules.new ≡ modules.old) × (known.new.items ≡ known.old.items)) }
 {
     known.reserve(1)?;
     let number = modules.place_of(added.interface().name());
     let back = modules.exchange(added)?;
     let before = put_known(known, number, faces);
-    match after_loading(modules, known.as_slice(), number) {
+    match running(modules) {
         Ok(runs) => Ok(runs),
         Err(error) => {
             modules.restore(back);
@@ -154,8 +136,13 @@ pub(crate) fn load(
     requires generated { IsGenerated compiled.faces.faces compiled.added.tree compiled.code }
     requires face { IsFaceOf compiled.faces.face compiled.added.tree }
     requires found { AllFound modules.old compiled.added.imports }
+    requires known { AreSaid modules.old known.old.items }
+    requires said { IsSaid compiled.added compiled.faces }
+    requires links { link_fault modules.old compiled.added.imports ≡ None }
+    requires unreached { IsUnreached modules.old (name_of compiled.added) compiled.added.imports }
     ensures modules { OnOk result (modules.new ≡ with_module modules.old compiled.added) }
     ensures may { IfOk result (λ b. BodyMayBegin modules.new known.new.items code.new.items b) }
+    ensures known { OnOk result (known.new.items ≡ linked.put_at known.old.items (place_of modules.old (name_of compiled.added)) compiled.faces) }
     ensures cells { IfOk result (λ b. b.cells.items ≡ stores.loaded_cells modules.old compiled.added cells.now) }
     ensures number { IfOk result (λ b. b.number ≡ place_of modules.old (name_of compiled.added)) }
     ensures err { OnErr result ((modules.new ≡ modules.old) × ((known.new.items ≡ known.old.items) × (code.new.items ≡ code.old.items))) }

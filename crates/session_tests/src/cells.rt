@@ -42,8 +42,8 @@ fn given(machine: &mut Machine, turned: Turned, line: Option<&str>) -> Result<Tu
 enum Pace<'a> {
     // To its end, with these lines and none after them.
     Whole(&'a [&'a str]),
-    // In so many slices of so many turns, and no further.
-    Slices(u32, u64),
+    // In so many slices of so many turns, and no further, with these lines and none after them.
+    Slices(u32, u64, &'a [&'a str]),
 }
 
 // Runs a machine to its end: what it writes, and `!` with the number, the module and the line of a trap.
@@ -72,23 +72,49 @@ fn ran(
     Ok(Oberon::finish(machine))
 }
 
+// A slice, and the next line where one was asked for. Whether it goes on.
+fn one_slice(machine: &mut Machine, most: u64, lines: &mut Vec<&str>) -> Result<bool, AllocError>
+    requires on { (state_of machine.old).over ≡ false }
+    requires few { most ≤ 1000000 }
+    ensures { IfOk result (λ goes_on. goes_on ≡ true → (state_of machine.new).over ≡ false) }
+{
+    match slice(machine, most) {
+        Turned::Stopped => Ok(true),
+        Turned::NeedsLine => {
+            Oberon::give_line(machine, lines.pop())?;
+            Ok(true)
+        }
+        _ => Ok(false),
+    }
+}
+
+// The last of these lines first.
+fn last_first<'a>(alloc: Global, lines: &[&'a str]) -> Result<Vec<&'a str>, AllocError> {
+    let mut back = Vec::new(alloc);
+    for line in lines.iter().rev() {
+        back.push(*line)?;
+    }
+    Ok(back)
+}
+
 // Runs a machine slice by slice: what it writes.
 fn sliced(
     machine: Machine,
     count: u32,
     most: u64,
+    lines: Vec<&str>,
     written: &mut String,
 ) -> Result<Session, AllocError>
     requires on { (state_of machine).over ≡ false }
     requires few { most ≤ 1000000 }
 {
     let mut machine = machine;
+    let mut lines = lines;
     for _ in 0..count {
-        let turned = slice(&mut machine, most);
+        let goes_on = one_slice(&mut machine, most, &mut lines)?;
         written.push_str(Oberon::take_output(&mut machine).as_str())?;
-        match turned {
-            Turned::Stopped => {}
-            _ => break,
+        if !goes_on {
+            break;
         }
     }
     Ok(Oberon::finish(machine))
@@ -150,7 +176,10 @@ fn one(
     let after = match Oberon::begin(alloc, session, &tree) {
         Ok(Begun::Runs(machine)) => match pace {
             Pace::Whole(lines) => ran(alloc, machine, *lines, written)?,
-            Pace::Slices(count, most) => sliced(machine, *count, (*most).min(1_000_000), written)?,
+            Pace::Slices(count, most, lines) => {
+                let waiting = last_first(alloc, *lines)?;
+                sliced(machine, *count, (*most).min(1_000_000), waiting, written)?
+            }
         },
         Ok(Begun::Refused(back, refusal)) => {
             refused(written, &refusal)?;
@@ -291,10 +320,27 @@ const STEPS: &str =
 fn slices_are_one_run(rt: HostRuntime) -> Result<(), Fail> {
     let whole = cells(rt.alloc(), &[STEPS, "G.Show"])?;
     assert_eq!(rt; whole.as_str(), "  500 1000 1500 2000|2000|");
-    let slices = cells_at(rt.alloc(), &[STEPS, "G.Show"], &Pace::Slices(1000, 3))?;
+    let slices = cells_at(rt.alloc(), &[STEPS, "G.Show"], &Pace::Slices(1000, 3, &[]))?;
     assert_eq!(rt; slices.as_str(), whole.as_str());
-    let stopped = cells_at(rt.alloc(), &[STEPS, "G.Show"], &Pace::Slices(1, 1001))?;
+    let ones = cells_at(rt.alloc(), &[STEPS, "G.Show"], &Pace::Slices(3000, 1, &[]))?;
+    assert_eq!(rt; ones.as_str(), whole.as_str());
+    let stopped = cells_at(rt.alloc(), &[STEPS, "G.Show"], &Pace::Slices(1, 1001, &[]))?;
     assert_eq!(rt; stopped.as_str(), "  500|1000|");
+    Ok(())
+}
+
+#[test]
+fn lines_are_read_in_slices(rt: HostRuntime) -> Result<(), Fail> {
+    for most in [1, 3, 1000] {
+        let two = cells_at(
+            rt.alloc(),
+            &[READER, READER],
+            &Pace::Slices(100, most, &["40", "-2 7"]),
+        )?;
+        assert_eq!(rt; two.as_str(), "42!|42!|");
+        let one = cells_at(rt.alloc(), &[READER], &Pace::Slices(100, most, &["", "40"]))?;
+        assert_eq!(rt; one.as_str(), "35|");
+    }
     Ok(())
 }
 

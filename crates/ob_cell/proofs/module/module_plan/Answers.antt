@@ -7,7 +7,7 @@ use Rattle.ob_session.specs.Session.{Module, link_fault}
 use Rattle.ob_session.specs.Cells.{OfModule}
 use Rattle.ob_compile.proofs.Checked.{each_compilable}
 use Rattle.ob_cell.specs.Texts as meaning
-use Rattle.ob_cell.proofs.Rules.{all_loaded, answered, each_solid, err_found, same_faults, loadable, memory_faults, memory_found, rules_faults}
+use Rattle.ob_cell.proofs.Rules.{all_loaded, answered, each_solid, err_found, same_faults, loadable, right, memory_faults, memory_found, rules_faults}
 use Rattle.ob_cell.proofs.module.module_plan.Goals as goal
 
 pub loaded_for-requires : goal.loaded_for-requires
@@ -81,5 +81,6 @@ returns-clause-found c = λ store.
     let keyed = c.as_slice.ensures ∙ c.in_ok-imports.ensures ∙ ap (map meaning.import_of) c.imports.ensures in
     let links = ap (link_fault modules) (sym keyed) ∙ sym c.in_ok-name.ensures ∙ c.in-None.is in (
       answered modules store m checked rules_give ∙ ap (λ (x : Module). Ok (OfModule x)) (sym planned.ensures.same),
-      loadable modules m.name.name loaded checked planned.planned c.in_ok-loaded.ensures (all_loaded loaded checked.imports _ ready.known) planned.ensures.same planned.ensures.compiled planned.ensures.faces links,
+      loadable modules m.name.name loaded checked planned.planned c.in_ok-loaded.ensures (all_loaded loaded checked.imports _ ready.known) planned.ensures.same planned.ensures.compiled planned.ensures.faces links
+          (right modules m loaded checked c.requires.words c.requires.read.0 c.requires.read.1 c.in_ok-loaded.ensures c.in_ok-checked.ensures.found),
     )

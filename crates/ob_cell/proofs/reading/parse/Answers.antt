@@ -1,13 +1,17 @@
-use Rattle.std.proofs.Common.{Err, inl, subst}
+use Rattle.std.proofs.Common.{Err, inl, sym, subst}
 use Rattle.ob_base.specs.declared.fault.Refused as base
 use Rattle.ob_parse.specs.CellText.{FaultsBreak}
 use Rattle.ob_parse.specs.Grammar.{AnswersTree}
 use Rattle.ob_cell.specs.Oberon.{IsTreeOf, IsBroken}
 use Rattle.ob_cell.proofs.reading.parse.Goals as goal
 
+pub of-requires : goal.of-requires
+unfolding IsTreeOf
+of-requires c = (c.args.text.now, c.in-Ok.ensures.found)
+
 pub returns-in-Ok-clause-found : goal.returns-in-Ok-clause-found
 unfolding IsTreeOf
-returns-in-Ok-clause-found c = c.in-Ok.ensures.found
+returns-in-Ok-clause-found c = subst (IsTreeOf c.args.text.now) (sym c.of.ensures) c.in-Ok.ensures.found
 
 pub returns-in-Err-Fault-clause-faults : goal.returns-in-Err-Fault-clause-faults
 unfolding IsBroken

@@ -26,7 +26,7 @@ invariant_of-result c =
     let b = c.args.beginning in
     let i = c.of-image.result in
     let run = c.start-run.result in
-    let on = begun_on ms c.args.known.items c.args.code.items b c.requires.may i c.of-image.ensures run c.start-run.ensures.fits c.start-run.ensures.begins c.start-run.ensures.used c.requires.checkable in (
+    let on = begun_on ms c.args.known.items c.args.code.items b c.requires.may i c.of-image.ensures run c.start-run.ensures.fits c.start-run.ensures.begins c.start-run.ensures.used c.requires.checkable c.requires.said in (
       on.0,
       subst (λ (ls : List Line). IsRunning ms (store_of ms c.of-opening.result.value.items) (Body b.number) ls i run false) (sym c.none.ensures)
           (subst (λ (v : Vec ℤ Global). IsRunning ms (store_of ms v.items) (Body b.number) [] i run false) (sym c.of-opening.ensures) on.1),

@@ -47,4 +47,5 @@ returns-clause-may c =
     let ready = is_ready ms m k c.args.cells.now code p c.requires.formed generated c.requires.face c.requires.found prepared in
     may_begin ms m c.args.known.now.items k c.args.code.now.items _ c.requires.compiled ready c.args.cells.now c.requires.cells p prepared c.in_ok-runs.runs
     c.place_of-number.result c.take_place.new.modules c.take_place.new.known.items c.reserve.new.self.items c.put_at.new.items.items c.lay.new.code.items
-    at c.in_ok-runs.ensures.modules c.in_ok-runs.ensures.known c.in_ok-reserve.ensures.items c.put_at.ensures c.lay.ensures c.in_ok-runs.ensures.loaded
+    at c.in_ok-runs.ensures.modules c.in_ok-runs.ensures.known c.in_ok-reserve.ensures.items c.put_at.ensures c.lay.ensures
+    c.requires.known c.requires.said c.requires.links c.requires.unreached c.in_ok-runs.ensures.flags

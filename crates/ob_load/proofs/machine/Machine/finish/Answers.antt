@@ -88,6 +88,7 @@ invariant_of-result c =
         flags = ap (λ (fs : List Bool). length fs) (flags_are_then c) ∙ as_many c.self.inside.modules c.turns-turned.new.image.may_run h.flags;
         cells = many_then c;
         checkable = h.checkable;
+        said = h.said;
       }),
       c.self.invariant.2,
     )

@@ -6,13 +6,21 @@ use Rattle.ob_code.specs.Machine.{Code, start}
 use Rattle.ob_vm.specs.Images as vm
 use Rattle.ob_session.specs.Session.{Session, Module}
 use Rattle.ob_store.specs.Stores.{store_of, session_of}
-use Rattle.ob_load.specs.Commanded.{AreReady}
+use Rattle.ob_session.specs.Cells.{Runs, all_ready}
+use Rattle.ob_load.specs.Commanded.{AllRunnable, AreReady}
 use Rattle.ob_load.specs.declared.task.Task.TheVariants.{Commands}
 use Rattle.ob_load.specs.Kept.{IsHeld, IsRunning}
 use Rattle.ob_load.specs.MachineState.{begun_in, stands_at}
 use Rattle.ob_load.proofs.Commanded.{ready_for, image_of, now, linked_now, valid_now, many_now, held_now, can_run, room_now, runs_now, state_now}
 use Rattle.ob_load.proofs.Loaded.{within_more}
+use Rattle.ob_load.proofs.Said.{runnable}
 use Rattle.ob_load.proofs.session.Session.run_commands.Goals as goal
+
+pub ready-requires-clause-runnable : goal.ready-requires-clause-runnable
+ready-requires-clause-runnable c =
+    let s : Session = record { modules = c.self.inside.modules; store = store_of c.self.inside.modules c.self.inside.image.cells } in
+    let looked = subst (λ (x : Session). all_ready x c.requires.0 ≡ Runs c.args.commands.items) (sym c.self.view_is) c.requires.1 in
+    subst (AllRunnable c.self.inside.modules) (sym c.as_slice-2.ensures.value) (runnable s c.self.inside.known.items c.self.invariant.0.said c.requires.0 c.args.commands.items looked)
 
 module _ (c : goal.After-of-opening) where
   abbrev last : LinkedModule

@@ -9,14 +9,22 @@ use Rattle.ob_store.specs.Stores.{loaded_cells, session_of}
 use Rattle.ob_linked.specs.Compiled.{Known}
 use Rattle.ob_load.specs.declared.task.Task.TheVariants.{Body}
 use Rattle.ob_load.specs.Kept.{AreCheckable, IsKept}
+use Rattle.ob_load.specs.Known.{AreSaid}
 use Rattle.ob_load.specs.MachineState.{begun_in}
 use Rattle.ob_load.specs.Names.{NamesWithin}
+use Rattle.ob_load.proofs.Said.{said_with}
 use Rattle.ob_load.proofs.Loaded.{checkable_with, same_image, store_is, within_more, within_with}
 use Rattle.ob_load.proofs.session.Session.run_module.Goals as goal
 
 pub begin-requires-clause-checkable : goal.begin-requires-clause-checkable
 begin-requires-clause-checkable c =
-    subst (λ (ms : List Module). AreCheckable ms) (sym c.in-Ok-load.ensures.modules) (checkable_with c.self.inside.modules c.args.added c.self.invariant.0.checkable c.requires.solid)
+    subst (λ (ms : List Module). AreCheckable ms) (sym c.in-Ok-load.ensures.modules) (checkable_with c.self.inside.modules c.args.added c.self.invariant.0.checkable c.requires.solid c.requires.words)
+
+pub begin-requires-clause-said : goal.begin-requires-clause-said
+begin-requires-clause-said c =
+    subst (λ (ms : List Module). AreSaid ms c.load.new.known.items) (sym c.in-Ok-load.ensures.modules)
+    (subst (λ (ks : List Known). AreSaid (with_module c.self.inside.modules c.args.added) ks) (sym c.in-Ok-load.ensures.known)
+    (said_with c.self.inside.modules c.self.inside.known.items c.args.added c.args.faces c.self.invariant.0.said c.requires.said))
 
 pub of-image-requires-clause-valid : goal.of-image-requires-clause-valid
 of-image-requires-clause-valid c =

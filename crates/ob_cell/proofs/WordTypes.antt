@@ -1,0 +1,273 @@
+-- Types as they are written have names that are words, where those that they name have.
+use Rattle.std.proofs.Common.{◌≡◌, ◌<◌, ◌^◌, ℕ, zero, suc, ◌+◌, pos, negsuc, nat_le, ◌&&◌, ◌++◌, map, reverse, Bool, true, false, cond, List, [], ◌∷◌, Option, Some, None, slice_get, refl, sym, ap, ◌∙◌, subst, arith}
+use Rattle.std.proofs.lemmas.Bool.Decides.{nat_tests}
+use Rattle.std.proofs.lemmas.List.{reverse-append}
+use Rattle.std.specs.Str.{bytes_eq}
+use Rattle.ob_base.specs.declared.fault.Code.{Code}
+use Rattle.ob_base.specs.declared.fault.Code.TheVariants as code
+use Rattle.ob_parse.specs.declared.tree.Expr.{Expr}
+use Rattle.ob_parse.specs.declared.tree.FormalType.{FormalType, out-FormalType}
+use Rattle.ob_parse.specs.declared.tree.FormalType.TheOpen.{FormalType-F}
+use Rattle.ob_parse.specs.declared.tree.Ident.{Ident}
+use Rattle.ob_parse.specs.declared.tree.IdentDef.{IdentDef}
+use Rattle.ob_parse.specs.declared.tree.Qualident.{Qualident}
+use Rattle.ob_parse.specs.declared.tree.TypeExpr.{TypeExpr, out-TypeExpr}
+use Rattle.ob_parse.specs.declared.tree.TypedNames.{TypedNames, out-TypedNames}
+use Rattle.ob_parse.specs.declared.tree.TypeExpr.TheOpen.{TypeExpr-F}
+use Rattle.ob_types.specs.declared.exports.Constant.{Constant}
+use Rattle.ob_types.specs.declared.exports.Constant.TheVariants as constant
+use Rattle.ob_types.specs.declared.exports.Exported.{Exported}
+use Rattle.ob_types.specs.declared.exports.Object.{Object}
+use Rattle.ob_types.specs.declared.exports.Object.TheVariants as object
+use Rattle.ob_types.specs.declared.structure.Field.{Field}
+use Rattle.ob_types.specs.declared.structure.ObType.{ObType}
+use Rattle.ob_types.specs.declared.structure.ObType.TheVariants.{Array, Open, Record}
+use Rattle.ob_types.specs.declared.structure.ObType.TheBlock as block
+use Rattle.ob_types.specs.declared.structure.ObType.TheBlock.{Row_of-Field, end_of-Field, more_of-Field, items-the_row-Field, items_shown-the_row-Field-1}
+use Rattle.ob_types.specs.declared.structure.RecordName.{RecordName}
+use Rattle.ob_types.specs.declared.structure.RecordType.{RecordType, RecordType', out-RecordType, roll-RecordType, out-roll-RecordType}
+use Rattle.ob_declare.specs.declared.block.Entry.{Entry}
+use Rattle.ob_declare.specs.declared.block.Entry.TheVariants as entry
+use Rattle.ob_declare.specs.declared.predeclared.Predeclared.{Predeclared}
+use Rattle.ob_declare.specs.declared.predeclared.Predeclared.TheVariants as predeclared
+use Rattle.ob_declare.specs.declared.scope.Scope.{Scope}
+use Rattle.ob_declare.specs.declared.written_type.Written.{Written}
+use Rattle.ob_declare.specs.declared.written_type.Fields.{Fields}
+use Rattle.ob_declare.specs.Exports.{Modules, exported_in}
+use Rattle.ob_declare.specs.Headings.{open_of, formal_layer, formal_rule, inner_formal, formal_at}
+use Rattle.ob_declare.specs.Imports.{exported_at, exported_by}
+use Rattle.ob_declare.specs.LoadedTree.{LoadedTree}
+use Rattle.ob_declare.specs.Rule.{Rule, gives, there, through}
+use Rattle.ob_declare.specs.Scope.{seen, outer}
+use Rattle.ob_declare.specs.WrittenTypes.{predeclared_type, own_type, object_type, other_type, qualified, type_named, length_of, next_length, array_of, field_of, next_fields, no_fields, record_rule, type_layer, type_rule, inner_constant, inner_type, type_at, numbered}
+use Rattle.ob_load.specs.Words.{IsWord, RecordWords, TypeWords, RowWords, FieldWords, ObjectWords, ExportWords, InterfaceWords}
+use Rattle.ob_cell.proofs.Spelled.{Each, NameIn, TypedIn, LayerIn, InnerIn, TypeIn}
+
+-- ---- what rules give
+
+pub through_keeps : {S A : Type 0} (P : S → Type 0) (Q : A → Type 0) (r : S → A → Rule S) → ((s : S) (a : A) (t : S) → Q a → gives (r s a) t → P s → P t) → (s : S) (xs : List A) (t : S) → Each Q xs → gives (through r s xs) t → P s → P t
+through_keeps P Q r step s [] t q h p = subst P h p
+through_keeps P Q r step s (x ∷ xs) t q h p = through_keeps P Q r step h.0 xs t q.1 h.2 (step s x h.0 q.0 h.1 p)
+
+pub always : {A : Type 0} (xs : List A) → Each (λ x. Unit {0}) xs
+always [] = tt
+always (x ∷ xs) = (tt, always xs)
+
+pub there_is : {A : Type 0} (o : Option A) (c : Code) (a : A) → gives (there o c) a → o ≡ Some a
+there_is None c a h = absurd h
+there_is (Some x) c a h = ap Some h
+
+pub some_same : {A : Type 0} (x y : A) → Some x ≡ Some y → x ≡ y
+some_same x y e = cc
+
+pub nothing : {A : Type 0} {B : Type 0} (x : A) → None ≡ Some x → B
+nothing x e = absurd (let f : None ≡ Some x = e in cc)
+
+-- ---- parts of types
+
+row_words : (k : _) (fields : Row_of-Field k) → RowWords fields ≡ FieldWords (items-the_row-Field k fields)
+row_words k end_of-Field = refl
+row_words k (more_of-Field name e of rest) = ap (λ l. IsWord name × TypeWords of × l) (row_words _ rest)
+
+record_words : (r : RecordType) → TypeWords (Record r) ≡ (RecordWords (out-RecordType r).name × FieldWords (out-RecordType r).fields)
+unfolding out-RecordType denote.Hole.Carrier.out
+record_words (RecordType' name k fields) = ap (λ l. RecordWords name × l) (row_words _ fields ∙ ap FieldWords (sym (items_shown-the_row-Field-1 k fields)))
+
+array_words : (n : ℕ) (e : ObType) → TypeWords (Array n e) ≡ ((n < 2 ^ 64) × TypeWords e)
+unfolding block.hidden-the_row-ObType-0 denote.Hole.Carrier.hidden
+array_words n e = refl
+
+open_words : (e : ObType) → TypeWords (Open e) ≡ TypeWords e
+unfolding block.hidden-the_row-ObType-0 denote.Hole.Carrier.hidden
+open_words e = refl
+
+-- ---- loaded modules
+
+abbrev pub LoadedWords : Modules → Type 0
+LoadedWords [] = Unit {0}
+LoadedWords (m ∷ ms) = InterfaceWords m.interface × LoadedWords ms
+
+exported_by_name : (e : Exported) (es : List Exported) (name : List ℕ) (o : Object) (b : Bool) → ObjectWords e.object → (exported_in es name ≡ Some o → ObjectWords o) → cond b (Some e.object) (exported_in es name) ≡ Some o → ObjectWords o
+exported_by_name e es name o true h g k = subst ObjectWords (some_same e.object o k) h
+exported_by_name e es name o false h g k = g k
+
+exported_words : (es : List Exported) (name : List ℕ) (o : Object) → ExportWords es → exported_in es name ≡ Some o → ObjectWords o
+exported_words [] name o h k = nothing o k
+exported_words (e ∷ es) name o h k = exported_by_name e es name o (bytes_eq e.name name) h.1 (exported_words es name o h.2) k
+
+abbrev OptionWords : Option LoadedTree → Type 0
+OptionWords None = Unit {0}
+OptionWords (Some m) = InterfaceWords m.interface
+
+object_words : (ms : Modules) (place : ℕ) (name : List ℕ) (o : Object) → OptionWords (slice_get ms place) → exported_at ms place name ≡ Some o → ObjectWords o
+unfolding exported_at
+object_words ms place name o h k = by (slice_get ms place) h k
+  where
+    by : (m : Option LoadedTree) → OptionWords m → exported_by m name ≡ Some o → ObjectWords o
+    by None w e = nothing o e
+    by (Some m) w e = exported_words m.interface.exports name o w.exports e
+
+loaded_words : (ms : Modules) (place : ℕ) → LoadedWords ms → OptionWords (slice_get ms place)
+loaded_words [] place h = tt
+loaded_words (m ∷ ms) zero h = h.0
+loaded_words (m ∷ ms) (suc place) h = loaded_words ms place h.1
+
+-- ---- types as they are written
+
+abbrev pub TypesOf : Entry → Type 0
+TypesOf (entry.Constant c) = Unit {0}
+TypesOf (entry.TypeName t) = TypeWords t
+TypesOf (entry.Variable t v) = TypeWords t
+TypesOf (entry.Procedure p n) = Unit {0}
+TypesOf entry.In = Unit {0}
+TypesOf entry.Out = Unit {0}
+TypesOf (entry.Module i place) = Unit {0}
+
+-- what is seen in a scope
+abbrev pub SeenWords : Scope → Type 0
+SeenWords s = (name : List ℕ) (e : Entry) → seen s name ≡ Some e → TypesOf e
+
+abbrev AllSmall : List ℕ → Type 0
+AllSmall [] = Unit {0}
+AllSmall (n ∷ ns) = (n < 2 ^ 64) × AllSmall ns
+
+small_more : (ns : List ℕ) (n : ℕ) → AllSmall ns → n < 2 ^ 64 → AllSmall (ns ++ n ∷ [])
+small_more [] n h g = (g, tt)
+small_more (m ∷ ns) n h g = (h.0, small_more ns n h.1 g)
+
+small_reversed : (ns : List ℕ) → AllSmall ns → AllSmall (reverse ns)
+small_reversed [] h = tt
+small_reversed (n ∷ ns) h = subst AllSmall (sym (reverse-append (n ∷ []) ns)) (small_more (reverse ns) n (small_reversed ns h.1) h.0)
+
+second_holds : (a b : Bool) → (a && b) ≡ true → b ≡ true
+second_holds true b h = h
+second_holds false b h = absurd (let n : false ≡ true = h in cc)
+
+at_most : (n : ℕ) → nat_le n 65536 ≡ true → n < 2 ^ 64
+at_most n h = grind (arith, nat_tests, h)
+
+length_small : (c : Constant) (n : ℕ) → gives (length_of c) n → n < 2 ^ 64
+unfolding length_of
+length_small (constant.Integer (pos m)) n h = subst (λ x. x < 2 ^ 64) h.1 (at_most m (second_holds (nat_le 1 m) _ h.0))
+length_small (constant.Integer (negsuc m)) n h = absurd h
+length_small (constant.Boolean b) n h = absurd h
+length_small (constant.Char c) n h = absurd h
+length_small (constant.Text t) n h = absurd h
+
+arrays_words : (t : ObType) (ns : List ℕ) (u : ObType) → gives (through array_of t ns) u → TypeWords t → AllSmall ns → TypeWords u
+unfolding array_of
+arrays_words t [] u h w p = subst TypeWords h w
+arrays_words t (n ∷ ns) u h w p =
+    arrays_words h.0 ns u h.2 (subst TypeWords (h.1).1 (subst (λ x. x) (sym (array_words n t)) (p.0, w))) p.1
+
+fields_append : (fs gs : List Field) → FieldWords fs → FieldWords gs → FieldWords (fs ++ gs)
+fields_append [] gs h g = g
+fields_append (f ∷ fs) gs h g = (h.0, h.1, fields_append fs gs h.2 g)
+
+fields_of_type : (t : ObType) (names : List IdentDef) → TypeWords t → Each NameIn names → FieldWords (map (field_of t) names)
+fields_of_type t [] h w = tt
+fields_of_type t (n ∷ ns) h w = (w.0, h, fields_of_type t ns h w.1)
+
+numbered_words : (naming : RecordName) (k : ℕ) → RecordWords naming → RecordWords (numbered naming k)
+numbered_words naming k h = record { home = h.home; enclosing = h.enclosing; declared = h.declared }
+
+module _ (ms : Modules) (loaded : LoadedWords ms) (s : Scope) (scope : SeenWords s) where
+  predeclared_words : (p : Predeclared) (t : ObType) → gives (predeclared_type p) t → TypeWords t
+  unfolding predeclared_type
+  predeclared_words (predeclared.Basic b) t h = subst TypeWords h tt
+  predeclared_words (predeclared.Function f) t h = absurd h
+  predeclared_words (predeclared.Procedure f) t h = absurd h
+  predeclared_words predeclared.LeftOut t h = absurd h
+  predeclared_words predeclared.Unknown t h = absurd h
+
+  own_type_words : (o : Option Entry) (p : Predeclared) (t : ObType) → ((e : Entry) → o ≡ Some e → TypesOf e) → gives (own_type o p) t → TypeWords t
+  unfolding own_type
+  own_type_words (Some (entry.TypeName u)) p t g h = subst TypeWords h (g (entry.TypeName u) refl)
+  own_type_words (Some (entry.Constant c)) p t g h = absurd h
+  own_type_words (Some (entry.Variable u v)) p t g h = absurd h
+  own_type_words (Some (entry.Procedure u v)) p t g h = absurd h
+  own_type_words (Some entry.In) p t g h = absurd h
+  own_type_words (Some entry.Out) p t g h = absurd h
+  own_type_words (Some (entry.Module u v)) p t g h = absurd h
+  own_type_words None p t g h = predeclared_words p t h
+
+  object_type_words : (o : Object) (t : ObType) → ObjectWords o → gives (object_type o) t → TypeWords t
+  object_type_words (object.TypeName u) t g h = subst TypeWords h g
+  object_type_words (object.Constant c) t g h = absurd h
+  object_type_words (object.Variable u) t g h = absurd h
+  object_type_words (object.Procedure u) t g h = absurd h
+
+  other_type_words : (o : Option Entry) (p : Predeclared) (name : List ℕ) (t : ObType) → gives (other_type ms o p name) t → TypeWords t
+  unfolding other_type
+  other_type_words (Some (entry.Module i place)) p name t h =
+      object_type_words h.0 t (object_words ms place name h.0 (loaded_words ms place loaded) (there_is (exported_at ms place name) code.NotExported h.0 h.1)) h.2
+  other_type_words (Some (entry.TypeName u)) p name t h = absurd h
+  other_type_words (Some (entry.Constant c)) p name t h = absurd h
+  other_type_words (Some (entry.Variable u v)) p name t h = absurd h
+  other_type_words (Some (entry.Procedure u v)) p name t h = absurd h
+  other_type_words (Some entry.In) p name t h = absurd h
+  other_type_words (Some entry.Out) p name t h = absurd h
+  other_type_words None p name t h = absurd h
+
+  qualified_words : (o : Option Entry) (p : Predeclared) (second : Option Ident) (t : ObType) → ((e : Entry) → o ≡ Some e → TypesOf e) → gives (qualified ms o p second) t → TypeWords t
+  unfolding qualified
+  qualified_words o p None t g h = own_type_words o p t g h
+  qualified_words o p (Some second) t g h = other_type_words o p second.name t h
+
+  named_words : (q : Qualident) (t : ObType) → gives (type_named ms s q) t → TypeWords t
+  unfolding type_named
+  named_words q t h = qualified_words (seen s q.first.name) (outer s q.first.name) q.second t (scope q.first.name) h
+
+  -- ---- arrays and records
+
+  abbrev Inner : (TypeExpr → Type 0) → (ℕ → TypeExpr → Rule Written) → Type 0
+  Inner In inner = (k : ℕ) (t : TypeExpr) (w : Written) → In t → gives (inner k t) w → TypeWords w.of
+
+  fields_words : (In : TypeExpr → Type 0) (inner : ℕ → TypeExpr → Rule Written) → Inner In inner → (fs : Fields) (x : TypedNames) (gs : Fields) → TypedIn In x → gives (next_fields inner fs x) gs → FieldWords fs.fields → FieldWords gs.fields
+  unfolding next_fields
+  fields_words In inner inside fs x gs spelled h g =
+      let w = h.2 in
+      subst (λ y. FieldWords y.fields) ((w.2).2)
+      (fields_append fs.fields (map (field_of w.0.of) (out-TypedNames x).names) g (fields_of_type w.0.of (out-TypedNames x).names (inside fs.records (out-TypedNames x).of w.0 spelled.1 w.1) spelled.0))
+
+  layer_words : (In : TypeExpr → Type 0) (constants : Expr → Rule Constant) (inner : ℕ → TypeExpr → Rule Written) → Inner In inner → (naming : RecordName) → RecordWords naming → (k : ℕ) (l : TypeExpr-F TypeExpr TypedNames) (w : Written) → LayerIn In l → gives (type_layer constants inner ms s naming k l) w → TypeWords w.of
+  unfolding record_rule next_length
+  layer_words In constants inner inside naming named k (TypeExpr-F.Named q) w spelled h = subst (λ x. TypeWords x.of) h.2 (named_words q h.0 h.1)
+  layer_words In constants inner inside naming named k (TypeExpr-F.Array span lengths element) w spelled h =
+      let e = h.2 in
+      let t = e.2 in
+      subst (λ x. TypeWords x.of) t.2
+      (arrays_words e.0.of (reverse h.0) t.0 t.1 (inside k element e.0 spelled e.1)
+      (small_reversed h.0 (through_keeps AllSmall (λ x. Unit {0}) (next_length constants) (λ a b c u d f. subst AllSmall (d.2).2 (small_more a (d.2).0 f (length_small d.0 (d.2).0 (d.2).1))) [] lengths h.0 (always lengths) h.1 tt)))
+  layer_words In constants inner inside naming named k (TypeExpr-F.Record span fields) w spelled h =
+      let r = h.1 in
+      let fs = through_keeps (λ y. FieldWords y.fields) (TypedIn In) (next_fields inner) (λ a b c u d f. fields_words In inner inside a b c u d f) (no_fields (k + 1)) fields r.0 spelled r.1 tt in
+      subst (λ x. TypeWords x.of) r.2
+      (subst (λ x. x) (sym (record_words (roll-RecordType (record { name = numbered naming k; fields = r.0.fields }))
+      ∙ ap (λ x. RecordWords x.name × FieldWords x.fields) (out-roll-RecordType (record { name = numbered naming k; fields = r.0.fields }))))
+      (numbered_words naming k named, fs))
+
+  inner_words : (naming : RecordName) → RecordWords naming → (n : ℕ) → Inner (InnerIn n) (inner_type ms s naming n)
+  unfolding inner_type type_rule
+  inner_words naming named zero k t w spelled h = absurd h
+  inner_words naming named (suc n) k t w spelled h = layer_words (InnerIn n) (inner_constant ms s n) (inner_type ms s naming n) (inner_words naming named n) naming named k (out-TypeExpr t) w spelled h
+
+  pub type_words : (naming : RecordName) → RecordWords naming → (n k : ℕ) (t : TypeExpr) (w : Written) → TypeIn n t → gives (type_at ms s naming n k t) w → TypeWords w.of
+  unfolding type_at type_rule
+  type_words naming named n k t w spelled h = layer_words (InnerIn n) (inner_constant ms s n) (inner_type ms s naming n) (inner_words naming named n) naming named k (out-TypeExpr t) w spelled h
+
+  -- ---- types of formal parameters
+
+  formal_layer_words : (inner : FormalType → Rule ObType) → ((f : FormalType) (t : ObType) → gives (inner f) t → TypeWords t) → (l : FormalType-F FormalType) (t : ObType) → gives (formal_layer inner ms s l) t → TypeWords t
+  unfolding open_of
+  formal_layer_words inner inside (FormalType-F.Named q) t h = named_words q t h
+  formal_layer_words inner inside (FormalType-F.Open span element) t h = subst TypeWords (h.2).1 (subst (λ x. x) (sym (open_words h.0)) (inside element h.0 h.1))
+
+  inner_formal_words : (n : ℕ) (f : FormalType) (t : ObType) → gives (inner_formal ms s n f) t → TypeWords t
+  unfolding inner_formal formal_rule
+  inner_formal_words zero f t h = absurd h
+  inner_formal_words (suc n) f t h = formal_layer_words (inner_formal ms s n) (inner_formal_words n) (out-FormalType f) t h
+
+  pub formal_words : (n : ℕ) (f : FormalType) (t : ObType) → gives (formal_at ms s n f) t → TypeWords t
+  unfolding formal_at formal_rule
+  formal_words n f t h = formal_layer_words (inner_formal ms s n) (inner_formal_words n) (out-FormalType f) t h
