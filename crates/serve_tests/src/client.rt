@@ -1,51 +1,48 @@
-//! A client: requests over HTTP, and frames over a WebSocket (RFC 6455), masked by zeros.
+//! A client's connections: requests over HTTP, and frames over a WebSocket (RFC 6455), masked by zeros.
 
 use std::alloc::Global;
-use std::io::{Read, Write};
+use std::io;
+use std::io::{ErrorKind, Read, Write};
 use std::net::{Net, SocketAddr, TcpStream};
-use std::test::Fail;
+use std::time::Duration;
 
-/// The answer to a request.
-pub fn ask<R>(rt: &R, alloc: Global, address: SocketAddr, request: &str) -> Result<String, Fail>
+/// How many seconds a read waits at most.
+const PATIENCE: u64 = 10;
+
+/// What stands for an answer or a message where the server closed the connection and sent nothing.
+pub const NOTHING: &str = "nothing";
+
+/// A connection to the server.
+pub fn connect<R>(rt: &R, address: SocketAddr) -> io::Result<TcpStream>
 where
     R: Net<Stream = TcpStream>,
 {
-    let mut stream = TcpStream::connect(rt, address)?;
-    stream.write_all(request.as_bytes())?;
+    let stream = TcpStream::connect(rt, address)?;
+    stream.set_read_timeout(Some(Duration::from_secs(PATIENCE)))?;
+    stream.set_nodelay(true)?;
+    Ok(stream)
+}
+
+/// Sends a text one byte after the other.
+pub fn drip(stream: &mut TcpStream, text: &str) -> io::Result<()> {
+    for byte in text.bytes() {
+        stream.write_all(&[byte])?;
+    }
+    Ok(())
+}
+
+/// What comes until the server closes the connection.
+pub fn rest(alloc: Global, stream: &mut TcpStream) -> io::Result<String> {
     let mut text = String::new(alloc);
     stream.read_to_string(&mut text)?;
+    if text.as_str().is_empty() {
+        text.push_str(NOTHING)?;
+    }
     Ok(text)
 }
 
-/// Makes a kernel, and answers its identifier.
-pub fn new_kernel<R>(rt: &R, alloc: Global, address: SocketAddr) -> Result<String, Fail>
-where
-    R: Net<Stream = TcpStream>,
-{
-    let answer = ask(rt, alloc, address, "POST /api/kernels HTTP/1.1\r\n\r\n")?;
-    let (_, rest) = answer
-        .as_str()
-        .split_once("\"id\":\"")
-        .ok_or("no identifier")?;
-    let (id, _) = rest.split_once('"').ok_or("no identifier")?;
-    Ok(String::from_str(alloc, id)?)
-}
-
-/// Asks for the channels of a kernel. It answers the stream and the status line.
-pub fn open<R>(
-    rt: &R,
-    alloc: Global,
-    address: SocketAddr,
-    id: &str,
-) -> Result<(TcpStream, String), Fail>
-where
-    R: Net<Stream = TcpStream>,
-{
-    let mut stream = TcpStream::connect(rt, address)?;
-    let request = format!(in alloc;
-        "GET /api/kernels/{id}/channels HTTP/1.1\r\nUpgrade: websocket\r\nConnection: Upgrade\r\nSec-WebSocket-Version: 13\r\nSec-WebSocket-Key: dGhlIHNhbXBsZSBub25jZQ==\r\n\r\n"
-    )?;
-    stream.write_all(request.as_bytes())?;
+/// The head of an answer.
+pub fn head(alloc: Global, stream: &mut TcpStream) -> io::Result<String> {
     let mut head = String::new(alloc);
     for _ in 0..1_000 {
         let mut byte = [0u8; 1];
@@ -55,69 +52,48 @@ where
             break;
         }
     }
-    Ok((stream, head))
+    Ok(head)
 }
 
 /// Sends a text of 126 to 65,535 bytes.
-pub fn send(stream: &mut TcpStream, text: &str) -> Result<(), Fail> {
-    let len = u16::try_from(text.len()).ok().ok_or("too long")?;
+pub fn send(stream: &mut TcpStream, text: &str) -> io::Result<()> {
+    let Ok(len) = u16::try_from(text.len()) else {
+        return Err(ErrorKind::InvalidInput.into());
+    };
     let size = len.to_be_bytes();
     stream.write_all(&[0x81, 0xfe, size[0], size[1], 0, 0, 0, 0])?;
-    stream.write_all(text.as_bytes())?;
-    Ok(())
+    stream.write_all(text.as_bytes())
 }
 
-/// The length of the next frame's content.
-fn frame_len(stream: &mut TcpStream) -> Result<usize, Fail> {
-    let mut head = [0u8; 2];
-    stream.read_exact(&mut head)?;
-    if head[1] < 126 {
-        return Ok(usize::from(head[1]));
+/// The length of the next text. There is none where the server closed the connection.
+fn text_len(stream: &mut TcpStream) -> io::Result<Option<usize>> {
+    let mut kind = [0u8; 1];
+    if stream.read(&mut kind)? == 0 {
+        return Ok(None);
     }
-    let mut size = [0u8; 2];
-    stream.read_exact(&mut size)?;
-    Ok(usize::from(u16::from_be_bytes(size)))
+    let mut short = [0u8; 1];
+    stream.read_exact(&mut short)?;
+    if kind[0] != 0x81 || short[0] > 126 {
+        return Err(ErrorKind::InvalidData.into());
+    }
+    if short[0] < 126 {
+        return Ok(Some(usize::from(short[0])));
+    }
+    let mut long = [0u8; 2];
+    stream.read_exact(&mut long)?;
+    Ok(Some(usize::from(u16::from_be_bytes(long))))
 }
 
 /// The next message.
-fn next_message(alloc: Global, stream: &mut TcpStream) -> Result<String, Fail> {
-    let len = frame_len(stream)?;
+pub fn message(alloc: Global, stream: &mut TcpStream) -> io::Result<String> {
+    let Some(len) = text_len(stream)? else {
+        return Ok(String::from_str(alloc, NOTHING)?);
+    };
     let mut bytes = Vec::new(alloc);
     bytes.resize(len, 0)?;
     stream.read_exact(bytes.as_mut_slice())?;
-    Ok(String::from_utf8(bytes).ok().ok_or("no UTF-8")?)
-}
-
-/// A letter for what a message tells.
-fn letter(text: &str) -> char {
-    let kinds = [
-        ("\"execution_state\":\"busy\"", 'b'),
-        ("\"execution_state\":\"idle\"", 'i'),
-        ("\"msg_type\":\"execute_input\"", 'e'),
-        ("\"msg_type\":\"stream\"", 's'),
-        ("\"msg_type\":\"execute_reply\"", 'r'),
-    ];
-    for (part, letter) in kinds {
-        if text.contains(part) {
-            return letter;
-        }
+    match String::from_utf8(bytes) {
+        Ok(text) => Ok(text),
+        Err(_) => Err(ErrorKind::InvalidData.into()),
     }
-    '-'
-}
-
-/// The letters of what is told of the request of that identifier, up to its idle.
-pub fn told(alloc: Global, stream: &mut TcpStream, id: &str) -> Result<String, Fail> {
-    let parent = format!(in alloc; "\"msg_id\":\"{id}\"")?;
-    let mut letters = String::new(alloc);
-    for _ in 0..1_000 {
-        let message = next_message(alloc, stream)?;
-        if message.as_str().contains(parent.as_str()) {
-            let letter = letter(message.as_str());
-            letters.push(letter)?;
-            if letter == 'i' {
-                break;
-            }
-        }
-    }
-    Ok(letters)
 }

@@ -3,8 +3,16 @@
 
 #[cfg(test)]
 mod client;
+#[cfg(test)]
+mod commands;
 pub mod crew;
+#[cfg(test)]
+mod losses;
 #[cfg(test)]
 mod notebooks;
 #[cfg(test)]
+mod rows;
+#[cfg(test)]
 mod screens;
+#[cfg(test)]
+mod steps;
