@@ -1,3 +1,4 @@
+-- To be believed.
 -- What boards are: beginnings of what a legal log of a kernel shows.
 use Rattle.std.specs.Prelude.{◌≡◌, List, ◌++◌}
 use Rattle.jk_language.specs.Spoken.{Spoken}

@@ -1,3 +1,4 @@
+-- To be believed.
 -- What a clause sees of the ends of a board. L is the language, and S, T, M are its sessions, trees and machines.
 use Rattle.std.specs.Prelude.{◌≡◌, List, [], take}
 use Rattle.jk_core.specs.declared.entry.Entry.{Entry}

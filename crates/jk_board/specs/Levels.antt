@@ -1,3 +1,4 @@
+-- To be believed.
 -- What the rows of a board hold.
 use Rattle.std.specs.Prelude.{◌≡◌, List, [], ◌∷◌, ◌++◌}
 use Rattle.std.specs.Arc.{arc_value}

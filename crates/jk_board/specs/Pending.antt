@@ -1,3 +1,4 @@
+-- To be believed.
 -- What a publisher has pending.
 use Rattle.std.specs.Prelude.{◌≡◌, List, [], ◌∷◌}
 use Rattle.jk_language.specs.Spoken.{Spoken}

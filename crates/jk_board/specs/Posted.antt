@@ -1,3 +1,4 @@
+-- To be believed.
 -- What a board holds.
 use Rattle.std.specs.Prelude.{List, ◌++◌}
 use Rattle.std.specs.declared.vec.Vec.{Vec}

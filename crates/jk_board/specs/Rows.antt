@@ -1,3 +1,4 @@
+-- To be believed.
 -- Rows of what holds entries, each part with the number of the entries before it.
 use Rattle.std.specs.Prelude.{◌≡◌, ℕ, ◌<◌, List, take, length, get_or}
 use Rattle.std.specs.List.{flat_map}

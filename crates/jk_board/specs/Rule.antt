@@ -1,3 +1,4 @@
+-- To be believed.
 -- The rule of a board: it is a beginning of what a legal log shows, and it begins with all that anyone has seen or was told of.
 use Rattle.std.specs.Prelude.{◌≡◌, ℕ, List, [], ◌∷◌}
 use mathlib.Core.Option.{some}

@@ -1,3 +1,4 @@
+-- To be believed.
 -- The name and the value of an error.
 use Rattle.std.specs.Prelude.{ℕ, List, [], ◌++◌, codes, decimal, flat_map}
 use Rattle.std.specs.Char.{encode_utf8}

@@ -1,3 +1,4 @@
+-- To be believed.
 -- Which logs are legal: for each place, what stands there may follow the part before it.
 use Rattle.std.specs.Prelude.{◌⊎◌, true, false, ◌≡◌, ℕ, ◌≤◌, List, [], ◌∷◌, ◌++◌, length, drop, map, Option, None, Some, slice_get, if◌then◌else◌}
 use Rattle.jk_language.specs.declared.outcome.Outcome.{Outcome}

@@ -1,3 +1,4 @@
+-- To be believed.
 -- The log, newest first, and what it answers.
 use Rattle.std.specs.Prelude.{Bool, true, false, ◌||◌, nat_lt, ℕ, ◌+◌, if◌then◌else◌, ◌==◌, ◌&&◌, not, List, [], ◌∷◌, ◌++◌, length, drop, Option, None, Some}
 use Rattle.jk_language.specs.Parts.{Line as Given, Meaning}

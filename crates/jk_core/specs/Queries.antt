@@ -1,3 +1,4 @@
+-- To be believed.
 -- What is answered to a request that waits and is no cell ("Messaging in Jupyter", version 5.4).
 use Rattle.std.specs.Prelude.{◌≡◌, ℕ, List, Option, None, Some}
 use Rattle.jk_language.specs.Spoken.{Spoken}

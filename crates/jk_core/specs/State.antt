@@ -1,3 +1,4 @@
+-- To be believed.
 -- What contracts see of a kernel.
 use Rattle.std.specs.Prelude.{◌≡◌, nat_lt, slice_get, ◌&&◌, ◌<◌, ◌≤◌, ℕ, zero, suc, Bool, true, false, List, [], ◌∷◌, ◌++◌, length, reverse, nat_le, if◌then◌else◌, Option, None, Some}
 use Rattle.jk_core.specs.declared.entry.Entry.{Entry}

@@ -1,3 +1,4 @@
+-- To be believed.
 -- How a kernel moves.
 use Rattle.std.specs.Prelude.{zero, suc, true, not, is_some, ◌&&◌, ◌≤◌, ◌≢◌, ◌≡◌, ℕ, Bool, false, if◌then◌else◌, ◌+◌, ◌-◌, ◌^◌, min, List, [], ◌∷◌, ◌++◌, length, drop, Option, None, Some, ◌⊎◌, nat_lt, find, slice_get, slice_set}
 use Rattle.jk_language.specs.declared.outcome.Outcome.TheVariants as outcome

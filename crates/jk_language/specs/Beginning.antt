@@ -1,3 +1,4 @@
+-- To be believed.
 -- What comes of beginning a cell.
 use Rattle.std.specs.Prelude.{◌≡◌, ℕ, false, List, []}
 use Rattle.jk_language.specs.declared.language.Begun.{Begun}

@@ -1,3 +1,4 @@
+-- To be believed.
 -- What a machine stands at.
 use Rattle.std.specs.Prelude.{ℕ, Bool, List}
 use Rattle.jk_language.specs.Parts.{Line, Meaning}

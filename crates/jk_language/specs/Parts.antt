@@ -1,3 +1,4 @@
+-- To be believed.
 -- The parts that the meaning of a cell is made of.
 use Rattle.std.specs.Prelude.{◌≡◌, ◌≢◌, ℕ, ◌≤◌, Bool, List, [], ◌++◌, Option}
 use Rattle.jk_language.specs.declared.outcome.Outcome.{Outcome}

@@ -1,3 +1,4 @@
+-- To be believed.
 -- What a machine does, by the meaning of its cell.
 use Rattle.std.specs.Prelude.{◌≡◌, Bool, true, false, ℕ, ◌+◌, ◌<◌, List, [], ◌∷◌, ◌++◌, length, drop}
 use Rattle.jk_language.specs.declared.outcome.Outcome.{Outcome}

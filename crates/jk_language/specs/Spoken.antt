@@ -1,3 +1,4 @@
+-- To be believed.
 -- The meaning of the texts of a language.
 use Rattle.std.specs.Prelude.{◌≡◌, ℕ, List, [], ◌∷◌, ◌++◌}
 use Rattle.jk_language.specs.declared.outcome.Outcome.{Outcome}

@@ -1,3 +1,4 @@
+-- To be believed.
 -- Why a text has no tree.
 use Rattle.std.specs.Prelude.{ℕ, List}
 use Rattle.jk_language.specs.declared.outcome.Refused.{Refused}

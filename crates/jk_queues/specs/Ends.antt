@@ -1,3 +1,4 @@
+-- To be believed.
 -- What a clause sees of the ends of an inbox.
 use Rattle.std.specs.Prelude.{◌≡◌, ℕ, false, List, [], ◌∷◌}
 use Rattle.atomic_table.specs.Seated.{TableId}

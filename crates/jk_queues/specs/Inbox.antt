@@ -1,3 +1,4 @@
+-- To be believed.
 -- The rule of the inbox: of each seat, what was taken and then what stands in the queue is what the seat sent, in order.
 use Rattle.std.specs.Prelude.{◌≡◌, ℕ, ◌-◌, ◌<◌, ◌≤◌, ◌==◌, Bool, true, List, [], ◌∷◌, ◌++◌, map, length, slice_index_or, zero, suc}
 use Rattle.std.specs.List.{filter}

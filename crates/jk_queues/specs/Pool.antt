@@ -1,3 +1,4 @@
+-- To be believed.
 -- What a clause sees of the ends of a pool.
 use Rattle.std.specs.Prelude.{◌≡◌, Bool, List, []}
 use Rattle.atomic_table.specs.Seated.{TableId}

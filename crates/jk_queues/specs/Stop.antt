@@ -1,3 +1,4 @@
+-- To be believed.
 -- The rule of the word by which a pool is stopped.
 use Rattle.std.specs.Prelude.{◌≡◌, ℕ, ◌==◌, Bool, true, false, List, slice_index}
 use mathlib.Core.Option.{some}

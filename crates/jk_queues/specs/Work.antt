@@ -1,3 +1,4 @@
+-- To be believed.
 -- What a worker has done.
 use Rattle.std.specs.Prelude.{◌≡◌, ℕ, ◌≤◌, true, List, [], ◌∷◌, ◌++◌, map, length}
 use Rattle.jk_core.specs.declared.job.Job.{Job}

@@ -1,3 +1,4 @@
+-- To be believed.
 -- Lines of input. A line ends with U+000A or with the input.
 use Rattle.std.specs.Prelude.{◌≡◌, ◌≢◌, ℕ, ◌<◌, List, [], ◌∷◌, ◌++◌, length, Option}
 use Rattle.std.specs.Io.KnownBytes.{IsAtEnd}

@@ -1,3 +1,4 @@
+-- To be believed.
 -- What a replay does, line by line.
 use Rattle.std.specs.Prelude.{◌≡◌, ◌≢◌, ℕ, ◌+◌, ◌-◌, ◌^◌, min, Bool, true, false, List, length, Some, None, Result, Ok, Err, ◌⊎◌, replicate, slice_index_or, slice_set, if◌then◌else◌}
 use Rattle.json_form.specs.declared.fault.Fault.{Fault}

@@ -1,3 +1,4 @@
+-- To be believed.
 -- What a replay writes for what it reads, and how it ends.
 use Rattle.std.specs.Prelude.{true, false, ◌≡◌, ◌≢◌, ℕ, zero, suc, ◌+◌, ◌<◌, ◌≤◌, List, [], ◌∷◌, ◌++◌, length, Option, None, Result, Ok, Err, ◌⊎◌}
 use Rattle.std.specs.Str.{IsUtf8}

@@ -1,3 +1,4 @@
+-- To be believed.
 -- The lines that show entries.
 use Rattle.std.specs.Prelude.{ℕ, List, [], ◌∷◌, ◌++◌, Option, Some, None, codes}
 use Rattle.serde_json.specs.Data.{Data, string, number, unsigned}

@@ -1,3 +1,4 @@
+-- To be believed.
 -- The statuses that the program ends with, and what it tells on its standard error.
 use Rattle.std.specs.Prelude.{◌≡◌, ℕ, List, [], ◌++◌, Option, Result, Ok, Err, ◌⊎◌, codes, decimal}
 use Rattle.std.specs.Io.KnownBytes.{Appends}

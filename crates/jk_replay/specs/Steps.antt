@@ -1,3 +1,4 @@
+-- To be believed.
 -- What a line asks for.
 use Rattle.std.specs.Prelude.{ℕ, ℤ, pos, negsuc, List, Option, Some, None, Result, Ok, Err, codes, nat_le, if◌then◌else◌}
 use Rattle.serde_json.specs.Data.{Data}

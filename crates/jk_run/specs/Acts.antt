@@ -1,3 +1,4 @@
+-- To be believed.
 -- What a driver does, step by step: each act is a step of the world (`jk_world`) that the driver makes.
 use Rattle.std.specs.Prelude.{◌≡◌, false, ℕ, List, [], ◌∷◌, ◌++◌, take, Some}
 use Rattle.jk_language.specs.Spoken.{Spoken}

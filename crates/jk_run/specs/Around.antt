@@ -1,3 +1,4 @@
+-- To be believed.
 -- The world round a driver.
 use Rattle.std.specs.Prelude.{◌≡◌, ℕ, List, ◌∷◌, Some, slice_get}
 use Rattle.jk_core.specs.declared.arrival.Arrival.{Arrival}

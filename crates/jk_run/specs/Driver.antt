@@ -1,3 +1,4 @@
+-- To be believed.
 -- What a clause sees of a driver.
 use Rattle.std.specs.Prelude.{◌≡◌, ◌≢◌, ◌⊎◌, true, List, [], ◌++◌, length, Option, None, Some}
 use Rattle.std.specs.declared.vec.Vec.{Vec}

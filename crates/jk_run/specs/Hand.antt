@@ -1,3 +1,4 @@
+-- To be believed.
 -- What a driver has in hand.
 use Rattle.std.specs.Prelude.{List, [], ◌∷◌, Option, None, Some}
 use Rattle.std.specs.declared.vec.Vec.{Vec}

@@ -1,3 +1,4 @@
+-- To be believed.
 -- What is shown of a request that waits on the shell channel and is no cell ("Messaging in Jupyter", version 5.4).
 use Rattle.std.specs.Prelude.{◌≡◌, ◌⊎◌, Bool, true, false, ℕ, List, [], ◌∷◌, ◌++◌, filter, Option, Some}
 use Rattle.jk_language.specs.Spoken.{Spoken}

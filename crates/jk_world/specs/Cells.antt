@@ -1,3 +1,4 @@
+-- To be believed.
 -- What a log tells of the request at a place.
 use Rattle.std.specs.Prelude.{◌≡◌, Bool, true, false, ℕ, ◌+◌, ◌≤◌, ◌==◌, if◌then◌else◌, List, [], ◌∷◌, ◌++◌, Option, None, Some}
 use Rattle.jk_language.specs.Parts.{Line as Given, Meaning}

@@ -1,3 +1,4 @@
+-- To be believed.
 -- The counts of cells.
 use Rattle.std.specs.Prelude.{◌≡◌, Bool, false, ℕ, ◌+◌, if◌then◌else◌, not, ◌&&◌, List, [], ◌∷◌}
 use Rattle.jp_msg.specs.declared.message.Execute.{Execute}

@@ -1,3 +1,4 @@
+-- To be believed.
 -- What the cell of a request asks for, and what it is given.
 use Rattle.std.specs.Prelude.{◌≡◌, ◌⊎◌, ℕ, ◌==◌, if◌then◌else◌, List, [], ◌∷◌, ◌++◌, Option, None, Some}
 use Rattle.jk_language.specs.Parts.{Line as Given}

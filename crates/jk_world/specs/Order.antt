@@ -1,3 +1,4 @@
+-- To be believed.
 -- The order in which requests are answered.
 use Rattle.std.specs.Prelude.{ℕ, ◌<◌, List, [], ◌∷◌}
 use Rattle.jk_core.specs.declared.mark.Item.TheVariants.{Took, Marked}

@@ -1,3 +1,4 @@
+-- To be believed.
 -- Whose a stream or an error is, by its place among the entries.
 use Rattle.std.specs.Prelude.{◌≡◌, List, [], ◌∷◌, Option, Some}
 use Rattle.jp_msg.specs.declared.message.Message.{Message}

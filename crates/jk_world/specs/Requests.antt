@@ -1,3 +1,4 @@
+-- To be believed.
 -- What is shown of the arrival at a place.
 use Rattle.std.specs.Prelude.{◌≡◌, ℕ, ◌+◌, ◌==◌, if◌then◌else◌, List, [], ◌∷◌, ◌++◌, Option, None, Some}
 use Rattle.jp_msg.specs.declared.message.Message.{Message}

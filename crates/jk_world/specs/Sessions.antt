@@ -1,3 +1,4 @@
+-- To be believed.
 -- The session in which each cell is begun.
 use Rattle.std.specs.Prelude.{◌≡◌, ℕ, List, [], ◌∷◌, None, Some}
 use Rattle.jk_language.specs.Spoken.{Spoken}

@@ -1,3 +1,4 @@
+-- To be believed.
 -- What a connection is sent of the entries.
 use Rattle.std.specs.Prelude.{Bool, true, false, ◌&&◌, ◌||◌, ◌==◌, ℕ, if◌then◌else◌, List, [], ◌∷◌, filter}
 use Rattle.jk_core.specs.declared.entry.Entry.{Entry}

@@ -1,3 +1,4 @@
+-- To be believed.
 -- The world round a kernel, and its steps.
 use Rattle.std.specs.Prelude.{◌≡◌, ℕ, ◌+◌, ◌==◌, List, [], ◌∷◌, ◌++◌, length, take, drop, filter, remove, replicate, Option, Some, None, Result, Ok, slice_get, slice_set, false}
 use Rattle.std.specs.Str.{bytes_eq}

@@ -1,3 +1,4 @@
+-- To be believed.
 -- The messages that a kernel makes.
 use Rattle.std.specs.Prelude.{ℕ, List, codes}
 use Rattle.json_form.specs.Forms.{empty_object}

@@ -1,3 +1,4 @@
+-- To be believed.
 -- Which message a text is, field by field, or the fault that comes first ("Messaging in Jupyter", version 5.4,
 -- in the default JSON form of WebSocket connections; what it leaves open is this project's profile).
 use Rattle.std.specs.Prelude.{ℕ, List, [], true, false, pos, length, codes, nat_lt, if◌then◌else◌, Result, Ok, Err}

@@ -1,3 +1,4 @@
+-- To be believed.
 -- Which texts are messages, in facts about their fields, with no word on faults ("Messaging in Jupyter", version
 -- 5.4).
 use Rattle.std.specs.Prelude.{◌≡◌, ◌≤◌, ℕ, List, [], true, false, pos, length, codes, Option, Some, option_and_then}

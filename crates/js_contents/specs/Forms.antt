@@ -1,3 +1,4 @@
+-- To be believed.
 -- What is shown of a thing at a path.
 use Rattle.std.specs.Prelude.{ℕ, List, if◌then◌else◌, codes}
 use Rattle.std.specs.Str.{is_utf8}

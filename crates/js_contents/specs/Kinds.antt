@@ -1,3 +1,4 @@
+-- To be believed.
 -- What is said of what stands at a path: a notebook is a file whose name ends in `.ipynb`.
 use Rattle.std.specs.Prelude.{ℕ, nat_eq, Bool, List, if◌then◌else◌, codes}
 use Rattle.std.specs.List.{ends_with}

@@ -1,3 +1,4 @@
+-- To be believed.
 -- What stands in a folder.
 use Rattle.std.specs.Prelude.{◌≡◌, ℕ, List, map, Option, Some, None}
 use Rattle.serde_json.specs.Data.{Data}

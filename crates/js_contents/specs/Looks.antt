@@ -1,3 +1,4 @@
+-- To be believed.
 -- What stands at a path, as a look at it shows.
 use Rattle.std.specs.Prelude.{◌≡◌, ℕ, Bool, true, false, List, Option, Some, None, Result, Ok, Err}
 use Rattle.js_http.specs.declared.response.ErrorStatus.{ErrorStatus}

@@ -1,3 +1,4 @@
+-- To be believed.
 -- Notebooks as contents ("The Jupyter notebook format", nbformat 4.5).
 use Rattle.std.specs.Prelude.{ℕ, List, Option, Some, None, Result, Ok, Err}
 use Rattle.serde_json.specs.Data.{Data}

@@ -1,3 +1,4 @@
+-- To be believed.
 -- The path that a request on contents is about.
 use Rattle.std.specs.Prelude.{ℕ, ◌-◌, nat_eq, Bool, List, [], ◌∷◌, ◌++◌, length, take, drop, get_or, Option, Some, None, Result, Ok, Err, if◌then◌else◌}
 use Rattle.std.specs.List.{list_any}

@@ -1,3 +1,4 @@
+-- To be believed.
 -- PUT and DELETE of contents.
 use Rattle.std.specs.Prelude.{ℕ, Bool, true, false, List, None, Result, Ok, is_some, if◌then◌else◌}
 use Rattle.js_http.specs.declared.response.ErrorStatus.{ErrorStatus}

@@ -1,3 +1,4 @@
+-- To be believed.
 -- What becomes of entries that a kernel showed: its recorder is told them, and saves where a stored cell has ended.
 use Rattle.std.specs.Prelude.{◌≡◌, ◌⊎◌, ◌||◌, ◌&&◌, ℕ, Bool, true, false, List, ◌++◌, Option, Some, None, Result, Ok, Err, slice_get, slice_set, position}
 use Rattle.std.specs.List.{list_any}

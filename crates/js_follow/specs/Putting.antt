@@ -1,3 +1,4 @@
+-- To be believed.
 -- A notebook that is put where the recorder of a session keeps its own: the recorder is given it, and saves.
 use Rattle.std.specs.Prelude.{◌≡◌, ℕ, true, List, Option, Some, None, Result, Ok, Err, alloc_error, slice_get}
 use Rattle.std.specs.declared.alloc.AllocError.{AllocError}

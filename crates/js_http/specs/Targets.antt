@@ -1,3 +1,4 @@
+-- To be believed.
 -- The parts of a request target: the segments of its path (RFC 3986, section 3.3) and the fields of its query
 -- (the form that browsers send, `application/x-www-form-urlencoded` of the URL Standard).
 use Rattle.std.specs.Prelude.{ℕ, ◌==◌, List, [], ◌∷◌, Option, Some, None, map, if◌then◌else◌}

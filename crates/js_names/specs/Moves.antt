@@ -1,3 +1,4 @@
+-- To be believed.
 -- PATCH of contents: a thing goes to another path, and what is known of it goes with it.
 use Rattle.std.specs.Prelude.{ℕ, Bool, false, List, [], ◌∷◌, ◌++◌, map, Option, Some, None, is_some, Result, Ok, Err, if◌then◌else◌, codes}
 use Rattle.js_http.specs.declared.response.ErrorStatus.{ErrorStatus}

@@ -1,3 +1,4 @@
+-- To be believed.
 -- Which answer a request has, over the tables, the kernels that run and the shelf.
 use Rattle.std.specs.Prelude.{◌≡◌, ◌⊎◌, ◌==◌, ℕ, List, [], Option, Some, None, Result, Ok, Err, get_or}
 use Rattle.std.specs.List.{before_first}

@@ -1,3 +1,4 @@
+-- To be believed.
 -- What carrying out a change does, and what it says.
 use Rattle.std.specs.Prelude.{◌≡◌, ℕ, List, Result, Ok, Err}
 use Rattle.js_http.specs.declared.response.ErrorStatus.{ErrorStatus}

@@ -1,3 +1,4 @@
+-- To be believed.
 -- The routes of contents (Jupyter Server REST API): /api/contents/{path}.
 use Rattle.std.specs.Prelude.{◌≡◌, ℕ, List, Result, Ok, Err}
 use Rattle.js_http.specs.declared.method.Method.{Method}

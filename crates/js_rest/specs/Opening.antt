@@ -1,3 +1,4 @@
+-- To be believed.
 -- A new session (Jupyter Server REST API): POST /api/sessions.
 use Rattle.std.specs.Prelude.{◌≡◌, ℕ, false, List, [], map, Option, Some, None, Result, Ok, Err, if◌then◌else◌, codes}
 use Rattle.serde_json.specs.Data.{Data}

@@ -1,3 +1,4 @@
+-- To be believed.
 -- The table of routes.
 use Rattle.std.specs.Prelude.{ℕ, List, [], ◌∷◌, Option, Some, None, Result, Ok, Err, codes}
 use Rattle.matchit.specs.Rows.{RowsOf}

@@ -1,3 +1,4 @@
+-- To be believed.
 -- The routes of sessions (Jupyter Server REST API), but for a new one.
 use Rattle.std.specs.Prelude.{ℕ, List, map, Option, Some, None, Result, Ok, Err, if◌then◌else◌, codes}
 use Rattle.std.specs.Str.{bytes_eq}

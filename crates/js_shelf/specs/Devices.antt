@@ -1,3 +1,4 @@
+-- To be believed.
 -- What a device does to the files and folders that it keeps.
 use Rattle.std.specs.Prelude.{◌≡◌, ℕ, Bool, true, false, ◌||◌, List, Option, Some, None, IsSome, is_some, Result, Ok, Err}
 use Rattle.js_shelf.specs.declared.item.Item.{Item}

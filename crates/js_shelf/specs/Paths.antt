@@ -1,3 +1,4 @@
+-- To be believed.
 -- Paths: texts of segments with a slash between two. The empty text is the root.
 use Rattle.std.specs.Prelude.{ℕ, ◌==◌, nat_le, Bool, true, false, not, ◌&&◌, List, [], ◌∷◌, ◌++◌, length, if◌then◌else◌, Option, Some, None, codes}
 use Rattle.std.specs.List.{list_all, list_any, slice_split}

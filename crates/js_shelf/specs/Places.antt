@@ -1,3 +1,4 @@
+-- To be believed.
 -- Where a shelf in a folder of the system reaches.
 use Rattle.std.specs.Prelude.{ℕ, Bool, not, ◌&&◌, List, [], ◌∷◌, ◌++◌}
 use Rattle.std.specs.List.{list_any}

@@ -1,3 +1,4 @@
+-- To be believed.
 -- The bodies of requests: empty or JSON. A field that is `null` counts as missing.
 use Rattle.std.specs.Prelude.{ℕ, List, [], ◌∷◌, Result, Ok, Err, if◌then◌else◌, codes}
 use Rattle.std.specs.Str.{bytes_eq, is_utf8}

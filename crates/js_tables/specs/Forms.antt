@@ -1,3 +1,4 @@
+-- To be believed.
 -- The JSON of answers: compact, with sorted keys.
 use Rattle.std.specs.Prelude.{ℕ, true, List, [], ◌∷◌, ◌++◌, map, Option, Some, None, codes}
 use Rattle.serde_json.specs.Data.{Data, null, boolean, string, array, object, number, unsigned, no_items, Members, no_members, member}

@@ -1,3 +1,4 @@
+-- To be believed.
 -- Identifiers and the date from what is handed in.
 use Rattle.std.specs.Prelude.{◌≡◌, ℕ, ◌+◌, ◌*◌, ◌^◌, List}
 use Rattle.std.specs.Int.{w128, to_be_bytes}

@@ -1,3 +1,4 @@
+-- To be believed.
 -- Dates in answers (RFC 3339).
 use Rattle.std.specs.Prelude.{◌≡◌, ℕ, ◌*◌, pos, List, ◌++◌, false, Some}
 use Rattle.jiff_core.specs.declared.civil.datetime.DateTime.{DateTime}

@@ -1,3 +1,4 @@
+-- To be believed.
 -- Plans: what is to be done for a request, once it has been judged.
 use Rattle.std.specs.Prelude.{◌≡◌, ℕ, Bool, List, [], ◌∷◌, ◌++◌, Result, Ok, Err, Option, Some, None}
 use Rattle.js_http.specs.declared.response.ErrorStatus.{ErrorStatus}

@@ -1,3 +1,4 @@
+-- To be believed.
 -- Kernels by their sessions.
 use Rattle.std.specs.Prelude.{ℕ, Bool, false, List, Option, Some, None, map, if◌then◌else◌}
 use Rattle.std.specs.List.{find}

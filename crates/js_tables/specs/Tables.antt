@@ -1,3 +1,4 @@
+-- To be believed.
 -- The tables, as lists.
 use Rattle.std.specs.Prelude.{ℕ, ◌<◌, vec_len, vec_capacity, List, [], ◌∷◌, ◌++◌, filter, not, Option, Some, None}
 use Rattle.std.specs.List.{find}

@@ -1,3 +1,4 @@
+-- To be believed.
 -- What a connection sends to the inbox of its kernel.
 use Rattle.std.specs.Prelude.{ℕ, ◌+◌, Bool, true, false, ◌&&◌, not, List, [], ◌∷◌, ◌++◌, length, Option, None, Some, if◌then◌else◌}
 use Rattle.jk_core.specs.declared.arrival.Arrival.{Arrival}

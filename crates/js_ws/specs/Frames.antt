@@ -1,3 +1,4 @@
+-- To be believed.
 -- What sending entries writes: of each the frame of its message, as a text (RFC 6455, section 5.2).
 use Rattle.std.specs.Prelude.{◌≡◌, ℕ, ◌+◌, List, [], ◌∷◌, ◌++◌, length, codes, decimal, Option, None, Some}
 use Rattle.std.specs.Io.KnownBytes.{Appends}

@@ -1,3 +1,4 @@
+-- To be believed.
 -- What a message of a WebSocket comes to: a text that is a message of the Jupyter protocol is what a seat sends, by its
 -- channel. Other messages are dropped.
 use Rattle.std.specs.Prelude.{◌≡◌, ℕ, List, Bool, true, false, Option, None, Some, Result, Ok, Err, ⊤}

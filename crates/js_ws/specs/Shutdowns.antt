@@ -1,3 +1,4 @@
+-- To be believed.
 -- The last entry of a kernel: the idle of a shutdown without restart ("Messaging in Jupyter", version 5.4).
 use Rattle.std.specs.Prelude.{Bool, true, false, ◌&&◌, ◌||◌, not, List, [], ◌∷◌, Option, None, Some}
 use Rattle.jp_msg.specs.declared.message.Content.{Content}

@@ -1,3 +1,4 @@
+-- To be believed.
 -- What entries say of the kernel's state ("Messaging in Jupyter", version 5.4): whether it is busy with a request of the shell.
 use Rattle.std.specs.Prelude.{Bool, true, false, if◌then◌else◌, List, [], ◌∷◌, Option, None, Some}
 use Rattle.jp_msg.specs.declared.message.Channel.{Channel}

@@ -1,3 +1,4 @@
+-- To be believed.
 -- What a turn of a channel does.
 use Rattle.std.specs.Prelude.{◌≡◌, ◌⊎◌, ℕ, ◌+◌, Bool, true, false, ◌||◌, if◌then◌else◌, List, [], ◌∷◌, ◌++◌, length, Option, None, Some, is_some, Result}
 use Rattle.tungstenite.specs.declared.error.Error.{Error}

@@ -1,3 +1,4 @@
+-- To be believed.
 -- What a form reads: a value, or the fault that comes first.
 use Rattle.std.specs.Prelude.{◌≡◌, ◌⊎◌, ℕ, ℤ, List, [], ◌∷◌, ◌++◌, Bool, Option, false, Some, None, Result, Ok, Err, if◌then◌else◌, option_and_then, option_map, unwrap_or}
 use Rattle.std.specs.List.{list_any}

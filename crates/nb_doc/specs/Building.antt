@@ -1,3 +1,4 @@
+-- To be believed.
 -- Notebooks, cells and outputs that are made.
 use Rattle.std.specs.Prelude.{ℕ, ℤ, List, [], ◌∷◌, Option}
 use Rattle.json_form.specs.Forms.{empty_object}

@@ -1,3 +1,4 @@
+-- To be believed.
 -- Which notebooks are documents of 4.5: what a text can hold ("The Jupyter notebook format", nbformat 4.5).
 use Rattle.std.specs.Prelude.{◌≡◌, ℕ, List, [], ◌∷◌, map, true, codes, Option, Some, None}
 use Rattle.serde_json.specs.Data.{Data}

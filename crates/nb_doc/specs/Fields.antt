@@ -1,3 +1,4 @@
+-- To be believed.
 -- The fields of a notebook as they stand ("The Jupyter notebook format", nbformat 4.5): each cell, each output, and
 -- where a field is missing or of another kind. Fields without a name here are dropped.
 use Rattle.std.specs.Prelude.{ℕ, ℤ, List, Bool, codes, Option, Some, None, option_map, if◌then◌else◌, ◌||◌, Result, Ok, Err}

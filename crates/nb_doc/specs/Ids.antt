@@ -1,3 +1,4 @@
+-- To be believed.
 -- The ids of cells: which texts are allowed, that none stands twice, and the names that cells without an id are given.
 use Rattle.std.specs.Prelude.{◌≡◌, ℕ, zero, suc, ◌+◌, ◌==◌, List, [], ◌∷◌, ◌++◌, Bool, true, not, ◌&&◌, ◌||◌, nat_lt, nat_le, length, codes, decimal, Option, Some, None, if◌then◌else◌}
 use Rattle.std.specs.List.{list_any, list_all}

@@ -1,3 +1,4 @@
+-- To be believed.
 -- Which notebook a text is, or the fault that comes first ("The Jupyter notebook format", nbformat 4.5; what is read
 -- of 4.0 to 4.4 is raised to it). Each pass goes over all cells before the next.
 use Rattle.std.specs.Prelude.{◌≡◌, ℕ, ◌==◌, ℤ, pos, negsuc, List, Bool, false, nat_lt, codes, Option, Some, None, option_and_then, if◌then◌else◌, Result, Ok, Err}

@@ -1,3 +1,4 @@
+-- To be believed.
 -- One pass after another over a notebook, up to the first fault.
 use Rattle.std.specs.Prelude.{◌≡◌, Result, Ok, Err}
 use Rattle.json_form.specs.declared.fault.Fault.{Fault}

@@ -1,3 +1,4 @@
+-- To be believed.
 -- Which texts are notebooks, in facts about their fields, with no word on faults ("The Jupyter notebook format",
 -- nbformat 4.5; a text of 4.0 to 4.4 is the notebook of 4.5 that it is raised to).
 use Rattle.std.specs.Prelude.{◌≡◌, ◌⊎◌, ◌<◌, ℕ, pos, List, [], ◌∷◌, true, false, codes, Option, Some, None, option_and_then}

@@ -1,3 +1,4 @@
+-- To be believed.
 -- The one text of a notebook ("The Jupyter notebook format", nbformat 4.5): two blanks a level, each object's keys
 -- sorted, a line end at last. Sources and the texts of streams are lists of lines.
 use Rattle.std.specs.Prelude.{ℕ, ℤ, ◌==◌, List, [], ◌∷◌, ◌++◌, map, codes, Option, Some, None, if◌then◌else◌}

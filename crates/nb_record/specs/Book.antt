@@ -1,3 +1,4 @@
+-- To be believed.
 -- The notebook of what a recorder was told: entries, and notebooks that were put. It is defined by questions to the
 -- whole list, newest first. Each question has one line for each thing that may happen, and none looks at a notebook
 -- that was changed step by step.

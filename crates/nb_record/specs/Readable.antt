@@ -1,3 +1,4 @@
+-- To be believed.
 -- The notebooks that a recorder keeps: documents of 4.5 ("The Jupyter notebook format", nbformat 4.5) that nest no
 -- deeper, once they are written, than JSON is read, so that what is written reads back. JSON is read to depth 127; a
 -- notebook nests cells by two, and a cell its outputs by two.

@@ -1,3 +1,4 @@
+-- To be believed.
 -- What contracts see of a recorder.
 use Rattle.std.specs.Prelude.{◌≡◌, ℕ, Bool, true, false, List, [], ◌∷◌, Option, Some, None, Result, if◌then◌else◌}
 use Rattle.jp_msg.specs.declared.message.Message.{Message}

@@ -1,3 +1,4 @@
+-- To be believed.
 -- The numbers of codes.
 use Rattle.std.specs.Prelude.{ℕ}
 use Rattle.ob_base.specs.declared.fault.Code.{Code}

@@ -1,3 +1,4 @@
+-- To be believed.
 -- The meaning of the texts of Oberon, as a kernel speaks of a language (Wirth, The Programming Language Oberon, Oberon-07).
 use Rattle.std.specs.Prelude.{◌≡◌, ◌⊎◌, ℕ, List, Option, Some, None}
 use Rattle.ob_base.specs.declared.fault.Code.{Code}

@@ -1,3 +1,4 @@
+-- To be believed.
 -- The meaning of a cell of Oberon, from its text: it is read by the tokens and the grammar, judged by the static
 -- rules over the modules that are loaded, linked, and run by what its typed tree means (Wirth, The Programming Language Oberon,
 -- Oberon-07; In and Out after the Oakwood Guidelines).

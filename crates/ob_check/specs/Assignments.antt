@@ -1,3 +1,4 @@
+-- To be believed.
 -- Assignments (Wirth, The Programming Language Oberon, Oberon-07): what may be assigned to a variable, and the typed tree.
 use Rattle.std.specs.Prelude.{ℕ, length, Bool, true, false, not, ◌&&◌, ◌||◌, Option, Some, None}
 use Rattle.ob_base.specs.declared.fault.Code.TheVariants as code

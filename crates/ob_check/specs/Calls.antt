@@ -1,3 +1,4 @@
+-- To be believed.
 -- Calls of procedures by statements: a function is called in an expression alone (Wirth, The Programming Language Oberon,
 -- Oberon-07).
 use Rattle.std.specs.Prelude.{ℕ, List, [], ◌∷◌, Bool, true, false, Option, Some, None, is_none}

@@ -1,3 +1,4 @@
+-- To be believed.
 -- A checked module, as data.
 use Rattle.std.specs.Prelude.{List}
 use Rattle.ob_types.specs.InterfaceTree.{InterfaceTree}

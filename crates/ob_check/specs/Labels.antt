@@ -1,3 +1,4 @@
+-- To be believed.
 -- The labels of CASE (Wirth, The Programming Language Oberon, Oberon-07): constants, numbers where a number is looked up and
 -- characters where a character is. No label stands twice, and no range is empty.
 use Rattle.std.specs.Prelude.{ℕ, ℤ, pos, int_le, int_lt, List, [], ◌∷◌, ◌++◌, Bool, true, false, ◌&&◌, ◌||◌, Option, Some, None}

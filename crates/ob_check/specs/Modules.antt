@@ -1,3 +1,4 @@
+-- To be believed.
 -- Modules (Wirth, The Programming Language Oberon, Oberon-07): the typed module, its interface, and what it imports.
 use Rattle.std.specs.Prelude.{List, [], ◌∷◌, ◌++◌, Option, Some, None, slice_get}
 use Rattle.ob_parse.specs.declared.tree.Declarations.{out-Declarations}

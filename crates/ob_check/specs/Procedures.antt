@@ -1,3 +1,4 @@
+-- To be believed.
 -- Procedures (Wirth, The Programming Language Oberon, Oberon-07), with those in them. They are numbered as their ends follow each
 -- other: a procedure comes behind those in it. The number says how many more constructs may nest.
 use Rattle.std.specs.Prelude.{ℕ, zero, suc, ◌+◌, sum, List, [], ◌∷◌, ◌++◌, length, map, Option, Some, None, nat_le, if◌then◌else◌}

@@ -1,3 +1,4 @@
+-- To be believed.
 -- What a type is to its values, and what a formal parameter is to its procedure.
 use Rattle.std.specs.Prelude.{List, [], ◌∷◌}
 use Rattle.ob_types.specs.declared.exports.Formal.{Formal}

@@ -1,3 +1,4 @@
+-- To be believed.
 -- Calls of the modules In and Out (after the Oakwood Guidelines), and of the procedures that are declared before any module
 -- (Wirth, The Programming Language Oberon, Oberon-07).
 use Rattle.std.specs.Prelude.{ℕ, zero, suc, pos, List, [], ◌∷◌, Option, Some, None}

@@ -1,3 +1,4 @@
+-- To be believed.
 -- Statements (Wirth, The Programming Language Oberon, Oberon-07): a rule for each, with its typed tree. The number says how many
 -- more constructs may nest. The variables of the module so far, with strings behind the declared ones, go through all rules from
 -- left to right.

@@ -1,3 +1,4 @@
+-- To be believed.
 -- Constants (Wirth, The Programming Language Oberon, Oberon-07): a literal, a declared constant, or operators and the
 -- functions ABS, ODD, LSL, ASR, ROR, ORD, CHR of constants. The number says how many more constructs may nest.
 use Rattle.std.specs.Prelude.{ℕ, zero, suc, List, [], ◌∷◌, Bool, true, false, Option, Some, None, is_some}

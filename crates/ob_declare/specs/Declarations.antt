@@ -1,3 +1,4 @@
+-- To be believed.
 -- Declarations: the imports of a module, and the constants, types and variables of a module or a procedure (Wirth, The
 -- Programming Language Oberon, Oberon-07).
 use Rattle.std.specs.Prelude.{ℕ, ◌+◌, List, [], ◌∷◌, ◌++◌, Bool, true, false, not, Option, Some, None, is_some, nat_le, nat_lt, slice_get, if◌then◌else◌}

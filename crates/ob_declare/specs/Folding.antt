@@ -1,3 +1,4 @@
+-- To be believed.
 -- What constants are worth: the operators and functions of constants, by the meaning of the same operators when they run.
 -- A value that isn't there stands for one whose evaluation would trap.
 use Rattle.std.specs.Prelude.{ℕ, ℤ, pos, Bool, true, false, not, List, [], ◌∷◌, Option, Some, None, is_some, option_map}

@@ -1,3 +1,4 @@
+-- To be believed.
 -- Headings of procedures: their formal parameters and results (Wirth, The Programming Language Oberon, Oberon-07).
 use Rattle.std.specs.Prelude.{ℕ, zero, suc, List, [], ◌∷◌, ◌++◌, length, Bool, true, false, Option, Some, None, is_some}
 use Rattle.ob_base.specs.declared.fault.Code.TheVariants as code

@@ -1,3 +1,4 @@
+-- To be believed.
 -- The modules that are loaded.
 use Rattle.std.specs.Prelude.{ℕ, List, [], ◌∷◌, Bool, false, Option, Some, None, slice_get, codes, if◌then◌else◌}
 use Rattle.std.specs.Str.{bytes_eq}

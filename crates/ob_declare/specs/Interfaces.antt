@@ -1,3 +1,4 @@
+-- To be believed.
 -- The interface that the declarations of a module make.
 use Rattle.std.specs.Prelude.{ℕ, List, [], ◌∷◌, ◌++◌, Bool, true, Option, Some, None}
 use Rattle.ob_types.specs.InterfaceTree.{InterfaceTree}

@@ -1,3 +1,4 @@
+-- To be believed.
 -- A module that is loaded, as data.
 use Rattle.std.specs.Prelude.{ℕ, List}
 use Rattle.ob_types.specs.InterfaceTree.{InterfaceTree}

@@ -1,3 +1,4 @@
+-- To be believed.
 -- Names in a row.
 use Rattle.std.specs.Prelude.{◌≡◌, ℕ, suc, List, [], ◌∷◌, Vec, Bool, false, ◌||◌, option_map, Option, Some, None, if◌then◌else◌}
 use Rattle.std.specs.Str.{bytes_eq}

@@ -1,3 +1,4 @@
+-- To be believed.
 -- The names that are declared before any module (Wirth, The Programming Language Oberon, Oberon-07), those that this
 -- language leaves out, and the names in In and Out (the Oakwood Guidelines).
 use Rattle.std.specs.Prelude.{ℕ, List, Bool, true, false, ◌||◌, Option, Some, None, codes, if◌then◌else◌}

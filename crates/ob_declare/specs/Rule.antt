@@ -1,3 +1,4 @@
+-- To be believed.
 -- Rules: what a construct needs, and the code that is broken where it is not there. A rule has three readings: what it
 -- gives, which codes are broken, and the answer of somebody who goes through it from left to right.
 use Rattle.std.specs.Prelude.{◌≡◌, Bool, true, false, Option, Some, None, List, [], ◌∷◌, if◌then◌else◌, ◌⊎◌, Result, Ok, Err}

@@ -1,3 +1,4 @@
+-- To be believed.
 -- What is seen at a place of a module (Wirth, The Programming Language Oberon, Oberon-07): the declarations of the innermost
 -- block, and those of the blocks round it that nothing nearer hides.
 use Rattle.std.specs.Prelude.{ℕ, ◌+◌, List, [], ◌∷◌, ◌++◌, length, reverse, Bool, true, false, ◌&&◌, Option, Some, None, if◌then◌else◌}

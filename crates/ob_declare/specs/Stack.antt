@@ -1,3 +1,4 @@
+-- To be believed.
 -- Lists as stacks: what is on top comes first.
 use Rattle.std.specs.Prelude.{List, [], ◌∷◌, Option, Some, None, Bool, true, false}
 

@@ -1,3 +1,4 @@
+-- To be believed.
 -- Types as they are written (Wirth, The Programming Language Oberon, Oberon-07). A record type is named by its module, the
 -- procedures round its declaration, the declared name, and how many words RECORD stand before it in that declaration.
 use Rattle.std.specs.Prelude.{ℕ, zero, suc, ◌+◌, ◌*◌, ℤ, pos, negsuc, List, [], ◌∷◌, ◌++◌, length, map, reverse, Bool, true, false, not, Option, Some, None, ◌&&◌, is_some, nat_le, nat_lt, if◌then◌else◌}

@@ -1,3 +1,4 @@
+-- To be believed.
 -- Expressions, variables that are written, and actual parameters (Wirth, The Programming Language Oberon, Oberon-07). The
 -- number says how many more constructs may nest. The variables of the module grow by the strings that are passed and compared, from left to right.
 use Rattle.std.specs.Prelude.{ℕ, zero, suc, List, [], ◌∷◌, ◌++◌, Bool, Option, Some, None, is_some}

@@ -1,3 +1,4 @@
+-- To be believed.
 -- Signs, sums and products (Wirth, The Programming Language Oberon, Oberon-07). Operands that operators of one kind join
 -- stand in one list: a tree is no deeper for a longer sum.
 use Rattle.std.specs.Prelude.{ℕ, [], ◌∷◌, ◌++◌, Bool, true, false, Option, Some, None, is_some}

@@ -1,3 +1,4 @@
+-- To be believed.
 -- What names stand for.
 use Rattle.std.specs.Prelude.{List}
 use Rattle.ob_parse.specs.declared.tree.Selector.{Selector}

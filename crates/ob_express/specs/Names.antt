@@ -1,3 +1,4 @@
+-- To be believed.
 -- What names stand for in expressions, as variables that are written, and in calls (Wirth, The Programming Language Oberon,
 -- Oberon-07; In and Out after the Oakwood Guidelines). Imported variables and structured value parameters are read-only.
 use Rattle.std.specs.Prelude.{ℕ, List, [], ◌∷◌, Bool, true, false, Option, Some, None}

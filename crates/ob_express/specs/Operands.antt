@@ -1,3 +1,4 @@
+-- To be believed.
 -- Operands: values of basic type, strings, and structured things (Wirth, The Programming Language Oberon, Oberon-07).
 use Rattle.std.specs.Prelude.{ℕ, ℤ, pos, ◌+◌, List, [], ◌∷◌, ◌++◌, length, Bool, true, false, Option, Some, None}
 use Rattle.ob_base.specs.declared.fault.Code.TheVariants as code

@@ -1,3 +1,4 @@
+-- To be believed.
 -- What is passed to parameters (Wirth, The Programming Language Oberon, Oberon-07). A VAR parameter takes a variable that may
 -- be written, of the same type; a structured value a variable of the same type or a string; an open array any array of the
 -- same element.

@@ -1,3 +1,4 @@
+-- To be believed.
 -- Relations (Wirth, The Programming Language Oberon, Oberon-07): of numbers, of characters, of truth values by `=` and `#`,
 -- and of texts, which are strings and arrays of CHAR.
 use Rattle.std.specs.Prelude.{ℕ, [], ◌∷◌, Bool, true, false, ◌&&◌}

@@ -1,3 +1,4 @@
+-- To be believed.
 -- Parts of variables: fields of records, elements of arrays (Wirth, The Programming Language Oberon, Oberon-07). Another
 -- module sees the exported fields alone.
 use Rattle.std.specs.Prelude.{ℕ, ◌+◌, List, [], ◌∷◌, Bool, true, false, ◌||◌, Option, Some, None, if◌then◌else◌}

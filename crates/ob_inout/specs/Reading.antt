@@ -1,3 +1,4 @@
+-- To be believed.
 -- The module In (after the Oakwood Guidelines, in this project's profile): what its readers find in lines.
 use Rattle.std.specs.Prelude.{◌≡◌, ℕ, zero, suc, ◌^◌, Bool, true, false, ◌&&◌, not, ◌==◌, nat_le, nat_lt, if◌then◌else◌, List, [], ◌∷◌, ◌++◌, length, drop, map, Option, Some, None, ℤ, pos, negsuc}
 use Rattle.std.specs.Char.{is_ascii_digit}

@@ -1,3 +1,4 @@
+-- To be believed.
 -- The module Out (after the Oakwood Guidelines): what each procedure writes, as bytes of UTF-8.
 use Rattle.std.specs.Prelude.{ℕ, ◌-◌, min, ◌==◌, if◌then◌else◌, List, [], ◌∷◌, ◌++◌, length, replicate, encode_utf8, ℤ, pos, negsuc}
 use Rattle.std.specs.Fmt.{signed_decimal}

@@ -1,3 +1,4 @@
+-- To be believed.
 -- What a cell has come to, as a kernel shows it.
 use Rattle.std.specs.Prelude.{ℕ, Bool, true, false}
 use Rattle.ob_mean.specs.declared.outcome.TrapKind.{TrapKind}

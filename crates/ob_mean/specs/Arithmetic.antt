@@ -1,3 +1,4 @@
+-- To be believed.
 -- Numbers of 32 bits, which wrap, and what operators and predeclared functions make of them (Wirth, The Programming
 -- Language Oberon, Oberon-07; integers of 32 bits).
 use Rattle.std.specs.Prelude.{ℕ, zero, suc, ◌^◌, ℤ, pos, negsuc, ◌+ℤ◌, ◌-ℤ◌, ◌*ℤ◌, int_lt, nat_lt, not, ◌||◌, if◌then◌else◌, Bool, true, false, List}

@@ -1,3 +1,4 @@
+-- To be believed.
 -- Sequences, choices and loops of pieces (Wirth, The Programming Language Oberon, Oberon-07). An entry of a loop's body is
 -- a turn.
 use Rattle.std.specs.Prelude.{ℕ, zero, suc, ℤ, ◌&&◌, int_le, cond, List, [], ◌∷◌, Bool, true, false, Option, Some, None}

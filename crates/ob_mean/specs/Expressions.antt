@@ -1,3 +1,4 @@
+-- To be believed.
 -- Expressions, variables and what is passed, from left to right (Wirth, The Programming Language Oberon, Oberon-07).
 use Rattle.std.specs.Prelude.{ℕ, ℤ, pos, negsuc, List, [], ◌∷◌, Option, Some, None, nat_lt, if◌then◌else◌, slice_index}
 use Rattle.ob_mean.specs.declared.expression.Variable.{Variable}

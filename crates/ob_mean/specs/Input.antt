@@ -1,3 +1,4 @@
+-- To be believed.
 -- The readers of In, which ask for lines (after the Oakwood Guidelines).
 use Rattle.std.specs.Prelude.{ℕ, pos, List, [], ◌∷◌, Option, Some, None}
 use Rattle.ob_inout.specs.declared.answer.Answer.{Answer}

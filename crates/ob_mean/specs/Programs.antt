@@ -1,3 +1,4 @@
+-- To be believed.
 -- Calls, and what the body of a module and a list of commands do (Wirth, The Programming Language Oberon, Oberon-07).
 use Rattle.std.specs.Prelude.{ℕ, zero, suc, ℤ, List, [], ◌∷◌, Option, Some, None, slice_get, slice_index, length}
 use Rattle.ob_inout.specs.Reading.{opened}

@@ -1,3 +1,4 @@
+-- To be believed.
 -- What a run of a piece of a program gives: a value and the state after it, or why and in what state it stands.
 use Rattle.std.specs.Prelude.{ℕ, zero, suc, ℤ, pos, negsuc, List, ◌++◌}
 use Rattle.ob_inout.specs.Reading.{Line, Input}

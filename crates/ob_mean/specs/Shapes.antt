@@ -1,3 +1,4 @@
+-- To be believed.
 -- Variables before anything is assigned to them: a number is 0, a truth value FALSE, a character 0X.
 use Rattle.std.specs.Prelude.{pos, List, [], ◌∷◌}
 use Rattle.ob_mean.specs.declared.shape.Shape.{Shape, Row_of-Shape, end_of-Shape, more_of-Shape}

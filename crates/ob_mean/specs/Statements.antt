@@ -1,3 +1,4 @@
+-- To be believed.
 -- Statements (Wirth, The Programming Language Oberon, Oberon-07; In and Out after the Oakwood Guidelines).
 use Rattle.std.specs.Prelude.{ℕ, ℤ, pos, negsuc, ◌+ℤ◌, ◌-ℤ◌, int_le, nat_lt, if◌then◌else◌, length, map, Bool, List, [], ◌∷◌, Option, Some, None}
 use Rattle.ob_inout.specs.Reading.{opened}

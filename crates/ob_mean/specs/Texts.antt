@@ -1,3 +1,4 @@
+-- To be believed.
 -- Strings and arrays of CHAR (Wirth, The Programming Language Oberon, Oberon-07). A character is its number.
 use Rattle.std.specs.Prelude.{ℕ, zero, suc, ℤ, pos, negsuc, Bool, true, false, ◌==◌, ◌&&◌, ◌||◌, nat_lt, if◌then◌else◌, List, [], ◌∷◌}
 use Rattle.ob_mean.specs.Values.{Value, Cell, Named, Open, Nothing, Beside, number}

@@ -1,3 +1,4 @@
+-- To be believed.
 -- Values, places, and the store of all variables (Wirth, The Programming Language Oberon, Oberon-07: variables, arrays and
 -- records, and what a VAR parameter stands for).
 use Rattle.std.specs.Prelude.{ℕ, zero, suc, ◌+◌, ℤ, pos, List, [], ◌∷◌, ◌++◌}

@@ -1,3 +1,4 @@
+-- To be believed.
 -- The tree of a text, and which codes say that it has none.
 use Rattle.std.specs.Prelude.{◌≡◌, ◌⊎◌, ℕ, List, Result, Ok, Err}
 use Rattle.ob_base.specs.declared.fault.Code.{Code}

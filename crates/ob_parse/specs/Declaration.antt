@@ -1,3 +1,4 @@
+-- To be believed.
 -- The grammar of declarations. The number says how many more constructs may nest in one.
 use Rattle.std.specs.Prelude.{◌≡◌, ℕ, zero, suc, List, ◌∷◌}
 use Rattle.ob_scan.specs.declared.token.Kind.TheVariants as kinds

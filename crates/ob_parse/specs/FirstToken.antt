@@ -1,3 +1,4 @@
+-- To be believed.
 -- The place of the first token of an expression.
 use Rattle.std.specs.Prelude.{◌≡◌, List, [], ◌∷◌, Option, Some, None}
 use Rattle.ob_scan.specs.declared.token.Span.{Span}

@@ -1,3 +1,4 @@
+-- To be believed.
 -- The grammar of cells, and which tree is that of a list of tokens: that of Wirth, The Programming Language Oberon
 -- (Oberon-07), with a list of commands as a second kind of cell.
 use Rattle.std.specs.Prelude.{◌≡◌, ℕ, List, [], Result, Ok, Err}

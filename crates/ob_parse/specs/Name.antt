@@ -1,3 +1,4 @@
+-- To be believed.
 -- The grammar of names and labels.
 use Rattle.std.specs.Prelude.{◌≡◌, List, ◌∷◌}
 use Rattle.ob_scan.specs.declared.token.Kind.TheVariants as kinds

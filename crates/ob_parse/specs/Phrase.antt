@@ -1,3 +1,4 @@
+-- To be believed.
 -- Phrases of tokens, and how they are put together.
 use Rattle.std.specs.Prelude.{◌≡◌, ℕ, ◌<◌, ◌⊎◌, List, [], ◌∷◌, Option, Some, None}
 use Rattle.ob_scan.specs.declared.token.Kind.TheVariants as kinds

@@ -1,3 +1,4 @@
+-- To be believed.
 -- The grammar of statements. The number says how many more constructs may nest in one.
 use Rattle.std.specs.Prelude.{◌≡◌, ℕ, zero, suc, List, [], ◌∷◌, Some, None}
 use Rattle.ob_scan.specs.declared.token.Symbol.{Symbol}

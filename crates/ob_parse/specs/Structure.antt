@@ -1,3 +1,4 @@
+-- To be believed.
 -- The grammar of types. The number says how many more constructs may nest in one.
 use Rattle.std.specs.Prelude.{ℕ, zero, suc}
 use Rattle.ob_scan.specs.declared.token.Symbol.TheVariants as s

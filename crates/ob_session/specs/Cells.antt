@@ -1,3 +1,4 @@
+-- To be believed.
 -- The meaning of a cell that keeps the static rules: a module, or commands, in a session.
 use Rattle.std.specs.Prelude.{ℕ, suc, ◌-◌, ◌&&◌, ◌||◌, codes, Bool, true, false, List, [], ◌∷◌, length, Option, Some, None, if◌then◌else◌, slice_get, slice_index}
 use Rattle.std.specs.Str.{bytes_eq}

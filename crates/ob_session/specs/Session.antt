@@ -1,3 +1,4 @@
+-- To be believed.
 -- What the cells of a kernel hand from each to the next: the modules that are loaded, and their variables.
 use Rattle.std.specs.Prelude.{ℕ, zero, suc, List, [], ◌∷◌, length, map, nat_lt, Option, Some, None, if◌then◌else◌}
 use Rattle.std.specs.Str.{bytes_eq}

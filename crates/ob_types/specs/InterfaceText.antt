@@ -1,3 +1,4 @@
+-- To be believed.
 -- The text of an interface, as bytes of UTF-8: a line for the module, and one for each name that it exports.
 use Rattle.std.specs.Prelude.{ℕ, ◌+◌, ◌/◌, ◌%◌, nat_lt, if◌then◌else◌, Bool, true, false, List, [], ◌∷◌, ◌++◌, Option, Some, None, codes, encode_utf8}
 use Rattle.std.specs.Fmt.{decimal, signed_decimal}

@@ -1,3 +1,4 @@
+-- To be believed.
 -- An interface as data.
 use Rattle.std.specs.Prelude.{ℕ, List}
 use Rattle.ob_types.specs.declared.exports.Exported.{Exported}
