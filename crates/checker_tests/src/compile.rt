@@ -1,6 +1,6 @@
 ghost use Rattle.ob_fit.specs.Solid.{EachSolid};
 
-use ob_base::{Boxed, Items, Refused, Text};
+use ob_base::{Items, Refused, Shared, Text};
 use ob_check::check;
 use ob_code::checked::Checked;
 use ob_compile::{compile, face_of, faces_of, has_room};
@@ -143,8 +143,8 @@ fn faces_are_the_same_or_not(rt: HostRuntime) -> Result<(), Fail> {
 
 /// So many arrays of so many basic values.
 fn rows(alloc: Global, count: u32, length: u32) -> Result<Shape, AllocError> {
-    let row = Shape::Array(length, Boxed::new(alloc, Shape::Basic)?);
-    Ok(Shape::Array(count, Boxed::new(alloc, row)?))
+    let row = Shape::Array(length, Shared::new(alloc, Shape::Basic)?);
+    Ok(Shape::Array(count, Shared::new(alloc, row)?))
 }
 
 /// Whether there is room for a module with such a variable and a basic one.

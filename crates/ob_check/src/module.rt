@@ -8,6 +8,7 @@ ghost use Rattle.ob_check.specs.Codes.{is_rule_code, HasRuleCode};
 ghost use Rattle.ob_check.specs.Modules as spec;
 
 use crate::checked::{Checked, Imported};
+use crate::made::Made;
 use crate::procedure::procedures;
 use crate::shapes::shape_of;
 use crate::statement::optional;
@@ -23,6 +24,7 @@ use std::alloc::{AllocError, Global};
 
 fn exported_variable(
     alloc: Global,
+    made: &mut Made,
     so_far: Variables,
     entry: &Entry,
 ) -> Result<Variables, AllocError>
@@ -31,7 +33,7 @@ fn exported_variable(
     let mut so_far = so_far;
     match entry {
         Entry::Variable(of, Standing::Exported(_)) => {
-            so_far.push(ModuleVariable::Declared(shape_of(alloc, of)?))?;
+            so_far.push(ModuleVariable::Declared(shape_of(alloc, made, of)?))?;
             Ok(so_far)
         }
         _ => Ok(so_far),
@@ -39,23 +41,32 @@ fn exported_variable(
 }
 
 /// The variables that others see.
-fn exported_variables(alloc: Global, declared: &[Declared]) -> Result<Variables, AllocError>
+fn exported_variables(
+    alloc: Global,
+    made: &mut Made,
+    declared: &[Declared],
+) -> Result<Variables, AllocError>
     ensures { IfOk result (λ vs. vs ≡ spec.exported_variables declared.now) }
 {
     let mut so_far = Items::new(alloc);
     for d in declared {
-        so_far = exported_variable(alloc, so_far, &d.entry)?;
+        so_far = exported_variable(alloc, made, so_far, &d.entry)?;
     }
     Ok(so_far)
 }
 
-fn own_variable(alloc: Global, so_far: Variables, entry: &Entry) -> Result<Variables, AllocError>
+fn own_variable(
+    alloc: Global,
+    made: &mut Made,
+    so_far: Variables,
+    entry: &Entry,
+) -> Result<Variables, AllocError>
     ensures { IfOk result (λ vs. vs ≡ so_far ++ spec.own_variable entry.now) }
 {
     let mut so_far = so_far;
     match entry {
         Entry::Variable(of, Standing::Own(_)) => {
-            so_far.push(ModuleVariable::Declared(shape_of(alloc, of)?))?;
+            so_far.push(ModuleVariable::Declared(shape_of(alloc, made, of)?))?;
             Ok(so_far)
         }
         _ => Ok(so_far),
@@ -65,6 +76,7 @@ fn own_variable(alloc: Global, so_far: Variables, entry: &Entry) -> Result<Varia
 /// The other variables, behind these.
 fn own_variables(
     alloc: Global,
+    made: &mut Made,
     first: Variables,
     declared: &[Declared],
 ) -> Result<Variables, AllocError>
@@ -72,7 +84,7 @@ fn own_variables(
 {
     let mut so_far = first;
     for d in declared {
-        so_far = own_variable(alloc, so_far, &d.entry)?;
+        so_far = own_variable(alloc, made, so_far, &d.entry)?;
     }
     Ok(so_far)
 }
@@ -81,8 +93,9 @@ fn own_variables(
 fn declared_variables(alloc: Global, declared: &[Declared]) -> Result<Variables, AllocError>
     ensures { IfOk result (λ vs. vs ≡ spec.declared_variables declared.now) }
 {
-    let exported = exported_variables(alloc, declared)?;
-    own_variables(alloc, exported, declared)
+    let mut made = Made::new(alloc);
+    let exported = exported_variables(alloc, &mut made, declared)?;
+    own_variables(alloc, &mut made, exported, declared)
 }
 
 /// The import of a loaded module, with its key, behind these.

@@ -5,6 +5,7 @@ ghost use Rattle.ob_parse.specs.declared.tree.Procedure.{out-Procedure};
 ghost use Rattle.ob_declare.specs.Rule.{Judges, through};
 ghost use Rattle.ob_check.specs.Procedures as spec;
 
+use crate::made::Made;
 use crate::shapes::{parameters_of, shape_of};
 use crate::statement::optional;
 use ob_base::{Code, Items, Refused};
@@ -73,6 +74,7 @@ fn number_of(levels: u32, before: usize, p: &Procedure) -> Result<usize, AllocEr
 /// The variable that a declaration of a procedure makes, if it makes one: the parameters stand before it.
 fn own_shape(
     alloc: Global,
+    made: &mut Made,
     so_far: Items<Shape>,
     parameters: usize,
     entry: &Entry,
@@ -83,7 +85,7 @@ fn own_shape(
     match entry {
         Entry::Variable(of, Standing::Local(i)) => {
             if parameters <= *i {
-                so_far.push(shape_of(alloc, of)?)?;
+                so_far.push(shape_of(alloc, made, of)?)?;
             }
             Ok(so_far)
         }
@@ -94,6 +96,7 @@ fn own_shape(
 /// The variables of a procedure, behind so many parameters.
 fn own_shapes(
     alloc: Global,
+    made: &mut Made,
     parameters: usize,
     declared: &[Declared],
 ) -> Result<Items<Shape>, AllocError>
@@ -101,7 +104,7 @@ fn own_shapes(
 {
     let mut so_far = Items::new(alloc);
     for d in declared {
-        so_far = own_shape(alloc, so_far, parameters, &d.entry)?;
+        so_far = own_shape(alloc, made, so_far, parameters, &d.entry)?;
     }
     Ok(so_far)
 }
@@ -145,8 +148,9 @@ fn typed_procedure(
     ensures { IfOk result (λ p. p ≡ spec.typed_procedure signature.now scope.now body returned) }
 {
     let formals = signature.formals.as_slice();
-    let parameters = parameters_of(alloc, formals)?;
-    let variables = own_shapes(alloc, formals.len(), scope.block.declared())?;
+    let mut made = Made::new(alloc);
+    let parameters = parameters_of(alloc, &mut made, formals)?;
+    let variables = own_shapes(alloc, &mut made, formals.len(), scope.block.declared())?;
     Ok(TypedProcedure {
         parameters,
         variables,
