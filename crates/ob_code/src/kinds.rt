@@ -2,7 +2,7 @@
 
 ghost use Rattle.std.specs.Prelude.{◌≡◌, ℕ, ◌+◌, ◌<◌, ◌≤◌, length, IsTrue};
 ghost use Rattle.ob_code.specs.Kinds as spec;
-ghost use Rattle.ob_code.specs.Kinds.{Covers, CoversAt, CoverAll};
+ghost use Rattle.ob_code.specs.Kinds.{Covers, CoversAt, CoverAll, SameAt};
 
 use crate::instr::{Length, NameKind};
 use ob_base::Items;

@@ -1,7 +1,7 @@
 // Whether so much is known of the operands and names before each line.
 
 ghost use Rattle.std.specs.Prelude.{◌≡◌, ℕ, ◌++◌, ◌-◌, ◌<◌, ◌≤◌, [], ◌∷◌, length, take, drop, option_copied, IsTrue, Some, slice_get};
-ghost use Rattle.ob_code.specs.Kinds.{LieAmong, LieInElement, LieInName, Lie, IsLong, ArrayLies, TextLies, TargetLies, LengthIs, IsFew, ArePassed, CoverAll, with_top, results_kinds, OperandsArrive, NamesArrive, Arrives, known_at, listed, Keeps, HasKinds};
+ghost use Rattle.ob_code.specs.Kinds.{LieAmong, LieInElement, LieInName, Lie, IsLong, ArrayLies, TextLies, TargetLies, LengthIs, IsFew, ArePassed, CoverAll, with_top, results_kinds, nothing, OperandsArrive, NamesArrive, Arrives, known_at, listed, Keeps, HasKinds};
 ghost use Rattle.ob_code.specs.declared.instr.Line.{Line as LineOf};
 ghost use Rattle.ob_code.specs.declared.instr.NameKind.TheVariants.{ArrayOf};
 
@@ -38,7 +38,7 @@ fn lie_in_element(name: usize, size: usize, kind: Kind, count: usize) -> bool
 }
 
 fn lie_in_name(named: Option<&NameKind>, name: usize, kind: Kind, count: usize) -> bool
-    ensures { IsTrue result → LieInName (option_copied named) name kind count }
+    ensures { IsTrue result → LieInName (option_copied named.entry) name kind count }
 {
     match named {
         Some(NameKind::Cells(cells)) => *cells >= NUMBERS || lie_among(*cells, kind, count),
@@ -486,12 +486,19 @@ fn lines_keep(code: &CodeModule, procedure: &Procedure, rows: &[Known]) -> bool
     true
 }
 
+// A procedure begins with nothing.
+fn begins(procedure: &Procedure, rows: &[Known]) -> bool
+    ensures { IsTrue result → Arrives (known_at procedure.now (listed rows.now) 0) nothing }
+{
+    operands_arrive(procedure, rows, 0, None, &[]) && names_arrive(procedure, rows, 0, &[])
+}
+
 /// Whether so much is known of the operands and names before each line of a procedure.
 pub(crate) fn rows_fit(code: &CodeModule, procedure: &Procedure, rows: &[Known]) -> bool
     ensures { IsTrue result → HasKinds code.now procedure.now }
 {
-    procedure.entry.kinds.len() == procedure.entry.names
-        && operands_arrive(procedure, rows, 0, None, &[])
-        && names_arrive(procedure, rows, 0, &[])
-        && lines_keep(code, procedure, rows)
+    if procedure.entry.kinds.len() != procedure.entry.names {
+        return false;
+    }
+    begins(procedure, rows) && lines_keep(code, procedure, rows)
 }
