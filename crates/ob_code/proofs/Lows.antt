@@ -1,11 +1,9 @@
 -- What the tests of kinds rest on.
-use Rattle.std.proofs.Common.{◌≡◌, ℕ, zero, suc, ◌+◌, ◌<◌, ◌≤◌, List, [], ◌∷◌, length, Some, Bool, true, false, refl, ap, ◌∙◌, subst, ⊎_elim, arith}
-use Rattle.std.specs.Prelude.{slice_get, nat_lt, nat_le, if◌then◌else◌}
+use Rattle.std.proofs.Common.{◌≡◌, ℕ, suc, ◌+◌, ◌<◌, ◌≤◌, [], ◌∷◌, length, true, false, refl, ap, ◌∙◌, subst, ⊎_elim, arith}
+use Rattle.std.specs.Prelude.{nat_lt, nat_le, if◌then◌else◌}
 use Rattle.std.proofs.lemmas.Bool.{cases_lt}
 use Rattle.std.proofs.lemmas.Bool.Decides.{nat_tests}
-use Rattle.ob_code.specs.declared.kinds.Kind.{Kind}
 use Rattle.ob_code.specs.declared.kinds.Kind.TheVariants.{Number, UpTo, Inside}
-use Rattle.ob_code.specs.declared.instr.NameKind.{NameKind}
 use Rattle.ob_code.specs.Kinds.{Kinds, NameKinds, CoversAt, CoverAll, SameAt, low, inside}
 
 pub low_fits : (n : ℕ) → n < 2147483648 → low n ≡ UpTo n

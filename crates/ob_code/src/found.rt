@@ -50,7 +50,11 @@ fn calling(code: &CodeModule, callee: Callee) -> Change {
     match entry_of(code, callee) {
         Some(entry) => Change {
             taken: entry.operands,
-            pushed: if entry.is_function { Some(Kind::Number) } else { None },
+            pushed: if entry.is_function {
+                Some(Kind::Number)
+            } else {
+                None
+            },
             names: entry.names,
             named: None,
         },

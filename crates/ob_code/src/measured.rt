@@ -173,12 +173,7 @@ fn operands_arrive(
 }
 
 // A place with these names.
-fn names_arrive(
-    procedure: &Procedure,
-    rows: &[Known],
-    place: usize,
-    names: &[NameKind],
-) -> bool
+fn names_arrive(procedure: &Procedure, rows: &[Known], place: usize, names: &[NameKind]) -> bool
     ensures { IsTrue result → NamesArrive (known_at procedure.now (listed rows.now) place) names.now }
 {
     match procedure.lines.get(place) {
@@ -273,13 +268,7 @@ fn names_one(
 }
 
 // A call that finds its operands and names, and leads to a place with those that it leaves.
-fn calls(
-    procedure: &Procedure,
-    rows: &[Known],
-    known: &Known,
-    place: usize,
-    entry: &Entry,
-) -> bool
+fn calls(procedure: &Procedure, rows: &[Known], known: &Known, place: usize, entry: &Entry) -> bool
     ensures taken { IsTrue result → entry.now.operands ≤ length known.now.operands }
     ensures passed { IsTrue result → ArePassed (Some entry.now) known.now.names }
     ensures arrives { IsTrue result → Arrives (known_at procedure.now (listed rows.now) place) (record { operands = results_kinds entry.now.is_function ++ drop entry.now.operands known.now.operands; names = take (length known.now.names - entry.now.names) known.now.names }) }
@@ -289,7 +278,11 @@ fn calls(
         return false;
     }
     let (rest, passed) = names.split_at(names.len() - entry.names);
-    let top = if entry.is_function { Some(Kind::Number) } else { None };
+    let top = if entry.is_function {
+        Some(Kind::Number)
+    } else {
+        None
+    };
     are_same(passed, entry.kinds.as_slice())
         && operands_lead(
             procedure,
@@ -448,7 +441,11 @@ fn jump_keeps(
         },
         Instr::Read(target) => {
             more > 2
-                && target_lies(procedure.entry.kinds.as_slice(), *target, first(known.operands.as_slice()))
+                && target_lies(
+                    procedure.entry.kinds.as_slice(),
+                    *target,
+                    first(known.operands.as_slice()),
+                )
                 && leads(procedure, rows, known, next, 0, None)
                 && leads(procedure, rows, known, place + 3, 1, None)
         }

@@ -46,6 +46,7 @@ use Rattle.ob_code.specs.declared.instr.Entries.{Entries}
 use Rattle.ob_code.specs.declared.instr.Procedure.{Procedure}
 use Rattle.ob_code.specs.declared.instr.CodeModule.{CodeModule}
 use Rattle.ob_code.specs.Valid.{height, results, asks, RootFits, LengthFits, SpanFits, TargetFits, own_entry, known_entry, entry_of, Calls, Fits, ProcedureFits, IsBody, IsValid}
+use Rattle.ob_code.proofs.machine.Laid.{entry_same}
 use Rattle.ob_gen.specs.Code.{line, parameter_row, own_row, face_row, named_one, named_before, root_of, root_in, name_number, length_in, length_of, span_of, element_cells, and_code, or_code, value_one, name_one, row_values, row_names, read_code, expr_code, offset_code, operations_code, every_code, either_code, argument_code, arguments_code, list_values, list_names, passed_code, target_of, input_code, output_code, assign_code, action_code, Guarded, loop_code, for_relation, for_guard, for_step, for_code, stat_code, stats_code, branches, arms_code, list_code, result_code, procedure_code}
 use Rattle.ob_gen.specs.Correct.{named_count, name_kinds, parameter_count, IsCodeOf, AreCompiled}
 use Rattle.ob_gen.specs.Generated.{valued_count, heading_entry, IsOfFace, AreOfFaces, most_operands, most_names, HasRoom, AllHaveRoom, IsGenerated}
@@ -535,13 +536,6 @@ compiled_length faces m [] (g ∷ []) h = omega arith
 compiled_length faces m [] (g ∷ (k ∷ gs)) h = absurd h
 compiled_length faces m (f ∷ fs) [] h = absurd h
 compiled_length faces m (f ∷ fs) (g ∷ gs) h = let e = compiled_length faces m fs gs h.1 in omega (arith, e)
-
-pub entry_same : (a b : Entry) → a.operands ≡ b.operands → a.names ≡ b.names → a.kinds ≡ b.kinds → a.is_function ≡ b.is_function → a ≡ b
-entry_same a b e f g h =
-    ap (λ x. record { operands = x; names = a.names; kinds = a.kinds; is_function = a.is_function }) e
-    ∙ ap (λ x. record { operands = b.operands; names = x; kinds = a.kinds; is_function = a.is_function }) f
-    ∙ ap (λ x. record { operands = b.operands; names = b.names; kinds = x; is_function = a.is_function }) g
-    ∙ ap (λ x. record { operands = b.operands; names = b.names; kinds = b.kinds; is_function = x }) h
 
 -- what a procedure of the code takes and leaves is what its heading says
 entry_is : (names : Names) (tree : TypedProcedure) (g : Procedure) → names.parameters ≡ tree.parameters → IsCodeOf names tree.body tree.result g → g.entry ≡ heading_entry (heading_of tree)
