@@ -28,8 +28,7 @@ fn lie_in_element(name: usize, size: usize, kind: Kind, count: usize) -> bool
     ensures { IsTrue result → LieInElement name size kind count }
 {
     match kind {
-        Kind::Number => false,
-        Kind::UpTo(_) => false,
+        Kind::Number | Kind::UpTo(_) => false,
         Kind::Inside(other, cells, most) => {
             other == name && cells == size && most <= size && count <= size - most
         }
