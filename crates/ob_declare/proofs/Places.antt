@@ -1,5 +1,5 @@
 -- The places of names, and what stands there.
-use Rattle.std.proofs.Common.{◌≡◌, ◌||◌, ℕ, suc, ◌<◌, Bool, true, false, cond, List, [], ◌∷◌, ◌++◌, length, Option, Some, None, option_map, is_some, slice_get, refl, sym, ◌∙◌, ap, subst, inl, inr, arith}
+use Rattle.std.proofs.Common.{◌≡◌, ◌||◌, ℕ, suc, ◌+◌, ◌<◌, Bool, true, false, cond, List, [], ◌∷◌, ◌++◌, length, Option, Some, None, option_map, is_some, slice_get, refl, sym, ◌∙◌, ap, subst, inl, inr, arith}
 use Rattle.std.specs.Str.{bytes_eq}
 use Rattle.std.proofs.lemmas.Bool.{cases_Bool}
 use Rattle.std.proofs.Math.ListN.{set}
@@ -86,10 +86,6 @@ exported_here (d ∷ es) q i e =
 
 -- ---- modules
 
-pub names_more : (ms : Modules) (m : LoadedTree) → module_names (ms ++ m ∷ []) ≡ module_names ms ++ m.interface.name ∷ []
-names_more [] m = refl
-names_more (n ∷ ms) m = ap (λ ns. n.interface.name ∷ ns) (names_more ms m)
-
 pub added_new : (ms : Modules) (m : LoadedTree) → place_in (module_names ms) m.interface.name ≡ None → added ms m ≡ ms ++ m ∷ []
 added_new [] m e = refl
 added_new (n ∷ ms) m e =
@@ -113,11 +109,26 @@ added_again (n ∷ ms) m i e =
       | inr p ↦ rw (p.1.2) (ap (λ b. cond b (m ∷ ms) (n ∷ added ms m)) p.0 ∙ ap (λ l. n ∷ l) (added_again ms m p.1.0 p.1.1))
     ]
 
--- a module in the place of one of its name leaves the names
-pub names_again : (ms : Modules) (m : LoadedTree) (i : ℕ) → place_in (module_names ms) m.interface.name ≡ Some i → module_names (set ms i m) ≡ module_names ms
-names_again [] m i e = absurd (let k : none_ℕ ≡ Some i = e in cc)
-names_again (n ∷ ms) m i e =
-    elim (some_found (bytes_eq n.interface.name m.interface.name) (place_in (module_names ms) m.interface.name) i e) as (λ _. module_names (set (n ∷ ms) i m) ≡ module_names (n ∷ ms)) [
-      | inl p ↦ rw (p.1) (ap (λ q. q ∷ module_names ms) (sym ((bytes_decides n.interface.name m.interface.name).0 p.0)))
-      | inr p ↦ rw (p.1.2) (ap (λ ns. n.interface.name ∷ ns) (names_again ms m p.1.0 p.1.1))
-    ]
+-- ---- places counted from a number on
+
+abbrev pub later : ℕ → Option ℕ → Option ℕ
+later n None = None
+later n (Some k) = Some (n + k)
+
+pub later_none : (o : Option ℕ) → later 0 o ≡ o
+later_none None = refl
+later_none (Some k) = refl
+
+pub later_here : (n : ℕ) → later n (Some 0) ≡ Some n
+later_here n = ap Some (let e : n + 0 ≡ n = omega arith in e)
+
+pub later_next : (n : ℕ) (o : Option ℕ) → later n (option_map suc o) ≡ later (n + 1) o
+later_next n None = refl
+later_next n (Some k) = ap Some (let e : n + suc k ≡ n + 1 + k = omega arith in e)
+
+-- of a row whose first name is this, and of one whose first is another
+pub place_here : (n : ℕ) (m q : List ℕ) (ns : List (List ℕ)) → bytes_eq m q ≡ true → later n (place_in (m ∷ ns) q) ≡ Some n
+place_here n m q ns e = ap (λ b. later n (cond b (Some 0) (option_map suc (place_in ns q)))) e ∙ later_here n
+
+pub place_next : (n : ℕ) (m q : List ℕ) (ns : List (List ℕ)) → bytes_eq m q ≡ false → later n (place_in (m ∷ ns) q) ≡ later (n + 1) (place_in ns q)
+place_next n m q ns e = ap (λ b. later n (cond b (Some 0) (option_map suc (place_in ns q)))) e ∙ later_next n (place_in ns q)

@@ -8,6 +8,7 @@ pub mod Predeclared
 pub mod Scope
 pub mod Folding
 pub mod Imports
+pub mod Tables
 pub mod Constants
 pub mod WrittenTypes
 pub mod Declarations

@@ -3,8 +3,17 @@ use Rattle.std.proofs.lemmas.List.{length-map}
 use Rattle.std.proofs.lemmas.Option.{slice_get_read}
 use Rattle.ob_session.specs.Session.{Module}
 use Rattle.ob_link.specs.Reaching.{reached_by, reaching}
-use Rattle.ob_cell.proofs.Adding.{added_more}
-use Rattle.ob_cell.proofs.loaded.loaded_for.Goals as goal
+use Rattle.ob_cell.proofs.Adding.{added_more, new_place}
+use Rattle.ob_cell.proofs.loaded.all_loaded.Goals as goal
+
+pub with_module-requires : goal.with_module-requires
+with_module-requires c =
+    let modules = c.args.modules.now in
+    let number = c.loop-number.number in
+    let there : slice_get c.as_slice-modules.result.now number ≡ Some c.index-modules-number.result =
+    slice_get_read c.as_slice-modules.result.now (length c.as_slice-modules.result.now) number c.index-modules-number.result refl c.loop-number-test.true c.index-modules-number.is in
+    let here : slice_get modules number ≡ Some c.index-modules-number.result = subst (λ (ms : List Module). slice_get ms number ≡ Some c.index-modules-number.result) c.as_slice-modules.ensures there in
+    new_place modules c.args.name.now number c.index-modules-number.result c.loop-number.imports c.requires here c.loop-number.invariant
 
 pub loop-number-preserved : goal.loop-number-preserved
 loop-number-preserved c =
