@@ -13,7 +13,7 @@ use std::alloc::{AllocError, AllocFailed};
 
 /// A static rule that is broken, and the first character of a token there. Lines and columns begin at 1.
 #[derive(Clone, Copy, Debug, PartialEq, Eq)]
-pub struct Broken {
+pub struct BrokenRule {
     pub code: RuleCode,
     pub line: usize,
     pub column: usize,
@@ -22,7 +22,7 @@ pub struct Broken {
 /// Why there is no typed tree.
 #[derive(Debug, Drop)]
 pub enum Rejected {
-    Rule(Broken),
+    Rule(BrokenRule),
     Memory,
 }
 
@@ -66,10 +66,10 @@ pub fn told(rejected: Rejected) -> Refused
 }
 
 /// A rule that is broken at a token.
-pub fn broken(code: RuleCode, span: Span) -> Broken
+pub fn broken(code: RuleCode, span: Span) -> BrokenRule
     ensures { result.code ≡ code }
 {
-    Broken {
+    BrokenRule {
         code,
         line: span.line,
         column: span.column,
