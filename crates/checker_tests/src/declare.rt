@@ -1,4 +1,5 @@
 use ob_base::{Code, Refused, Text};
+use ob_declare::rejected::Rejected;
 use ob_declare::{
     Entered, Entry, Imports, Scope, Standing, declare_all, declare_module, enter_procedure,
     interface_of,
@@ -11,7 +12,7 @@ use std::test::Fail;
 
 fn code_of(alloc: Global, module: &Module) -> Option<Code> {
     match declare_module(alloc, &Imports::empty(alloc), module) {
-        Err(Refused::Fault(fault)) => Some(fault.code),
+        Err(Rejected::Rule(broken)) => Some(broken.code.code()),
         _ => None,
     }
 }

@@ -1,6 +1,7 @@
 -- What each text keeps, from turn to turn and from line to line, and what one that is refused leaves.
 use Rattle.std.proofs.Common.{◌≡◌, ℕ, Bool, inl, inr, List, [], ◌∷◌, ◌++◌, Option, Some, None, Result, Ok, Err, refl, sym, ap, ◌∙◌, subst, true, false, arith}
 use Rattle.ob_base.specs.declared.fault.Code.{Code}
+use Rattle.ob_declare.specs.declared.rule.RuleCode.{RuleCode}
 use Rattle.ob_scan.specs.declared.token.Token.{Token}
 use Rattle.ob_scan.specs.Tokens.{Tokens}
 use Rattle.ob_scan.proofs.TokenReading.{tokens_of-complete}
@@ -119,7 +120,7 @@ cell_fed session text lines line = fed_at (checked_text session text) session li
 -- ---- a text that breaks a rule
 
 -- what breaks a rule is given nothing
-excludes : {A : Type 0} (r : Rule A) (c : Code) (a : A) → breaks r c → gives r a → ⊥
+excludes : {A : Type 0} (r : Rule A) (c : RuleCode) (a : A) → breaks r c → gives r a → ⊥
 excludes (Given x) c a b g = b
 excludes (rule.Breaks code) c a b g = g
 excludes (Then {A} {B} r f) c a b g =
@@ -138,7 +139,7 @@ excludes (Both r s) c a b g =
       | inr p ↦ excludes s c a.1 p g.1
     ]
 
-none_by : (r : Rule Checked) (c : Code) → breaks r c → (x : Result Checked Code) → answer r ≡ x → checked_by x ≡ None
+none_by : (r : Rule Checked) (c : RuleCode) → breaks r c → (x : Result Checked RuleCode) → answer r ≡ x → checked_by x ≡ None
 none_by r c b (Ok a) e = absurd (excludes r c a b (found r a e))
 none_by r c b (Err code) e = refl
 
@@ -165,7 +166,7 @@ unfolding IsBroken checked_text
 broken_none session text c h =
     elim h as (λ _. checked_in session (cell_of text) ≡ None) [
       | inl b ↦ none_in session text (no_tree text c b) (cell_of text) refl
-      | inr p ↦ ap (checked_in session) (cell_complete text p.0 p.1) ∙ none_by (cell_rule session p.0) c p.2 (answer (cell_rule session p.0)) refl
+      | inr p ↦ ap (checked_in session) (cell_complete text p.0 p.1) ∙ none_by (cell_rule session p.0) p.2.0 p.2.1 (answer (cell_rule session p.0)) refl
     ]
 
 broken_stands : (session : Session) (text : List ℕ) (c : Code) → IsBroken session text c → (lines : List Line) (n : ℕ) → cell session text lines n ≡ standing session Unreadable

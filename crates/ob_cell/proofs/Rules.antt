@@ -3,6 +3,7 @@ use Rattle.std.proofs.Common.{◌≡◌, ℕ, Bool, true, false, cond, List, [],
 use Rattle.std.specs.Prelude.{IsSome, IfOk, IfErr, IsErrAnd, ◌≢◌}
 use Rattle.std.specs.Str.{bytes_eq}
 use Rattle.ob_base.specs.declared.fault.Code.{Code}
+use Rattle.ob_declare.specs.declared.rule.RuleCode.{RuleCode}
 use Rattle.ob_base.specs.declared.fault.Refused.{Refused}
 use Rattle.ob_base.specs.declared.fault.Refused.TheVariants as refused
 use Rattle.ob_parse.specs.declared.tree.Cell.TheVariants as cells
@@ -10,9 +11,10 @@ use Rattle.ob_parse.specs.declared.tree.Module as tree
 use Rattle.ob_mean.specs.declared.face.Face.{Face}
 use Rattle.ob_mean.specs.Values.{Value}
 use Rattle.ob_declare.specs.Exports.{Modules as Loaded}
-use Rattle.ob_declare.specs.Rule.{answer, gives, breaks, FaultsOnly, ◌>>=◌}
+use Rattle.ob_declare.specs.Rule.{answer, gives, breaks_code, ◌>>=◌}
 use Rattle.ob_declare.proofs.Exact.{only}
 use Rattle.ob_check.specs.CheckedTree.{CheckedTree}
+use Rattle.ob_check.specs.Codes.{FaultsOnly}
 use Rattle.ob_check.specs.declared.checked.Imported.{Imported}
 use Rattle.ob_check.specs.Modules.{module_at}
 use Rattle.ob_fit.specs.Fitting as fit
@@ -41,10 +43,10 @@ use Rattle.ob_cell.proofs.Loadable.{LoadsRight, loads_right, has_commands}
 
 pub answered : (modules : List Module) (store : Value) (m : tree.Module) (checked : CheckedTree) → gives (module_at (map (meaning.loaded_as modules m.name.name) modules) m) checked → answer (cell_rule (in_store modules store) (cells.Module m)) ≡ Ok (OfModule (meaning.module_of checked))
 answered modules store m checked h =
-    ap (λ (r : Result CheckedTree Code). r >>= (λ c. Ok (OfModule (meaning.module_of c)))) (only (module_at (map (meaning.loaded_as modules m.name.name) modules) m) checked h)
+    ap (λ (r : Result CheckedTree RuleCode). r >>= (λ c. Ok (OfModule (meaning.module_of c)))) (only (module_at (map (meaning.loaded_as modules m.name.name) modules) m) checked h)
 
-broken_rules : (modules : List Module) (store : Value) (m : tree.Module) (fault : Code) → breaks (module_at (map (meaning.loaded_as modules m.name.name) modules) m) fault → breaks (cell_rule (in_store modules store) (cells.Module m)) fault
-broken_rules modules store m fault h = inl h
+broken_rules : (modules : List Module) (store : Value) (m : tree.Module) (fault : Code) → breaks_code (module_at (map (meaning.loaded_as modules m.name.name) modules) m) fault → breaks_code (cell_rule (in_store modules store) (cells.Module m)) fault
+broken_rules modules store m fault h = (h.0, inl h.1, h.2)
 
 -- ---- the loaded modules, as the rules see them
 
@@ -111,7 +113,7 @@ memory_faults modules m (Err e) h = λ store. subst (IsStaticRefusal (in_store m
 pub rules_faults : (modules : List Module) (loaded : Loaded) (m : tree.Module) (e : Refused) (store : Value) → loaded ≡ map (meaning.loaded_as modules m.name.name) modules → FaultsOnly {A = CheckedTree} (module_at loaded m) (Err e) → IsStaticRefusal (in_store modules store) (cells.Module m) e
 rules_faults modules loaded m refused.Memory store same h = tt
 rules_faults modules loaded m (refused.Fault fault) store same h =
-    broken_rules modules store m fault.code (subst (λ (ms : Loaded). breaks (module_at ms m) fault.code) same h.0)
+    broken_rules modules store m fault.code (subst (λ (ms : Loaded). breaks_code (module_at ms m) fault.code) same h.0)
 
 -- ---- a module that was compiled
 

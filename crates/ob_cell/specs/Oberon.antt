@@ -4,7 +4,7 @@ use Rattle.std.specs.Prelude.{◌≡◌, ◌⊎◌, ℕ, List, Option, Some, Non
 use Rattle.ob_base.specs.declared.fault.Code.{Code}
 use Rattle.ob_parse.specs.declared.tree.Cell.{Cell}
 use Rattle.ob_parse.specs.CellText.{IsCellOf, Breaks}
-use Rattle.ob_declare.specs.Rule.{gives, breaks}
+use Rattle.ob_declare.specs.Rule.{gives, breaks_code}
 use Rattle.ob_session.specs.Session.{Session, opening}
 use Rattle.ob_session.specs.Cells as cells
 use Rattle.ob_session.specs.Cells.{CellMeaning, Checked, checked_meaning, unlinked}
@@ -39,7 +39,7 @@ IsTreeOf text tree = IsCellOf text tree
 -- The text breaks a rule of this code: it has no tokens, or they have no tree, or its tree breaks a static rule over the
 -- modules that are loaded.
 unfoldable pub IsBroken : Session → List ℕ → Code → Type 0
-IsBroken session text code = Breaks text code ⊎ ((tree : Cell) × IsCellOf text tree × breaks (cell_rule session tree) code)
+IsBroken session text code = Breaks text code ⊎ ((tree : Cell) × IsCellOf text tree × breaks_code (cell_rule session tree) code)
 
 -- a cell that keeps the static rules and does not link, for this
 abbrev pub DoesNotLink : Session → Checked → cells.LinkFault → Type 0

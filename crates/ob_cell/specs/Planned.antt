@@ -5,7 +5,7 @@ use Rattle.ob_base.specs.declared.fault.Refused.TheVariants as refused
 use Rattle.ob_parse.specs.declared.tree.Cell.{Cell}
 use Rattle.ob_mean.specs.declared.face.Face.{Face}
 use Rattle.ob_mean.specs.WellFormed.{IsFaceOf, IsWellFormed}
-use Rattle.ob_declare.specs.Rule.{answer, breaks}
+use Rattle.ob_declare.specs.Rule.{answer, breaks_code}
 use Rattle.ob_fit.specs.Fitting.{face_of_interface}
 use Rattle.ob_types.specs.Solid.{ExportsSolid}
 use Rattle.ob_session.specs.Session.{Session, Module, Import, name_of, find_module, link_fault}
@@ -67,5 +67,5 @@ IsPlanned s c (plan.Unlinked fault) =
 
 -- a refusal has the code of a broken rule, or memory was refused
 abbrev pub IsStaticRefusal : Session → Cell → Refused → Type 0
-IsStaticRefusal s c (refused.Fault fault) = breaks (cell_rule s c) fault.code
+IsStaticRefusal s c (refused.Fault fault) = breaks_code (cell_rule s c) fault.code
 IsStaticRefusal s c refused.Memory = Unit {0}

@@ -5,7 +5,7 @@
 use Rattle.std.specs.Prelude.{◌≡◌, ℕ, zero, suc, Bool, false, ◌||◌, List, [], ◌∷◌, ◌++◌, length, map, Option, Some, None, Result, Ok, Err, if◌then◌else◌}
 use Rattle.std.specs.List.{list_any}
 use Rattle.std.specs.Str.{bytes_eq}
-use Rattle.ob_base.specs.declared.fault.Code.{Code}
+use Rattle.ob_declare.specs.declared.rule.RuleCode.{RuleCode}
 use Rattle.ob_inout.specs.Reading.{Line}
 use Rattle.ob_parse.specs.declared.tree.Cell.{Cell}
 use Rattle.ob_parse.specs.declared.tree.Cell.TheVariants as cells
@@ -58,7 +58,7 @@ abbrev pub cell_rule : Session → Cell → Rule Checked
 cell_rule s (cells.Module m) = Then (module_at (loaded s m.name.name) m) (λ c. Given (OfModule (module_of c)))
 cell_rule s (cells.Commands cs) = Given (OfCommands (map command_of cs))
 
-abbrev pub checked_by : Result Checked Code → Option Checked
+abbrev pub checked_by : Result Checked RuleCode → Option Checked
 checked_by (Ok c) = Some c
 checked_by (Err code) = None
 

@@ -1,9 +1,30 @@
--- The codes that a checker answers: those of the static rules, 10 to 21.
-use Rattle.std.specs.Prelude.{◌≡◌, Bool, true, false}
+-- What a checker answers, by the rules: a tree, or a refusal with a code of the static rules, 10 to 21, or for want of memory.
+use Rattle.std.specs.Prelude.{◌≡◌, Bool, true, false, Result, Ok, Err}
 use Rattle.ob_base.specs.declared.fault.Code.{Code}
 use Rattle.ob_base.specs.declared.fault.Code.TheVariants as code
 use Rattle.ob_base.specs.declared.fault.Refused.{Refused}
 use Rattle.ob_base.specs.declared.fault.Refused.TheVariants as refused
+use Rattle.ob_declare.specs.declared.rule.RuleCode.{RuleCode}
+use Rattle.ob_declare.specs.Rule.{Rule, gives, breaks_code}
+use Rattle.ob_declare.specs.RuleCodes.{code_of}
+
+-- the tree that the rules give is the answer, unless memory runs out
+abbrev pub AnswersTree : {A : Type 0} → A → Result A Refused → Type 0
+AnswersTree tree (Ok a) = a ≡ tree
+AnswersTree tree (Err refused.Memory) = Unit {0}
+AnswersTree tree (Err (refused.Fault fault)) = ⊥
+
+-- a refusal has the code of a rule that is broken, and there is no tree
+abbrev pub FaultsOnly : {A : Type 0} → Rule A → Result A Refused → Type 0
+FaultsOnly r (Ok a) = Unit {0}
+FaultsOnly r (Err refused.Memory) = Unit {0}
+FaultsOnly {A} r (Err (refused.Fault fault)) = breaks_code r fault.code × ((a : A) → gives r a → ⊥)
+
+-- The answer is what somebody finds who goes through the rules from left to right, unless memory runs out.
+abbrev pub IsAnswer : {A : Type 0} → Result A RuleCode → Result A Refused → Type 0
+IsAnswer outcome (Ok a) = outcome ≡ Ok a
+IsAnswer outcome (Err refused.Memory) = Unit {0}
+IsAnswer outcome (Err (refused.Fault fault)) = (broken : RuleCode) × (outcome ≡ Err broken) × (fault.code ≡ code_of broken)
 
 abbrev pub is_rule_code : Code → Bool
 is_rule_code code.Character = false

@@ -2,9 +2,9 @@
 
 ghost use Rattle.std.specs.Prelude.{◌≡◌, ◌++◌, [], option_copied, IfOk, IfErr};
 ghost use Rattle.ob_parse.specs.declared.tree.Declarations.{out-Declarations};
-ghost use Rattle.ob_declare.specs.Rule.{Judges, gives, AnswersTree, FaultsOnly};
+ghost use Rattle.ob_declare.specs.Rule.{Judges, gives, answer};
 ghost use Rattle.ob_check.specs.CheckedTree.{CheckedTree};
-ghost use Rattle.ob_check.specs.Codes.{is_rule_code, HasRuleCode};
+ghost use Rattle.ob_check.specs.Codes.{AnswersTree, FaultsOnly, HasRuleCode, IsAnswer};
 ghost use Rattle.ob_check.specs.Modules as spec;
 
 use crate::checked::{Checked, Imported};
@@ -12,7 +12,8 @@ use crate::made::Made;
 use crate::procedure::procedures;
 use crate::shapes::shape_of;
 use crate::statement::optional;
-use ob_base::{Code, Items, Refused, Text};
+use ob_base::{Items, Refused, Text};
+use ob_declare::rejected::{Rejected, told};
 use ob_declare::{
     Declared, Entry, Imports, LoadedModule, MAX_NESTING, Scope, Standing, declared_by,
     exported_procedures, interface_of,
@@ -181,7 +182,7 @@ fn with_body(
     done: Items<TypedProcedure>,
     variables: Variables,
     tree: &Module,
-) -> Result<Checked, Refused>
+) -> Result<Checked, Rejected>
     ensures { Judges (spec.body_rule imports.now (scope, done, variables) tree.now) result }
 {
     let list = tree.body.as_slice();
@@ -199,7 +200,7 @@ fn with_procedures(
     scope: Scope,
     variables: Variables,
     tree: &Module,
-) -> Result<Checked, Refused>
+) -> Result<Checked, Rejected>
     ensures { Judges (spec.procedures_rule imports.now scope variables tree.now) result }
 {
     let none = Items::new(alloc);
@@ -223,7 +224,7 @@ fn behind_declarations(
     imports: &Imports,
     scope: Scope,
     tree: &Module,
-) -> Result<Checked, Refused>
+) -> Result<Checked, Rejected>
     ensures { Judges (spec.checked_rule imports.now scope tree.now) result }
 {
     let variables = declared_variables(alloc, scope.block.declared())?;
@@ -231,45 +232,11 @@ fn behind_declarations(
 }
 
 #[tactic(auto, unfolding(crate::specs::Modules::module_at))]
-fn module_of(alloc: Global, imports: &Imports, tree: &Module) -> Result<Checked, Refused>
+fn module_of(alloc: Global, imports: &Imports, tree: &Module) -> Result<Checked, Rejected>
     ensures { Judges (spec.module_at imports.now tree.now) result }
 {
     let scope = declared_by(alloc, imports, tree)?;
     behind_declarations(alloc, imports, scope, tree)
-}
-
-/// Whether a code is one of the static rules.
-fn is_rule_code(code: Code) -> bool
-    ensures { result ≡ is_rule_code code }
-{
-    match code {
-        Code::Character
-        | Code::Comment
-        | Code::String
-        | Code::Number
-        | Code::Token
-        | Code::Nesting
-        | Code::EndName => false,
-        _ => true,
-    }
-}
-
-/// What the rules give, with a code of the rules where they are broken.
-fn judged(alloc: Global, imports: &Imports, tree: &Module) -> Result<Checked, Refused>
-    ensures judged { Judges (spec.module_at imports.now tree.now) result }
-    ensures codes { IfErr result (λ e. HasRuleCode e) }
-{
-    match module_of(alloc, imports, tree) {
-        Ok(checked) => Ok(checked),
-        Err(Refused::Memory) => Err(Refused::Memory),
-        Err(Refused::Fault(fault)) => {
-            if is_rule_code(fault.code) {
-                Err(Refused::Fault(fault))
-            } else {
-                Err(Refused::Memory)
-            }
-        }
-    }
 }
 
 /// The typed tree of a module, its interface and its imports, by the static rules of Oberon-07 (Wirth, The Programming Language
@@ -281,10 +248,15 @@ pub fn check(alloc: Global, tree: &Module, imports: &Imports) -> Result<Checked,
     ensures found { IfOk result (λ c. gives (spec.module_at imports.now tree.now) c) }
     // Where the rules give a checked module it is answered, unless memory runs out.
     ensures only { (c : CheckedTree) → gives (spec.module_at imports.now tree.now) c → AnswersTree c result }
-    // The code of a refusal is broken, and then the rules give none.
+    // The code of a refusal is that of a rule which is broken, and then the rules give none.
     ensures faults { FaultsOnly (spec.module_at imports.now tree.now) result }
+    // Of several broken rules the code is that of the first, from left to right.
+    ensures answer { IsAnswer (answer (spec.module_at imports.now tree.now)) result }
     // The code is one of the static rules, 10 to 21.
     ensures codes { IfErr result (λ e. HasRuleCode e) }
 {
-    judged(alloc, imports, tree)
+    match module_of(alloc, imports, tree) {
+        Ok(checked) => Ok(checked),
+        Err(rejected) => Err(told(rejected)),
+    }
 }

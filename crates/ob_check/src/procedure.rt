@@ -8,8 +8,9 @@ ghost use Rattle.ob_check.specs.Procedures as spec;
 use crate::made::Made;
 use crate::shapes::{parameters_of, shape_of};
 use crate::statement::optional;
-use ob_base::{Code, Items, Refused};
-use ob_declare::fault::{fault, open};
+use ob_base::Items;
+use ob_declare::rejected::{Rejected, broken, open};
+use ob_declare::rule::RuleCode;
 use ob_declare::{
     Declared, Entered, Entry, Imports, Scope, Standing, declare_all, enter_procedure,
 };
@@ -120,13 +121,13 @@ fn returned(
     variables: Variables,
     value: &Option<Returned>,
     span: Span,
-) -> Result<(Option<TypedExpr>, Variables), Refused>
+) -> Result<(Option<TypedExpr>, Variables), Rejected>
     ensures { Judges (spec.result_at imports.now scope.now levels basic variables value.now) result }
 {
     match (basic, value) {
         (None, None) => Ok((None, variables)),
-        (None, Some(r)) => Err(Refused::Fault(fault(Code::Parameters, r.span))),
-        (Some(_), None) => Err(Refused::Fault(fault(Code::Parameters, span))),
+        (None, Some(r)) => Err(Rejected::Rule(broken(RuleCode::Parameters, r.span))),
+        (Some(_), None) => Err(Rejected::Rule(broken(RuleCode::Parameters, span))),
         (Some(basic), Some(r)) => {
             let e = r.value.get();
             let (e, variables) = assigned_value(
@@ -170,7 +171,7 @@ fn body_of(
     done: Items<TypedProcedure>,
     variables: Variables,
     p: &Procedure,
-) -> Result<(Scope, Items<TypedProcedure>, Variables), Refused>
+) -> Result<(Scope, Items<TypedProcedure>, Variables), Rejected>
     ensures { Judges (spec.body_of imports.now levels signature.now (scope, done, variables) p.now) result }
 {
     let mut done = done;
@@ -198,7 +199,7 @@ fn inside_of(
     done: Items<TypedProcedure>,
     variables: Variables,
     p: &Procedure,
-) -> Result<(Scope, Items<TypedProcedure>, Variables), Refused>
+) -> Result<(Scope, Items<TypedProcedure>, Variables), Rejected>
     ensures { Judges (spec.inside_of imports.now levels (spec.procedure_at imports.now levels) entered done variables p.now) result }
 {
     let declarations = p.declarations.get();
@@ -224,7 +225,7 @@ fn procedure_of(
     done: Items<TypedProcedure>,
     variables: Variables,
     p: &Procedure,
-) -> Result<(Scope, Items<TypedProcedure>, Variables), Refused>
+) -> Result<(Scope, Items<TypedProcedure>, Variables), Rejected>
     ensures { Judges (spec.procedure_of imports.now levels (spec.procedure_at imports.now levels) (scope, done, variables) p.now) result }
 {
     let number = number_of(levels, done.len(), p)?;
@@ -243,7 +244,7 @@ fn procedure(
     done: Items<TypedProcedure>,
     variables: Variables,
     p: &Procedure,
-) -> Result<(Scope, Items<TypedProcedure>, Variables), Refused>
+) -> Result<(Scope, Items<TypedProcedure>, Variables), Rejected>
     ensures { Judges (spec.procedure_at imports.now levels (scope, done, variables) p.now) result }
 {
     let inside = open(levels, p.name.name.span)?;
@@ -260,7 +261,7 @@ pub fn procedures(
     done: Items<TypedProcedure>,
     variables: Variables,
     list: &[Procedure],
-) -> Result<(Scope, Items<TypedProcedure>, Variables), Refused>
+) -> Result<(Scope, Items<TypedProcedure>, Variables), Rejected>
     ensures { Judges (through (spec.procedure_at imports.now levels) (scope, done, variables) list.now) result }
 {
     let mut scope = scope;

@@ -1,3 +1,5 @@
+pub mod RuleCodes
+pub mod Told
 pub mod Rule
 pub mod Stack
 pub mod Names
