@@ -56,7 +56,7 @@ use Rattle.ob_code.specs.declared.instr.Entry.{Entry}
 use Rattle.ob_code.specs.declared.instr.Procedure.{Procedure}
 use Rattle.ob_code.specs.declared.instr.CodeModule.{CodeModule}
 use Rattle.ob_code.specs.Valid.{entry_of}
-use Rattle.ob_code.specs.Kinds.{Kinds, NameKinds, Rows, Covers, LieAmong, LieInElement, LieInName, Lie, IsLong, ArrayLies, TextLies, TargetLies, LengthIs, IsFew as FewCells, ArePassed, literal, low, inside, moved, one_of, one_inside, element, operands_of, names_of, entry_results, results_kinds, nothing, Arrives, known_at, Keeps, HasKinds, IsMeasured}
+use Rattle.ob_code.specs.Kinds.{Kinds, NameKinds, Rows, Covers, LieAmong, LieInElement, LieInName, Lie, IsLong, ArrayLies, TextLies, TargetLies, LengthIs, IsFew as FewCells, ArePassed, literal, low, inside, moved, one_of, one_inside, element, operands_of, names_of as passed_names, entry_results, results_kinds, nothing, Arrives, known_at, Keeps, HasKinds, IsMeasured}
 use Rattle.ob_gen.specs.Code.{line, extent_at, parameter_row, own_row, face_row, root_of, root_in, zero_in, zero_element, cells_of, length_in, length_of, span_of, element_cells, and_code, or_code, value_one, name_one, row_values, row_names, list_values, list_names, read_code, expr_code, offset_code, operations_code, every_code, either_code, argument_code, arguments_code, passed_code, target_of, input_code, output_code, assign_code, action_code, Guarded, loop_code, for_relation, for_guard, for_step, for_code, stat_code, stats_code, branches, arms_code, list_code, result_code, procedure_code, named_before, name_number}
 use Rattle.ob_gen.specs.Correct.{named_count, name_kind, name_kinds, parameter_count, IsCodeOf, AreCompiled}
 use Rattle.ob_gen.specs.Generated.{valued_count, heading_entry, IsGenerated}
@@ -403,7 +403,7 @@ module _ (names : Names) (m : CodeModule) (f : Procedure) (known : IsNamed names
 
   call_keeps : (rows : Rows) (pc n l : ℕ) (g : Callee) (e : Entry) (ks : Known) → entry_of m g ≡ Some e → e.operands ≡ n → e.names ≡ length e.kinds → Arrives (known_at f rows (pc + 1)) (with_results e.is_function ks) → Keeps m f rows pc (given n e.kinds ks) (instr.Invoke g l)
   call_keeps rows pc n l g e ks found same counted behind =
-      subst (λ o. (operands_of o ≤ length (over n ks.operands)) × ArePassed o (ks.names ++ e.kinds) × Arrives (known_at f rows (pc + 1)) (record { operands = entry_results o ++ drop (operands_of o) (over n ks.operands); names = take (length (ks.names ++ e.kinds) - names_of o) (ks.names ++ e.kinds) })) (sym found)
+      subst (λ o. (operands_of o ≤ length (over n ks.operands)) × ArePassed o (ks.names ++ e.kinds) × Arrives (known_at f rows (pc + 1)) (record { operands = entry_results o ++ drop (operands_of o) (over n ks.operands); names = take (length (ks.names ++ e.kinds) - passed_names o) (ks.names ++ e.kinds) })) (sym found)
       (
         enough,
         (omega (arith, all, counted), ap (λ d. drop d (ks.names ++ e.kinds)) below ∙ drop-append_seam ks.names e.kinds),
@@ -713,11 +713,11 @@ module _ (faces : List Face) (m : TypedModule) (code : CodeModule) (formed : IsW
       let counted = parameters_counted ps in
       record { faces = formed.known; variables = formed.cells; own = omega (arith, few, sum, row, counted) }
 
-  one_measured : (ps : List Parameter) (ts : List Shape) (body : List TypedStatement) (result : Option TypedExpr) (g : Procedure) → IsCodeOf (names_with ps ts) body result g → ListFits (names_with ps ts) body → ResultFits (names_with ps ts) result → length ps + size (zeros ts) < cell_limit → IsRoomy g → HasKnown code g
+  one_measured : (ps : List Parameter) (ts : List Shape) (body : List TypedStatement) (result : Option TypedExpr) (g : Procedure) → IsCodeOf (names_with ps ts) body result g → ListFits (names_with ps ts) body → ResultFits (names_with ps ts) result → length ps + size (zeros ts) < cell_limit → IsRoomy g → HasKinds code g
   one_measured ps ts body result g is fit gives few room =
       procedure_measured (names_with ps ts) code g (named_in faces m code formed made ps ts g is.cells is.names_taken is.stand_for room) (few_in ps ts few) body result is fit gives
 
-  each_measured : (fs : List TypedProcedure) (gs : List Procedure) → AreCompiled faces m fs gs → ProceduresFit faces m fs → (p : ℕ) (g : Procedure) → slice_get gs p ≡ Some g → IsRoomy g → HasKnown code g
+  each_measured : (fs : List TypedProcedure) (gs : List Procedure) → AreCompiled faces m fs gs → ProceduresFit faces m fs → (p : ℕ) (g : Procedure) → slice_get gs p ≡ Some g → IsRoomy g → HasKinds code g
   each_measured [] [] h fit p g e room = absurd h
   each_measured [] (x ∷ []) h fit zero g e room =
       one_measured [] [] m.body None g (subst (IsCodeOf (names_in faces m) m.body None) (some_same x g e) h) formed.body tt (omega arith) room
