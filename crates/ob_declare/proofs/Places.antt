@@ -114,21 +114,3 @@ added_again (n ∷ ms) m i e =
 abbrev pub later : ℕ → Option ℕ → Option ℕ
 later n None = None
 later n (Some k) = Some (n + k)
-
-pub later_none : (o : Option ℕ) → later 0 o ≡ o
-later_none None = refl
-later_none (Some k) = refl
-
-pub later_here : (n : ℕ) → later n (Some 0) ≡ Some n
-later_here n = ap Some (let e : n + 0 ≡ n = omega arith in e)
-
-pub later_next : (n : ℕ) (o : Option ℕ) → later n (option_map suc o) ≡ later (n + 1) o
-later_next n None = refl
-later_next n (Some k) = ap Some (let e : n + suc k ≡ n + 1 + k = omega arith in e)
-
--- of a row whose first name is this, and of one whose first is another
-pub place_here : (n : ℕ) (m q : List ℕ) (ns : List (List ℕ)) → bytes_eq m q ≡ true → later n (place_in (m ∷ ns) q) ≡ Some n
-place_here n m q ns e = ap (λ b. later n (cond b (Some 0) (option_map suc (place_in ns q)))) e ∙ later_here n
-
-pub place_next : (n : ℕ) (m q : List ℕ) (ns : List (List ℕ)) → bytes_eq m q ≡ false → later n (place_in (m ∷ ns) q) ≡ later (n + 1) (place_in ns q)
-place_next n m q ns e = ap (λ b. later n (cond b (Some 0) (option_map suc (place_in ns q)))) e ∙ later_next n (place_in ns q)

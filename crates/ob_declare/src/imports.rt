@@ -276,6 +276,20 @@ impl Model for Imports {
     ghost view = { λ i. i.modules.items };
 }
 
+// The first place of a name among those of these.
+fn place_among(modules: &[LoadedModule], name: &Text) -> Option<usize>
+    ensures { result ≡ place_in (exports_spec.module_names modules.now) name.now }
+{
+    let mut before = 0;
+    for module in modules {
+        if module.interface().name().same(name) {
+            return Some(before);
+        }
+        before += 1;
+    }
+    None
+}
+
 fn or_zero(number: Option<usize>) -> usize
     ensures { result ≡ spec.or_zero number }
 {
@@ -397,12 +411,7 @@ impl Imports {
     pub(crate) fn place_of(&self, name: &Text) -> Option<usize>
         ensures { result ≡ spec.module_place self.now name.now }
     {
-        for place in 0..self.modules.len() {
-            if self.modules[place].interface().name().same(name) {
-                return Some(place);
-            }
-        }
-        None
+        place_among(self.modules.as_slice(), name)
     }
 
     /// Whether the loaded module at this place reaches a module by its imports and theirs.
