@@ -4,9 +4,11 @@ use Rattle.ob_base.specs.declared.fault.Code.{Code}
 use Rattle.ob_base.specs.declared.fault.Code.TheVariants as code
 use Rattle.ob_base.specs.declared.fault.Refused.{Refused}
 use Rattle.ob_base.specs.declared.fault.Refused.TheVariants as refused
+use Rattle.ob_declare.specs.declared.rejected.Rejected.{Rejected}
 use Rattle.ob_declare.specs.declared.rule.RuleCode.{RuleCode}
 use Rattle.ob_declare.specs.Rule.{Rule, gives, breaks_code}
 use Rattle.ob_declare.specs.RuleCodes.{code_of}
+use Rattle.ob_declare.specs.Told.{told}
 
 -- the tree that the rules give is the answer, unless memory runs out
 abbrev pub AnswersTree : {A : Type 0} → A → Result A Refused → Type 0
@@ -40,3 +42,8 @@ is_rule_code c = true
 abbrev pub HasRuleCode : Refused → Type 0
 HasRuleCode refused.Memory = Unit {0}
 HasRuleCode (refused.Fault fault) = is_rule_code fault.code ≡ true
+
+-- what is told of what the rules give
+abbrev pub told_of : {A : Type 0} → Result A Rejected → Result A Refused
+told_of (Ok a) = Ok a
+told_of (Err rejected) = Err (told rejected)
