@@ -22,11 +22,15 @@ FaultsOnly r (Ok a) = Unit {0}
 FaultsOnly r (Err refused.Memory) = Unit {0}
 FaultsOnly {A} r (Err (refused.Fault fault)) = breaks_code r fault.code × ((a : A) → gives r a → ⊥)
 
+-- this code is that of the broken rule which comes out
+abbrev pub IsRefused : {A : Type 0} → Result A RuleCode → Code → Type 0
+IsRefused outcome code = (broken : RuleCode) × (outcome ≡ Err broken) × (code ≡ code_of broken)
+
 -- The answer is what somebody finds who goes through the rules from left to right, unless memory runs out.
 abbrev pub IsAnswer : {A : Type 0} → Result A RuleCode → Result A Refused → Type 0
 IsAnswer outcome (Ok a) = outcome ≡ Ok a
 IsAnswer outcome (Err refused.Memory) = Unit {0}
-IsAnswer outcome (Err (refused.Fault fault)) = (broken : RuleCode) × (outcome ≡ Err broken) × (fault.code ≡ code_of broken)
+IsAnswer outcome (Err (refused.Fault fault)) = IsRefused outcome fault.code
 
 abbrev pub is_rule_code : Code → Bool
 is_rule_code code.Character = false
