@@ -4,6 +4,7 @@ ghost use Rattle.std.specs.Prelude.{◌≡◌, ◌++◌, [], option_copied, IfOk
 ghost use Rattle.ob_parse.specs.declared.tree.Declarations.{out-Declarations};
 ghost use Rattle.ob_declare.specs.Rule.{Judges, gives, answer};
 ghost use Rattle.ob_check.specs.CheckedTree.{CheckedTree};
+ghost use Rattle.ob_check.specs.Codes as codes;
 ghost use Rattle.ob_check.specs.Codes.{AnswersTree, FaultsOnly, HasRuleCode, IsAnswer};
 ghost use Rattle.ob_check.specs.Modules as spec;
 
@@ -239,6 +240,16 @@ fn module_of(alloc: Global, imports: &Imports, tree: &Module) -> Result<Checked,
     behind_declarations(alloc, imports, scope, tree)
 }
 
+/// What is told of what the rules give.
+fn told_of(outcome: Result<Checked, Rejected>) -> Result<Checked, Refused>
+    ensures { result ≡ codes.told_of outcome }
+{
+    match outcome {
+        Ok(checked) => Ok(checked),
+        Err(rejected) => Err(told(rejected)),
+    }
+}
+
 /// The typed tree of a module, its interface and its imports, by the static rules of Oberon-07 (Wirth, The Programming Language
 /// Oberon), over the modules that are loaded.
 ///
@@ -255,8 +266,5 @@ pub fn check(alloc: Global, tree: &Module, imports: &Imports) -> Result<Checked,
     // The code is one of the static rules, 10 to 21.
     ensures codes { IfErr result (λ e. HasRuleCode e) }
 {
-    match module_of(alloc, imports, tree) {
-        Ok(checked) => Ok(checked),
-        Err(rejected) => Err(told(rejected)),
-    }
+    told_of(module_of(alloc, imports, tree))
 }
