@@ -19,7 +19,16 @@ struct Shaped {
 }
 
 impl Model for Shaped {
+    ghost use Prim.{hlevel};
+    ghost use Rattle.std.specs.Coded.{codes};
+    ghost use Rattle.std.specs.Prelude.{◌≡◌};
+    ghost use Rattle.ob_types.specs.contracts.structure.ObType as types;
+    ghost use Rattle.ob_types.specs.declared.structure.ObType.{ObType};
+    ghost use Rattle.ob_check.specs.Shapes as spec;
+
     ghost Value = { ObType };
+
+    ghost coded = { Prim.hlevel (codes, types.the_row.coded) };
 
     ghost view = { λ s. s.of };
 
@@ -63,6 +72,7 @@ impl Made {
 
     /// One more owner of the shape of an equal type that is kept, if there is one. The only error is that no more owners can be
     /// counted.
+    #[tactic(auto, using(ob_types::proofs::SameType::same_true))]
     pub(crate) fn find(&self, of: &ObType) -> Result<Option<Shape>, AllocError>
         ensures { IfOk result (λ found. IfSome found (λ s. s ≡ spec.shape_of of.now)) }
     {
@@ -77,12 +87,13 @@ impl Made {
     /// Keeps a type with its shape, which is the answer, and forgets the first one where there are too many. Or want of memory.
     pub(crate) fn keep(&mut self, of: &ObType, shape: Shape) -> Result<Shape, AllocError>
         requires { shape ≡ spec.shape_of of.now }
-        ensures { IfOk result (λ s. s ≡ shape) }
+        ensures { IfOk result (λ s. s ≡ spec.shape_of of.now) }
     {
         if self.types.len() == MOST {
             self.types.remove(0);
         }
-        self.types.push(Shaped::new(of.another()?, shape.another()?))?;
+        self.types
+            .push(Shaped::new(of.another()?, shape.another()?))?;
         Ok(shape)
     }
 }

@@ -26,11 +26,7 @@ fn variable_shapes(
     Ok(shapes)
 }
 
-fn heading_of(
-    alloc: Global,
-    made: &mut Made,
-    signature: &Signature,
-) -> Result<Heading, AllocError>
+fn heading_of(alloc: Global, made: &mut Made, signature: &Signature) -> Result<Heading, AllocError>
     ensures { IfOk result (λ h. h ≡ spec.heading_of signature.now) }
 {
     Ok(Heading {

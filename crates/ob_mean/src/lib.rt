@@ -16,7 +16,7 @@ pub use face::{Face, Heading};
 pub use module::{Loaded, ModuleVariable, Parameter, TypedModule, TypedProcedure};
 pub use operator::{Operator, Relation, UnaryOperator};
 pub use outcome::{Outcome, TrapKind, TurnKind};
-pub use shape::{Shape, same_shape};
+pub use shape::Shape;
 pub use statement::{
     Action, Adjustment, Branch, CaseArm, ForHead, InputCall, LabelRange, OutputCall, Reader,
     TypedStatement,

@@ -1,6 +1,6 @@
 //! How values of a type are made of basic ones. Shapes share their parts, so that one more use of a shape takes no copy of them.
 
-ghost use Rattle.std.specs.Prelude.{◌≡◌, ◌↔◌, IfOk, IsTrue};
+ghost use Rattle.std.specs.Prelude.{◌≡◌, IfOk};
 
 use ob_base::{Shared, SharedItems};
 use std::alloc::AllocError;
@@ -28,32 +28,4 @@ impl Shape {
             Shape::Record(fields) => Ok(Shape::Record(fields.another()?)),
         }
     }
-}
-
-/// Whether two shapes are equal, in time of what is written out of the smaller one.
-#[cycle(same)]
-pub fn same_shape(left: &Shape, right: &Shape) -> bool
-    ensures { IsTrue result ↔ (left.now ≡ right.now) }
-{
-    match (left, right) {
-        (Shape::Basic, Shape::Basic) => true,
-        (Shape::Array(n, x), Shape::Array(m, y)) => *n == *m && same_shape(x.get(), y.get()),
-        (Shape::Record(x), Shape::Record(y)) => same_shapes(x.as_slice(), y.as_slice()),
-        _ => false,
-    }
-}
-
-#[cycle(same)]
-fn same_shapes(left: &[Shape], right: &[Shape]) -> bool
-    ensures { IsTrue result ↔ (left.now ≡ right.now) }
-{
-    if left.len() != right.len() {
-        return false;
-    }
-    for i in 0..left.len() {
-        if !same_shape(&left[i], &right[i]) {
-            return false;
-        }
-    }
-    true
 }
