@@ -299,7 +299,13 @@ fn procedures(rt: HostRuntime) -> Result<(), Fail> {
     assert!(rt; !body_with_cells);
     let mut without_cells = second(alloc)?;
     without_cells.cells = 0;
-    assert!(rt; !is_code(alloc, without_cells, procedure(nothing(alloc), 0, Vec::new(alloc)))?);
+    assert!(rt;
+        !is_code(
+            alloc,
+            without_cells,
+            procedure(nothing(alloc), 0, Vec::new(alloc))
+        )?
+    );
     let mut without_result = second(alloc)?;
     without_result.entry.is_function = false;
     assert!(rt;
@@ -322,7 +328,10 @@ fn links(
 ) -> Result<bool, AllocError> {
     let imported = CodeModule {
         cells: 2,
-        procedures: vec![in alloc; second(alloc)?, procedure(nothing(alloc), 0, Vec::new(alloc))]?,
+        procedures: vec![in alloc;
+            second(alloc)?,
+            procedure(nothing(alloc), 0, Vec::new(alloc)),
+        ]?,
         exported: vec![in alloc; 0usize]?,
         imports: Vec::new(alloc),
     };
@@ -369,9 +378,25 @@ fn linking(rt: HostRuntime) -> Result<(), Fail> {
     assert!(rt; !links(alloc, 1, 0, known(alloc, 2, named, true)?, &both)?);
     assert!(rt; !links(alloc, 2, 2, known(alloc, 2, named, true)?, &both)?);
     assert!(rt; !links(alloc, 2, 0, known(alloc, 3, named, true)?, &both)?);
-    assert!(rt; !links(alloc, 2, 0, known(alloc, 2, NameKind::Cells(2), true)?, &both)?);
+    assert!(rt;
+        !links(
+            alloc,
+            2,
+            0,
+            known(alloc, 2, NameKind::Cells(2), true)?,
+            &both
+        )?
+    );
     assert!(rt; !links(alloc, 2, 0, known(alloc, 2, named, false)?, &both)?);
-    assert!(rt; !links(alloc, 2, 0, known(alloc, 2, NameKind::ArrayOf(3), true)?, &both)?);
+    assert!(rt;
+        !links(
+            alloc,
+            2,
+            0,
+            known(alloc, 2, NameKind::ArrayOf(3), true)?,
+            &both
+        )?
+    );
     // a module that doesn't fit its import may stay, but neither it nor what imports it may run
     assert!(rt; links(alloc, 2, 0, known(alloc, 3, named, true)?, &[true, false])?);
     assert!(rt; !links(alloc, 2, 0, known(alloc, 2, named, true)?, &[false, true])?);

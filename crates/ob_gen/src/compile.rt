@@ -132,11 +132,7 @@ fn name_kinds(alloc: Global, parameters: &[Parameter]) -> Result<Items<NameKind>
     Ok(kinds)
 }
 
-fn entry_of(
-    alloc: Global,
-    parameters: &[Parameter],
-    is_function: bool,
-) -> Result<Entry, AllocError>
+fn entry_of(alloc: Global, parameters: &[Parameter], is_function: bool) -> Result<Entry, AllocError>
     ensures { IfOk result (λ entry. entry ≡ entry_for parameters.now is_function) }
 {
     let mut operands = 0;

@@ -12,7 +12,7 @@ use Rattle.ob_code.specs.declared.instr.Instr.TheVariants as instr
 use Rattle.ob_code.specs.declared.instr.Line.{Line}
 use Rattle.ob_code.specs.declared.instr.Procedure.{Procedure}
 use Rattle.ob_code.specs.declared.instr.CodeModule.{CodeModule}
-use Rattle.ob_code.specs.Kinds.{Kinds, Rows, Covers, CoverAll, results_kinds, nothing, OperandsArrive, NamesArrive, Arrives, known_of, known_at, Keeps, HasKinds}
+use Rattle.ob_code.specs.Kinds.{Kinds, Rows, Covers, CoverAll, results_kinds, nothing, Arrives, known_of, known_at, Keeps, HasKinds}
 use Rattle.ob_gen.specs.Code.{line, Guarded, first_code, bodies_code, guards_code, loop_code, repeat_code, labels_code, arm_code}
 use Rattle.ob_gen.proofs.machine.Reaches.{HasAt, has_front, has_back, has_all}
 

@@ -38,7 +38,7 @@ use Rattle.ob_mean.specs.declared.statement.TypedStatement.TheBlock.{Row_of-Bran
 use Rattle.ob_mean.specs.declared.statement.TypedStatement.TheVariants.{Simple, If', Case', While', Repeat', For'}
 use Rattle.ob_mean.specs.Values.{Value, append, count, size, item, before, row}
 use Rattle.ob_mean.specs.Shapes.{zero_of, zeros, opening_row}
-use Rattle.ob_mean.specs.WellFormed.{face_object, shape_object, own_object, Object, Of, OpenOf, Names, is_there, object_of, variable_object, elements_in, called, named_object, cell_limit, IsBasic, IsText, ExprFits, ExprsFit, OperationsFit, IndexesFit, IsPassed, RowPassed, ListPassed, IsRead, InputFits, OutputFits, ActionFits, HeadFits, StatFits, StatsFit, BranchesFit, ArmsFit, ListFits, ResultFits, FacesFit, names_in, names_of, ProceduresFit, IsWellFormed}
+use Rattle.ob_mean.specs.WellFormed.{face_object, own_object, Object, Of, OpenOf, Names, is_there, object_of, variable_object, elements_in, called, named_object, cell_limit, IsBasic, IsText, ExprFits, ExprsFit, OperationsFit, IndexesFit, IsPassed, RowPassed, ListPassed, IsRead, InputFits, OutputFits, ActionFits, HeadFits, StatFits, StatsFit, BranchesFit, ArmsFit, ListFits, ResultFits, FacesFit, names_in, names_of, ProceduresFit, IsWellFormed}
 use Rattle.ob_code.specs.declared.kinds.Kind.{Kind}
 use Rattle.ob_code.specs.declared.kinds.Kind.TheVariants.{Number, UpTo, Inside, Absent}
 use Rattle.ob_code.specs.declared.kinds.Known.{Known}
@@ -56,15 +56,15 @@ use Rattle.ob_code.specs.declared.instr.Entry.{Entry}
 use Rattle.ob_code.specs.declared.instr.Procedure.{Procedure}
 use Rattle.ob_code.specs.declared.instr.CodeModule.{CodeModule}
 use Rattle.ob_code.specs.Valid.{entry_of}
-use Rattle.ob_code.specs.Kinds.{Kinds, NameKinds, Rows, Covers, LieAmong, LieInElement, LieInName, Lie, IsLong, ArrayLies, TextLies, TargetLies, LengthIs, IsFew as FewCells, ArePassed, literal, low, inside, moved, one_of, one_inside, element, operands_of, names_of as passed_names, entry_results, results_kinds, nothing, Arrives, known_at, Keeps, HasKinds, IsMeasured}
+use Rattle.ob_code.specs.Kinds.{Kinds, NameKinds, Rows, Covers, LieAmong, LieInElement, LieInName, Lie, IsLong, ArrayLies, TextLies, TargetLies, LengthIs, IsFew as FewCells, ArePassed, literal, low, inside, moved, element, operands_of, names_of as passed_names, entry_results, results_kinds, nothing, Arrives, known_at, Keeps, HasKinds, IsMeasured}
 use Rattle.ob_gen.specs.Code.{line, extent_at, parameter_row, own_row, face_row, root_of, root_in, zero_in, zero_element, cells_of, length_in, length_of, span_of, element_cells, and_code, or_code, value_one, name_one, row_values, row_names, list_values, list_names, read_code, expr_code, offset_code, operations_code, every_code, either_code, argument_code, arguments_code, passed_code, target_of, input_code, output_code, assign_code, action_code, Guarded, loop_code, for_relation, for_guard, for_step, for_code, stat_code, stats_code, branches, arms_code, list_code, result_code, procedure_code, named_before, name_number}
 use Rattle.ob_gen.specs.Correct.{named_count, name_kind, name_kinds, parameter_count, IsCodeOf, AreCompiled}
 use Rattle.ob_gen.specs.Generated.{valued_count, heading_entry, IsGenerated}
 use Rattle.ob_gen.proofs.machine.Store.{size-append, before-within, count-row, size-row}
-use Rattle.ob_gen.proofs.machine.Places.{some_same, not_open, closed_module, closed_shape, closed_face, closed_own, shape_some, elements_some, field_some, field_is, open_named}
+use Rattle.ob_gen.proofs.machine.Places.{some_same, not_open, closed_module, closed_shape, closed_face, closed_own, shape_some, elements_some, field_some, field_is}
 use Rattle.ob_gen.proofs.machine.Frames.{HeldAt, held_module, held_zeros}
 use Rattle.ob_gen.proofs.machine.Fitting.{row_counts, list_counts, valued, parameters_row, parameters_size, face_there, IsNamed, callee_entry, room_at, IsRoomy, named_in, generated_valid}
-use Rattle.ob_gen.proofs.machine.Telling.{push, number, with_results, cover_self, CoverKnown, cover_known, arrives_at, result, here, At, Tells, tells_none, tells_join, tells_more, tells_one, tells_choice, AllTell, first_tells, loop_tells, repeat_tells, arm_tells, whole_tells}
+use Rattle.ob_gen.proofs.machine.Telling.{push, number, with_results, cover_self, arrives_at, result, here, Tells, tells_none, tells_join, tells_more, tells_one, tells_choice, AllTell, first_tells, loop_tells, repeat_tells, arm_tells, whole_tells}
 
 of_same : (t u : Shape) → Of t ≡ Of u → t ≡ u
 of_same t u e = cc
@@ -304,8 +304,7 @@ module _ (names : Names) (m : CodeModule) (f : Procedure) (known : IsNamed names
       let x = open_stands d w e in
       let alike : w ≡ u = some_same w u same in
       let long : IsLong own (root.Named x.0) x.0 (size (zero_of u)) = (refl, x.2 ∙ ap (λ y. Some (ArrayOf (size (zero_of y)))) alike) in
-      subst (λ o. ArrayLies own (root_in names d) (length_in o (root_in names d)) (size (zero_of u)) (offset_kind names d)) (sym e)
-      (
+      subst (λ o. ArrayLies own (root_in names d) (length_in o (root_in names d)) (size (zero_of u)) (offset_kind names d)) (sym e) (
         subst (λ r. IsLong own r (name_number r) (size (zero_of u))) (sym x.1) long,
         subst (Covers (UpTo 0)) (sym x.3) (omega arith),
       )
@@ -403,12 +402,11 @@ module _ (names : Names) (m : CodeModule) (f : Procedure) (known : IsNamed names
 
   call_keeps : (rows : Rows) (pc n l : ℕ) (g : Callee) (e : Entry) (ks : Known) → entry_of m g ≡ Some e → e.operands ≡ n → e.names ≡ length e.kinds → Arrives (known_at f rows (pc + 1)) (with_results e.is_function ks) → Keeps m f rows pc (given n e.kinds ks) (instr.Invoke g l)
   call_keeps rows pc n l g e ks found same counted behind =
-      subst (λ o. (operands_of o ≤ length (over n ks.operands)) × ArePassed o (ks.names ++ e.kinds) × Arrives (known_at f rows (pc + 1)) (record { operands = entry_results o ++ drop (operands_of o) (over n ks.operands); names = take (length (ks.names ++ e.kinds) - passed_names o) (ks.names ++ e.kinds) })) (sym found)
-      (
+      subst (λ o. (operands_of o ≤ length (over n ks.operands)) × ArePassed o (ks.names ++ e.kinds) × Arrives (known_at f rows (pc + 1)) (record { operands = entry_results o ++ drop (operands_of o) (over n ks.operands); names = take (length (ks.names ++ e.kinds) - passed_names o) (ks.names ++ e.kinds) })) (sym found) (
         enough,
         (omega (arith, all, counted), ap (λ d. drop d (ks.names ++ e.kinds)) below ∙ drop-append_seam ks.names e.kinds),
         subst (λ l. Arrives (known_at f rows (pc + 1)) (record { operands = results_kinds e.is_function ++ l; names = take (length (ks.names ++ e.kinds) - e.names) (ks.names ++ e.kinds) })) (sym rest)
-        (subst (λ l. Arrives (known_at f rows (pc + 1)) (record { operands = results_kinds e.is_function ++ ks.operands; names = l })) (sym kept) behind),
+            (subst (λ l. Arrives (known_at f rows (pc + 1)) (record { operands = results_kinds e.is_function ++ ks.operands; names = l })) (sym kept) behind),
       )
     where
       all : length (ks.names ++ e.kinds) ≡ length ks.names + length e.kinds
