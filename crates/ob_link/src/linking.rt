@@ -66,11 +66,7 @@ fn no_fault(row: &[Option<Text>]) -> bool
 
 impl Table {
     // What is behind the module of this name.
-    fn fault_behind(
-        &self,
-        behind: &[Option<Text>],
-        name: &Text,
-    ) -> Result<Option<Text>, AllocError>
+    fn fault_behind(&self, behind: &[Option<Text>], name: &Text) -> Result<Option<Text>, AllocError>
         ensures { IfOk result (λ f. f ≡ slice_index_or behind.now (session.place_of self.now name.now) None) }
     {
         if behind.is_empty() {
