@@ -1,5 +1,5 @@
 -- What imports that link name links too, and so it may run.
-use Rattle.std.proofs.Common.{◌≡◌, ℕ, zero, suc, Bool, true, false, List, [], ◌∷◌, map, Option, Some, None, is_none, slice_get, refl, sym, ◌∙◌, ap, subst}
+use Rattle.std.proofs.Common.{◌≡◌, ℕ, zero, suc, Bool, false, List, [], ◌∷◌, map, Option, Some, None, is_none, slice_get, refl, sym, ◌∙◌, ap, subst}
 use Rattle.ob_session.specs.Session.{Import, Module, find_module, link_fault}
 use Rattle.ob_session.specs.Links.{Reached, First, Behind, Through}
 use Rattle.ob_session.proofs.Links.{each_links}

@@ -1,4 +1,4 @@
-use Rattle.std.proofs.Common.{◌≡◌, List, Bool, sym, ◌∙◌, ap}
+use Rattle.std.proofs.Common.{List, Bool, sym, ◌∙◌, ap}
 use Rattle.std.specs.List.{list_any}
 use Rattle.ob_link.proofs.ReachRows.{reach_none}
 use Rattle.ob_link.proofs.modules.Modules.reaching.Goals as goal

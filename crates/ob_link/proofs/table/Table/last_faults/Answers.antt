@@ -1,4 +1,4 @@
-use Rattle.std.proofs.Common.{◌≡◌, sym, ◌∙◌, ap}
+use Rattle.std.proofs.Common.{sym, ◌∙◌, ap}
 use Rattle.ob_link.specs.Faults.{all_none}
 use Rattle.ob_link.proofs.Faults.{row_none}
 use Rattle.ob_link.proofs.table.Table.last_faults.Goals as goal
