@@ -1,6 +1,6 @@
 use Rattle.std.proofs.Common.{◌≡◌, ℕ, List, Some, None, sym, ◌∙◌, ap}
 use Rattle.ob_declare.specs.Names.{place_in}
-use Rattle.ob_declare.specs.Exports.{names_of, exported_in}
+use Rattle.ob_declare.specs.Exports.{names_of}
 use Rattle.ob_declare.proofs.Places.{exported_here, none_exported}
 use Rattle.ob_declare.proofs.imports.exported_by.Goals as goal
 

@@ -1,4 +1,4 @@
-use Rattle.std.proofs.Common.{rules, ◌≡◌, List, ℕ, [], ◌∷◌, ◌++◌, None, sym, ◌∙◌, ap}
+use Rattle.std.proofs.Common.{rules, ◌≡◌, List, [], ◌∷◌, ◌++◌, None, sym, ◌∙◌, ap}
 use Rattle.ob_declare.specs.LoadedTree.{LoadedTree}
 use Rattle.ob_declare.specs.Names.{place_in}
 use Rattle.ob_declare.specs.Exports.{module_names}
