@@ -14,8 +14,8 @@ pub enum Kind {
     Number,
     /// It is from 0 on, and at most so much: the number of a cell in any object that has more cells.
     UpTo(usize),
-    /// It is from 0 on. It lies in an element of the array that the name of this number stands for, whose elements have so
-    /// many cells, or at the element's end: at most so many cells behind where an element begins.
+    /// The number of a name that stands for an array, the cells of an element, and so much: it is from 0 on, and at most so
+    /// much behind where the array's last element begins.
     Inside(usize, usize, usize),
     /// No run comes here: it is the number of an element of an array that has none.
     Absent,
@@ -154,7 +154,7 @@ fn more(most: usize, more: usize) -> Kind
     }
 }
 
-// So far behind where an element begins
+// So far behind where the last element begins
 #[tactic(auto, using(crate::proofs::Lows::inside_far))]
 fn inside(name: usize, size: usize, most: usize, more: usize) -> Kind
     ensures { result ≡ spec.inside name size (most + more) }
