@@ -19,7 +19,6 @@ struct Shaped {
 }
 
 impl Model for Shaped {
-    ghost use Prim.{hlevel};
     ghost use Rattle.std.specs.Coded.{codes};
     ghost use Rattle.std.specs.Prelude.{◌≡◌};
     ghost use Rattle.ob_types.specs.contracts.structure.ObType as types;
