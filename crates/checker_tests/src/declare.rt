@@ -70,7 +70,8 @@ fn entered(
         scope,
         signature: _,
     } = enter_procedure(alloc, modules, 199, 0, scope, procedure)?;
-    declare_all(alloc, modules, 199, scope, procedure.declarations.get())
+    let scope = declare_all(alloc, modules, 199, scope, procedure.declarations.get())?;
+    Ok(scope)
 }
 
 fn standing(entry: Option<&Entry>) -> Option<Standing> {
