@@ -1,11 +1,11 @@
 ghost use Rattle.ob_fit.specs.Solid.{EachSolid};
 
-use ob_base::{Boxed, Items, Refused, Text};
+use ob_base::{Items, Refused, Shared, Text};
 use ob_check::check;
 use ob_code::checked::Checked;
 use ob_compile::{compile, face_of, faces_of, has_room};
 use ob_declare::Imports;
-use ob_image::{copy_face, same_face};
+use ob_image::copy_face;
 use ob_mean::{Face, ModuleVariable, Shape, TypedModule};
 use ob_parse::parse_text;
 use ob_parse::tree::{Cell, Module};
@@ -96,7 +96,9 @@ fn sizes(face: &Face) -> (usize, usize, usize) {
 
 #[test]
 fn a_face_has_what_is_exported(rt: HostRuntime) -> Result<(), Fail> {
-    assert_eq!(rt; sizes(&face(rt.alloc(), A)?), (2, 2, 2));
+    let known = face(rt.alloc(), A)?;
+    assert_eq!(rt; sizes(&known), (2, 2, 2));
+    assert_eq!(rt; sizes(&copy_face(rt.alloc(), &known)?), (2, 2, 2));
     assert_eq!(rt;
         sizes(&face(rt.alloc(), "MODULE A; VAR x: INTEGER; END A.")?),
         (0, 0, 0)
@@ -104,47 +106,12 @@ fn a_face_has_what_is_exported(rt: HostRuntime) -> Result<(), Fail> {
     Ok(())
 }
 
-fn is_copied(alloc: Global, text: &str) -> Result<bool, Refused> {
-    let face = face(alloc, text)?;
-    Ok(same_face(&face, &copy_face(alloc, &face)?))
-}
-
-fn are_same(alloc: Global, first: &str, second: &str) -> Result<bool, Refused> {
-    Ok(same_face(&face(alloc, first)?, &face(alloc, second)?))
-}
-
-#[test]
-fn faces_are_the_same_or_not(rt: HostRuntime) -> Result<(), Fail> {
-    assert!(rt; is_copied(rt.alloc(), A)?);
-    let x = "MODULE A; VAR x*: ARRAY 2 OF CHAR; END A.";
-    for (other, same) in [
-        (
-            "MODULE B; VAR z: CHAR; y*: ARRAY 2 OF INTEGER; END B.",
-            true,
-        ),
-        ("MODULE A; VAR x*: ARRAY 3 OF CHAR; END A.", false),
-        ("MODULE A; VAR x*: RECORD a, b: CHAR END; END A.", false),
-        ("MODULE A; VAR x*, y*: ARRAY 2 OF CHAR; END A.", false),
-        (
-            "MODULE A; VAR x*: ARRAY 2 OF CHAR; PROCEDURE P*; END P; END A.",
-            false,
-        ),
-        (
-            "MODULE A; VAR x*: ARRAY 2 OF CHAR; PROCEDURE P; END P; END A.",
-            true,
-        ),
-    ] {
-        assert_eq!(rt; are_same(rt.alloc(), x, other)?, same, "{other}");
-    }
-    Ok(())
-}
-
 // ---- room
 
 /// So many arrays of so many basic values.
 fn rows(alloc: Global, count: u32, length: u32) -> Result<Shape, AllocError> {
-    let row = Shape::Array(length, Boxed::new(alloc, Shape::Basic)?);
-    Ok(Shape::Array(count, Boxed::new(alloc, row)?))
+    let row = Shape::Array(length, Shared::new(alloc, Shape::Basic)?);
+    Ok(Shape::Array(count, Shared::new(alloc, row)?))
 }
 
 /// Whether there is room for a module with such a variable and a basic one.

@@ -1,4 +1,5 @@
 use ob_base::{Code, Refused, Text};
+use ob_declare::rejected::Rejected;
 use ob_declare::{
     Entered, Entry, Imports, Scope, Standing, declare_all, declare_module, enter_procedure,
     interface_of,
@@ -11,7 +12,7 @@ use std::test::Fail;
 
 fn code_of(alloc: Global, module: &Module) -> Option<Code> {
     match declare_module(alloc, &Imports::empty(alloc), module) {
-        Err(Refused::Fault(fault)) => Some(fault.code),
+        Err(Rejected::Rule(broken)) => Some(broken.code.code()),
         _ => None,
     }
 }
@@ -69,7 +70,8 @@ fn entered(
         scope,
         signature: _,
     } = enter_procedure(alloc, modules, 199, 0, scope, procedure)?;
-    declare_all(alloc, modules, 199, scope, procedure.declarations.get())
+    let scope = declare_all(alloc, modules, 199, scope, procedure.declarations.get())?;
+    Ok(scope)
 }
 
 fn standing(entry: Option<&Entry>) -> Option<Standing> {

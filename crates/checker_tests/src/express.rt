@@ -1,4 +1,5 @@
 use ob_base::{Code, Items, Refused};
+use ob_declare::rejected::{Rejected, told};
 use ob_declare::{Imports, Scope, declare_module, enter_procedure};
 use ob_express::{
     Called, Operand, actual, actuals, assigned_value, basic_value, expr, guard, number, procedure,
@@ -54,10 +55,10 @@ fn fault_in(refused: Refused) -> Option<Code> {
     }
 }
 
-fn code_of<T: Drop>(outcome: Result<T, Refused>) -> Option<Code> {
+fn code_of<T: Drop>(outcome: Result<T, Rejected>) -> Option<Code> {
     match outcome {
         Ok(_) => None,
-        Err(refused) => fault_in(refused),
+        Err(rejected) => fault_in(told(rejected)),
     }
 }
 
@@ -70,6 +71,14 @@ fn basic_of(alloc: Global, text: &str) -> Result<Basic, Refused> {
     let imports = Imports::empty(alloc);
     let (basic, _, _) = basic_value(alloc, &imports, &scope, 199, Items::new(alloc), e)?;
     Ok(basic)
+}
+
+/// The code of what is assigned to x.
+fn assigned_code(alloc: Global, text: &str) -> Option<Code> {
+    match basic_of(alloc, text) {
+        Ok(_) => None,
+        Err(refused) => fault_in(refused),
+    }
 }
 
 #[test]
@@ -110,7 +119,7 @@ fn values_that_break_a_rule(rt: HostRuntime) -> Result<(), Fail> {
         ("LEN((s))", Code::Parameters),
         ("FLOOR(x)", Code::LeftOut),
     ] {
-        assert_eq!(rt; code_of(basic_of(rt.alloc(), text)), Some(code), "{text}");
+        assert_eq!(rt; assigned_code(rt.alloc(), text), Some(code), "{text}");
     }
     Ok(())
 }
@@ -243,7 +252,7 @@ fn target_code(alloc: Global, statement: &str) -> Result<(Option<Code>, bool), R
     let imports = Imports::empty(alloc);
     match target(alloc, &imports, &scope, 199, Items::new(alloc), d) {
         Ok((of, _, _)) => Ok((None, is_char(&of))),
-        Err(refused) => Ok((fault_in(refused), false)),
+        Err(rejected) => Ok((fault_in(told(rejected)), false)),
     }
 }
 

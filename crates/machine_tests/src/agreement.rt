@@ -146,6 +146,11 @@ fn calls(rt: HostRuntime) -> Result<(), Fail> {
 }
 
 #[test]
+fn names(rt: HostRuntime) -> Result<(), Fail> {
+    assert_agreed(&rt, &programs::NAMES)
+}
+
+#[test]
 fn traps(rt: HostRuntime) -> Result<(), Fail> {
     assert_agreed(&rt, &programs::TRAPS)
 }

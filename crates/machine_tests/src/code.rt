@@ -1,6 +1,8 @@
+use ob_base::Items;
 use ob_code::checked::validate;
 use ob_code::instr::{
-    CodeModule, Entries, Entry, Extent, Instr, Length, Line, LinkedModule, Procedure, Root, Target,
+    CodeModule, Entries, Entry, Extent, Instr, Length, Line, LinkedModule, NameKind, Procedure,
+    Root, Target,
 };
 use ob_code::linked::are_linked;
 use ob_mean::{Adjustment, Callee, Operator, Relation};
@@ -19,11 +21,31 @@ fn cells(from: usize, cells: usize) -> Root {
     Root::OfModule(Extent { from, cells })
 }
 
-const NOTHING: Entry = Entry {
-    operands: 0,
-    names: 0,
-    is_function: false,
-};
+fn nothing(alloc: Global) -> Entry {
+    Entry {
+        operands: 0,
+        names: 0,
+        kinds: Items::new(alloc),
+        is_function: false,
+    }
+}
+
+// What is taken and left where one name is of this kind
+fn naming(
+    alloc: Global,
+    operands: usize,
+    kind: NameKind,
+    is_function: bool,
+) -> Result<Entry, AllocError> {
+    let mut kinds = Items::new(alloc);
+    kinds.push(kind)?;
+    Ok(Entry {
+        operands,
+        names: 1,
+        kinds,
+        is_function,
+    })
+}
 
 fn procedure(entry: Entry, cells: usize, lines: Vec<Line>) -> Procedure {
     Procedure {
@@ -35,17 +57,13 @@ fn procedure(entry: Entry, cells: usize, lines: Vec<Line>) -> Procedure {
     }
 }
 
-// A function of a value and of a name, which gives the named variable's second cell.
+// A function of a value and of a name of three cells, which gives the named variable's second cell.
 fn second(alloc: Global) -> Result<Procedure, AllocError> {
     let lines = vec![in alloc;
         line(0, 0, Instr::Push(1)),
         line(1, 0, Instr::LoadAt(Root::Named(0))),
     ]?;
-    let entry = Entry {
-        operands: 1,
-        names: 1,
-        is_function: true,
-    };
+    let entry = naming(alloc, 1, NameKind::Cells(3), true)?;
     Ok(procedure(entry, 1, lines))
 }
 
@@ -54,13 +72,7 @@ fn second(alloc: Global) -> Result<Procedure, AllocError> {
 fn is_code(alloc: Global, first: Procedure, body: Procedure) -> Result<bool, AllocError> {
     let known = Entries {
         cells: 2,
-        exported: vec![in alloc;
-            Entry {
-                operands: 0,
-                names: 1,
-                is_function: false
-            },
-        ]?,
+        exported: vec![in alloc; naming(alloc, 0, NameKind::Cells(3), false)?]?,
     };
     let code = CodeModule {
         cells: 3,
@@ -73,7 +85,7 @@ fn is_code(alloc: Global, first: Procedure, body: Procedure) -> Result<bool, All
 
 // These lines as a body
 fn runs(alloc: Global, lines: Vec<Line>) -> Result<bool, AllocError> {
-    is_code(alloc, second(alloc)?, procedure(NOTHING, 0, lines))
+    is_code(alloc, second(alloc)?, procedure(nothing(alloc), 0, lines))
 }
 
 // WHILE x < 3 DO INC(x) END, with the variable here, this jump to the guard and this way back
@@ -191,6 +203,66 @@ fn calls(rt: HostRuntime) -> Result<(), Fail> {
     Ok(())
 }
 
+// A procedure that takes this name, with these lines
+fn with_name(alloc: Global, kind: NameKind, lines: Vec<Line>) -> Result<bool, AllocError> {
+    let mut first = procedure(naming(alloc, 0, kind, false)?, 1, lines);
+    first.name_room = 2;
+    is_code(alloc, first, procedure(nothing(alloc), 0, Vec::new(alloc)))
+}
+
+// The cell of this number in what the name stands for is read.
+fn named_at(alloc: Global, kind: NameKind, number: i32) -> Result<bool, AllocError> {
+    let lines = vec![in alloc;
+        line(0, 0, Instr::Push(number)),
+        line(1, 0, Instr::LoadAt(Root::Named(0))),
+        line(1, 0, Instr::Drop),
+    ]?;
+    with_name(alloc, kind, lines)
+}
+
+// The name is indexed as an open array of elements of so many cells, of which the cell of this number is read.
+fn indexed(alloc: Global, size: usize, cell: usize) -> Result<bool, AllocError> {
+    let lines = vec![in alloc;
+        line(0, 0, Instr::Push(0)),
+        line(1, 0, Instr::Load(cells(0, 1))),
+        line(2, 0, Instr::Index(Length::OfName(0), size, 1)),
+        line(1, 0, Instr::AddOffset(cell)),
+        line(1, 0, Instr::LoadAt(Root::Named(0))),
+        line(1, 0, Instr::Drop),
+    ]?;
+    with_name(alloc, NameKind::ArrayOf(2), lines)
+}
+
+// So many cells of the module, or an array of elements of so many, are passed where this name is wanted.
+fn passed(alloc: Global, kind: NameKind, name: Instr) -> Result<bool, AllocError> {
+    let lines = vec![in alloc;
+        line(0, 0, Instr::Push(0)),
+        line(1, 0, name),
+        line(0, 1, Instr::Invoke(Callee::OfModule(0), 1)),
+    ]?;
+    let first = procedure(naming(alloc, 0, kind, false)?, 0, Vec::new(alloc));
+    is_code(alloc, first, procedure(nothing(alloc), 0, lines))
+}
+
+#[test]
+fn names(rt: HostRuntime) -> Result<(), Fail> {
+    let alloc = rt.alloc();
+    assert!(rt; named_at(alloc, NameKind::Cells(3), 2)?);
+    assert!(rt; !named_at(alloc, NameKind::Cells(2), 2)?);
+    assert!(rt; !named_at(alloc, NameKind::ArrayOf(3), 2)?);
+    assert!(rt; indexed(alloc, 2, 1)?);
+    assert!(rt; !indexed(alloc, 2, 2)?);
+    assert!(rt; !indexed(alloc, 3, 1)?);
+    assert!(rt; !indexed(alloc, 1, 0)?);
+    let array = |count, size| Instr::NameArray(cells(0, 3), Length::Elements(count), size);
+    assert!(rt; passed(alloc, NameKind::Cells(3), Instr::NamePlace(cells(0, 3), 3))?);
+    assert!(rt; !passed(alloc, NameKind::Cells(3), Instr::NamePlace(cells(0, 3), 2))?);
+    assert!(rt; passed(alloc, NameKind::ArrayOf(1), array(3, 1))?);
+    assert!(rt; !passed(alloc, NameKind::ArrayOf(1), array(4, 1))?);
+    assert!(rt; !passed(alloc, NameKind::ArrayOf(1), array(1, 3))?);
+    Ok(())
+}
+
 // In.Int(x), with this instruction where the line is asked for
 fn reading(alloc: Global, ask: Instr) -> Result<bool, AllocError> {
     let lines = vec![in alloc;
@@ -222,19 +294,25 @@ fn procedures(rt: HostRuntime) -> Result<(), Fail> {
     let body_with_cells = is_code(
         alloc,
         second(alloc)?,
-        procedure(NOTHING, 1, Vec::new(alloc)),
+        procedure(nothing(alloc), 1, Vec::new(alloc)),
     )?;
     assert!(rt; !body_with_cells);
     let mut without_cells = second(alloc)?;
     without_cells.cells = 0;
-    assert!(rt; !is_code(alloc, without_cells, procedure(NOTHING, 0, Vec::new(alloc)))?);
+    assert!(rt;
+        !is_code(
+            alloc,
+            without_cells,
+            procedure(nothing(alloc), 0, Vec::new(alloc))
+        )?
+    );
     let mut without_result = second(alloc)?;
     without_result.entry.is_function = false;
     assert!(rt;
         !is_code(
             alloc,
             without_result,
-            procedure(NOTHING, 0, Vec::new(alloc))
+            procedure(nothing(alloc), 0, Vec::new(alloc))
         )?
     );
     Ok(())
@@ -250,13 +328,16 @@ fn links(
 ) -> Result<bool, AllocError> {
     let imported = CodeModule {
         cells: 2,
-        procedures: vec![in alloc; second(alloc)?, procedure(NOTHING, 0, Vec::new(alloc))]?,
+        procedures: vec![in alloc;
+            second(alloc)?,
+            procedure(nothing(alloc), 0, Vec::new(alloc)),
+        ]?,
         exported: vec![in alloc; 0usize]?,
         imports: Vec::new(alloc),
     };
     let client = CodeModule {
         cells: 1,
-        procedures: vec![in alloc; procedure(NOTHING, 0, Vec::new(alloc))]?,
+        procedures: vec![in alloc; procedure(nothing(alloc), 0, Vec::new(alloc))]?,
         exported: Vec::new(alloc),
         imports: vec![in alloc; known]?,
     };
@@ -278,17 +359,12 @@ fn links(
 fn known(
     alloc: Global,
     cells: usize,
-    names: usize,
+    kind: NameKind,
     is_function: bool,
 ) -> Result<Entries, AllocError> {
-    let entry = Entry {
-        operands: 1,
-        names,
-        is_function,
-    };
     Ok(Entries {
         cells,
-        exported: vec![in alloc; entry]?,
+        exported: vec![in alloc; naming(alloc, 1, kind, is_function)?]?,
     })
 }
 
@@ -296,15 +372,33 @@ fn known(
 fn linking(rt: HostRuntime) -> Result<(), Fail> {
     let alloc = rt.alloc();
     let both = [true, true];
-    assert!(rt; links(alloc, 2, 0, known(alloc, 2, 1, true)?, &both)?);
-    assert!(rt; links(alloc, 2, 0, known(alloc, 1, 1, true)?, &both)?);
-    assert!(rt; !links(alloc, 1, 0, known(alloc, 2, 1, true)?, &both)?);
-    assert!(rt; !links(alloc, 2, 2, known(alloc, 2, 1, true)?, &both)?);
-    assert!(rt; !links(alloc, 2, 0, known(alloc, 3, 1, true)?, &both)?);
-    assert!(rt; !links(alloc, 2, 0, known(alloc, 2, 0, true)?, &both)?);
-    assert!(rt; !links(alloc, 2, 0, known(alloc, 2, 1, false)?, &both)?);
+    let named = NameKind::Cells(3);
+    assert!(rt; links(alloc, 2, 0, known(alloc, 2, named, true)?, &both)?);
+    assert!(rt; links(alloc, 2, 0, known(alloc, 1, named, true)?, &both)?);
+    assert!(rt; !links(alloc, 1, 0, known(alloc, 2, named, true)?, &both)?);
+    assert!(rt; !links(alloc, 2, 2, known(alloc, 2, named, true)?, &both)?);
+    assert!(rt; !links(alloc, 2, 0, known(alloc, 3, named, true)?, &both)?);
+    assert!(rt;
+        !links(
+            alloc,
+            2,
+            0,
+            known(alloc, 2, NameKind::Cells(2), true)?,
+            &both
+        )?
+    );
+    assert!(rt; !links(alloc, 2, 0, known(alloc, 2, named, false)?, &both)?);
+    assert!(rt;
+        !links(
+            alloc,
+            2,
+            0,
+            known(alloc, 2, NameKind::ArrayOf(3), true)?,
+            &both
+        )?
+    );
     // a module that doesn't fit its import may stay, but neither it nor what imports it may run
-    assert!(rt; links(alloc, 2, 0, known(alloc, 3, 1, true)?, &[true, false])?);
-    assert!(rt; !links(alloc, 2, 0, known(alloc, 2, 1, true)?, &[false, true])?);
+    assert!(rt; links(alloc, 2, 0, known(alloc, 3, named, true)?, &[true, false])?);
+    assert!(rt; !links(alloc, 2, 0, known(alloc, 2, named, true)?, &[false, true])?);
     Ok(())
 }

@@ -3,8 +3,9 @@ use Rattle.std.proofs.Common.{◌≡◌, ℕ, zero, suc, Bool, cond, ◌||◌, L
 use Rattle.std.specs.List.{list_any}
 use Rattle.std.specs.Str.{bytes_eq}
 use Rattle.std.proofs.lemmas.Option.{slice_get-map}
-use Rattle.ob_declare.specs.Exports.{Modules as Loaded}
-use Rattle.ob_declare.specs.Imports.{added}
+use Rattle.ob_declare.specs.Exports.{Modules as Loaded, module_names}
+use Rattle.ob_declare.specs.Names.{place_in}
+use Rattle.ob_declare.specs.Imports.{added, module_place}
 use Rattle.ob_session.specs.Session.{Import, Module, name_of, find_module}
 use Rattle.ob_link.specs.Reaching as found
 use Rattle.ob_cell.specs.Texts as meaning
@@ -39,6 +40,22 @@ added_next all (n ∷ ms) name (suc k) m distinct e =
     let loaded = meaning.loaded_as all name in
     ap (λ b. cond b (loaded m ∷ map loaded (take k ms)) (loaded n ∷ added (map loaded (take k ms)) (loaded m))) other
     ∙ ap (λ l. loaded n ∷ l) (added_next all ms name k m distinct.1 e)
+
+-- its name is none of those before it
+abbrev rest_placed : Bool → Option ℕ → Option ℕ
+rest_placed b o = cond b (Some 0) (option_map suc o)
+
+new_among : (all ms : List Module) (name : List ℕ) (k : ℕ) (m : Module) → AllDistinct ms → slice_get ms k ≡ Some m → place_in (module_names (map (meaning.loaded_as all name) (take k ms))) (name_of m) ≡ None
+new_among all [] name k m distinct e = absurd (let f : None ≡ Some m = e in cc)
+new_among all (n ∷ ms) name zero m distinct e = refl
+new_among all (n ∷ ms) name (suc k) m distinct e =
+    let other = turned (name_of m) (name_of n) (other_name ms k m (name_of n) distinct.0 e) in
+    ap (λ b. rest_placed b (place_in (module_names (map (meaning.loaded_as all name) (take k ms))) (name_of m))) other
+    ∙ ap (option_map suc) (new_among all ms name k m distinct.1 e)
+
+pub new_place : (modules : List Module) (name : List ℕ) (k : ℕ) (m : Module) (so_far : Loaded) → AllDistinct modules → slice_get modules k ≡ Some m → so_far ≡ map (meaning.loaded_as modules name) (take k modules) → module_place so_far (name_of m) ≡ None
+unfolding module_place
+new_place modules name k m so_far distinct e s = ap (λ (l : Loaded). place_in (module_names l) (name_of m)) s ∙ new_among modules modules name k m distinct e
 
 flag_there : (modules : List Module) (name : List ℕ) (k : ℕ) (m : Module) (flag : Bool) → slice_get modules k ≡ Some m → slice_get (found.reaching modules name) k ≡ Some flag → flag ≡ meaning.reached_by modules name m
 flag_there modules name k m flag e f =

@@ -1,6 +1,7 @@
 -- What each text keeps, from turn to turn and from line to line, and what one that is refused leaves.
-use Rattle.std.proofs.Common.{◌≡◌, ℕ, Bool, inl, inr, List, [], ◌∷◌, ◌++◌, Option, Some, None, Result, Ok, Err, refl, sym, ap, ◌∙◌, subst, true, false, arith}
+use Rattle.std.proofs.Common.{◌≡◌, ℕ, Bool, inl, inr, List, [], ◌∷◌, ◌++◌, Option, Some, None, Result, Err, refl, sym, ap, ◌∙◌, subst, arith}
 use Rattle.ob_base.specs.declared.fault.Code.{Code}
+use Rattle.ob_declare.specs.declared.rule.RuleCode.{RuleCode}
 use Rattle.ob_scan.specs.declared.token.Token.{Token}
 use Rattle.ob_scan.specs.Tokens.{Tokens}
 use Rattle.ob_scan.proofs.TokenReading.{tokens_of-complete}
@@ -9,9 +10,8 @@ use Rattle.ob_parse.specs.Grammar.{Derives}
 use Rattle.ob_parse.specs.CellText.{IsCellOf, Breaks}
 use Rattle.ob_parse.specs.TreeOf.{cell_of}
 use Rattle.ob_parse.proofs.Texts.{cell_sound, cell_complete}
-use Rattle.ob_declare.specs.Rule as rule
-use Rattle.ob_declare.specs.Rule.{Rule, Given, Then, Needs, Both, gives, breaks, answer}
-use Rattle.ob_declare.proofs.Exact.{found, only, one}
+use Rattle.ob_declare.specs.Rule.{gives, answer}
+use Rattle.ob_declare.proofs.Exact.{only}
 use Rattle.ob_session.specs.Session.{Session}
 use Rattle.ob_session.specs.Cells as cells
 use Rattle.ob_session.specs.Cells.{CellMeaning, CellOutcome, Checked, checked_meaning}
@@ -118,29 +118,8 @@ cell_fed session text lines line = fed_at (checked_text session text) session li
 
 -- ---- a text that breaks a rule
 
--- what breaks a rule is given nothing
-excludes : {A : Type 0} (r : Rule A) (c : Code) (a : A) → breaks r c → gives r a → ⊥
-excludes (Given x) c a b g = b
-excludes (rule.Breaks code) c a b g = g
-excludes (Then {A} {B} r f) c a b g =
-    elim b as (λ _. ⊥) [
-      | inl p ↦ excludes r c g.0 p g.1
-      | inr p ↦ excludes (f p.0) c a p.2 (subst (λ x. gives (f x) a) (one r g.0 p.0 g.1 p.1) g.2)
-    ]
-excludes (Needs test code r) c a b g =
-    elim b as (λ _. ⊥) [
-      | inl p ↦ let e : true ≡ false = sym g.0 ∙ p.0 in cc
-      | inr p ↦ excludes r c a p.1 g.1
-    ]
-excludes (Both r s) c a b g =
-    elim b as (λ _. ⊥) [
-      | inl p ↦ excludes r c a.0 p g.0
-      | inr p ↦ excludes s c a.1 p g.1
-    ]
-
-none_by : (r : Rule Checked) (c : Code) → breaks r c → (x : Result Checked Code) → answer r ≡ x → checked_by x ≡ None
-none_by r c b (Ok a) e = absurd (excludes r c a b (found r a e))
-none_by r c b (Err code) e = refl
+none_by : (outcome : Result Checked RuleCode) (c : RuleCode) → outcome ≡ Err c → checked_by outcome ≡ None
+none_by outcome c e = ap checked_by e
 
 -- a text without a tree
 none_in : (session : Session) (text : List ℕ) → ((c : Cell) → IsCellOf text c → ⊥) → (o : Option Cell) → cell_of text ≡ o → checked_in session o ≡ None
@@ -165,7 +144,7 @@ unfolding IsBroken checked_text
 broken_none session text c h =
     elim h as (λ _. checked_in session (cell_of text) ≡ None) [
       | inl b ↦ none_in session text (no_tree text c b) (cell_of text) refl
-      | inr p ↦ ap (checked_in session) (cell_complete text p.0 p.1) ∙ none_by (cell_rule session p.0) c p.2 (answer (cell_rule session p.0)) refl
+      | inr p ↦ ap (checked_in session) (cell_complete text p.0 p.1) ∙ none_by (answer (cell_rule session p.0)) p.2.0 p.2.1
     ]
 
 broken_stands : (session : Session) (text : List ℕ) (c : Code) → IsBroken session text c → (lines : List Line) (n : ℕ) → cell session text lines n ≡ standing session Unreadable

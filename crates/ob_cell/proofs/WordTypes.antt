@@ -3,8 +3,8 @@ use Rattle.std.proofs.Common.{◌≡◌, ◌<◌, ◌^◌, ℕ, zero, suc, ◌+�
 use Rattle.std.proofs.lemmas.Bool.Decides.{nat_tests}
 use Rattle.std.proofs.lemmas.List.{reverse-append}
 use Rattle.std.specs.Str.{bytes_eq}
-use Rattle.ob_base.specs.declared.fault.Code.{Code}
-use Rattle.ob_base.specs.declared.fault.Code.TheVariants as code
+use Rattle.ob_declare.specs.declared.rule.RuleCode.{RuleCode}
+use Rattle.ob_declare.specs.declared.rule.RuleCode.TheVariants as code
 use Rattle.ob_parse.specs.declared.tree.Expr.{Expr}
 use Rattle.ob_parse.specs.declared.tree.FormalType.{FormalType, out-FormalType}
 use Rattle.ob_parse.specs.declared.tree.FormalType.TheOpen.{FormalType-F}
@@ -53,7 +53,7 @@ pub always : {A : Type 0} (xs : List A) → Each (λ x. Unit {0}) xs
 always [] = tt
 always (x ∷ xs) = (tt, always xs)
 
-pub there_is : {A : Type 0} (o : Option A) (c : Code) (a : A) → gives (there o c) a → o ≡ Some a
+pub there_is : {A : Type 0} (o : Option A) (c : RuleCode) (a : A) → gives (there o c) a → o ≡ Some a
 there_is None c a h = absurd h
 there_is (Some x) c a h = ap Some h
 

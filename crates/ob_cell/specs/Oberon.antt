@@ -4,12 +4,12 @@ use Rattle.std.specs.Prelude.{◌≡◌, ◌⊎◌, ℕ, List, Option, Some, Non
 use Rattle.ob_base.specs.declared.fault.Code.{Code}
 use Rattle.ob_parse.specs.declared.tree.Cell.{Cell}
 use Rattle.ob_parse.specs.CellText.{IsCellOf, Breaks}
-use Rattle.ob_declare.specs.Rule.{gives, breaks}
+use Rattle.ob_declare.specs.Rule.{gives}
 use Rattle.ob_session.specs.Session.{Session, opening}
 use Rattle.ob_session.specs.Cells as cells
 use Rattle.ob_session.specs.Cells.{CellMeaning, Checked, checked_meaning, unlinked}
 use Rattle.ob_cell.specs.Texts as meaning
-use Rattle.ob_cell.specs.Texts.{cell_rule}
+use Rattle.ob_cell.specs.Texts.{cell_rule, breaks_first}
 use Rattle.jk_language.specs.declared.outcome.LinkFault.{LinkFault}
 use Rattle.jk_language.specs.declared.outcome.Outcome.TheVariants.{Unreadable}
 use Rattle.jk_language.specs.declared.outcome.Refusal.{Refusal}
@@ -36,10 +36,10 @@ cell session text lines n = told_in session (meaning.cell session text lines n)
 unfoldable pub IsTreeOf : List ℕ → Cell → Type 0
 IsTreeOf text tree = IsCellOf text tree
 
--- The text breaks a rule of this code: it has no tokens, or they have no tree, or its tree breaks a static rule over the
--- modules that are loaded.
+-- The text breaks a rule of this code: it has no tokens, or they have no tree, or that is the first of the static rules that
+-- its tree breaks, over the modules that are loaded and from left to right.
 unfoldable pub IsBroken : Session → List ℕ → Code → Type 0
-IsBroken session text code = Breaks text code ⊎ ((tree : Cell) × IsCellOf text tree × breaks (cell_rule session tree) code)
+IsBroken session text code = Breaks text code ⊎ ((tree : Cell) × IsCellOf text tree × breaks_first session tree code)
 
 -- a cell that keeps the static rules and does not link, for this
 abbrev pub DoesNotLink : Session → Checked → cells.LinkFault → Type 0

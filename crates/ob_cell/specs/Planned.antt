@@ -5,14 +5,14 @@ use Rattle.ob_base.specs.declared.fault.Refused.TheVariants as refused
 use Rattle.ob_parse.specs.declared.tree.Cell.{Cell}
 use Rattle.ob_mean.specs.declared.face.Face.{Face}
 use Rattle.ob_mean.specs.WellFormed.{IsFaceOf, IsWellFormed}
-use Rattle.ob_declare.specs.Rule.{answer, breaks}
+use Rattle.ob_declare.specs.Rule.{answer}
 use Rattle.ob_fit.specs.Fitting.{face_of_interface}
 use Rattle.ob_types.specs.Solid.{ExportsSolid}
 use Rattle.ob_session.specs.Session.{Session, Module, Import, name_of, find_module, link_fault}
 use Rattle.ob_session.specs.Cells as cells
 use Rattle.ob_session.specs.Cells.{Checked, OfModule, OfCommands, CommandName, all_ready}
 use Rattle.ob_gen.specs.Generated.{IsGenerated}
-use Rattle.ob_cell.specs.Texts.{cell_rule}
+use Rattle.ob_cell.specs.Texts.{cell_rule, breaks_first}
 use Rattle.ob_linked.specs.Compiled.{AllFound}
 use Rattle.ob_linked.specs.Loading.{IsUnreached}
 use Rattle.ob_load.specs.Known.{IsSaid}
@@ -65,7 +65,7 @@ IsPlanned s c (plan.Commands commands) =
 IsPlanned s c (plan.Unlinked fault) =
     (checked : Checked) × (answer (cell_rule s c) ≡ Ok checked) × IsUnlinked s checked (fault_seen fault)
 
--- a refusal has the code of a broken rule, or memory was refused
+-- a refusal has the code of the first broken rule, or memory was refused
 abbrev pub IsStaticRefusal : Session → Cell → Refused → Type 0
-IsStaticRefusal s c (refused.Fault fault) = breaks (cell_rule s c) fault.code
+IsStaticRefusal s c (refused.Fault fault) = breaks_first s c fault.code
 IsStaticRefusal s c refused.Memory = Unit {0}

@@ -6,6 +6,7 @@ use Rattle.std.specs.Prelude.{◌≡◌, ℕ, zero, suc, Bool, false, ◌||◌, 
 use Rattle.std.specs.List.{list_any}
 use Rattle.std.specs.Str.{bytes_eq}
 use Rattle.ob_base.specs.declared.fault.Code.{Code}
+use Rattle.ob_declare.specs.declared.rule.RuleCode.{RuleCode}
 use Rattle.ob_inout.specs.Reading.{Line}
 use Rattle.ob_parse.specs.declared.tree.Cell.{Cell}
 use Rattle.ob_parse.specs.declared.tree.Cell.TheVariants as cells
@@ -13,6 +14,7 @@ use Rattle.ob_parse.specs.declared.tree.Command.{Command}
 use Rattle.ob_parse.specs.TreeOf.{cell_of}
 use Rattle.ob_declare.specs.LoadedTree.{LoadedTree}
 use Rattle.ob_declare.specs.Rule.{Rule, Given, Then, answer}
+use Rattle.ob_declare.specs.RuleCodes.{code_of}
 use Rattle.ob_check.specs.CheckedTree.{CheckedTree}
 use Rattle.ob_check.specs.declared.checked.Imported.{Imported}
 use Rattle.ob_check.specs.Modules.{module_at}
@@ -58,7 +60,11 @@ abbrev pub cell_rule : Session → Cell → Rule Checked
 cell_rule s (cells.Module m) = Then (module_at (loaded s m.name.name) m) (λ c. Given (OfModule (module_of c)))
 cell_rule s (cells.Commands cs) = Given (OfCommands (map command_of cs))
 
-abbrev pub checked_by : Result Checked Code → Option Checked
+-- somebody who goes through the rules of a cell from left to right finds a rule of this code broken
+abbrev pub breaks_first : Session → Cell → Code → Type 0
+breaks_first s c code = (broken : RuleCode) × (answer (cell_rule s c) ≡ Err broken) × (code ≡ code_of broken)
+
+abbrev pub checked_by : Result Checked RuleCode → Option Checked
 checked_by (Ok c) = Some c
 checked_by (Err code) = None
 

@@ -1,13 +1,14 @@
 //! The modules that are loaded, as the static rules see them.
 
-ghost use Rattle.std.specs.Prelude.{◌≡◌, [], ◌∷◌, map, IfOk, if◌then◌else◌};
-ghost use Rattle.ob_declare.specs.Imports.{added};
+ghost use Rattle.std.specs.Prelude.{◌≡◌, [], ◌∷◌, map, None, IfOk, if◌then◌else◌};
+ghost use Rattle.ob_declare.specs.Imports.{added, module_place};
 ghost use Rattle.ob_cell.specs.Texts as meaning;
 ghost use Rattle.ob_link.specs.Modules.{AllDistinct};
 
 use ob_base::Text;
 use ob_declare::Imports;
 use ob_link::{Modules, SessionModule};
+use ob_parse::tree::{Import, Module};
 use std::alloc::{AllocError, Global};
 
 // A name alone.
@@ -19,16 +20,17 @@ fn only_name(alloc: Global, name: &Text) -> Result<Vec<Text>, AllocError>
     Ok(names)
 }
 
-// A module more, which reaches these names.
+// A module more, of a new name, which reaches these names.
 fn with_module(
     imports: Imports,
     new: &SessionModule,
     reached: &[Text],
 ) -> Result<Imports, AllocError>
+    requires { module_place imports new.now.interface.name ≡ None }
     ensures { IfOk result (λ more. more ≡ added imports (record { interface = new.now.interface; reached = reached.now })) }
 {
     let mut imports = imports;
-    imports.add(new.interface(), reached)?;
+    imports.push(new.interface(), reached)?;
     Ok(imports)
 }
 
@@ -39,12 +41,8 @@ fn reached_name(reaches: bool, name: &[Text]) -> &[Text]
     if reaches { name } else { &[] }
 }
 
-/// The loaded modules, with their interfaces, as the rules for a module of this name see them.
-///
-/// # Errors
-///
-/// Want of memory.
-pub fn loaded_for(alloc: Global, modules: &Modules, name: &Text) -> Result<Imports, AllocError>
+// The loaded modules, as the rules for a module of this name see them.
+fn all_loaded(alloc: Global, modules: &Modules, name: &Text) -> Result<Imports, AllocError>
     requires { AllDistinct modules.now }
     ensures { IfOk result (λ imports. imports ≡ map (meaning.loaded_as modules.now name.now) modules.now) }
 {
@@ -55,6 +53,31 @@ pub fn loaded_for(alloc: Global, modules: &Modules, name: &Text) -> Result<Impor
     for number in 0..modules.len() {
         let reached = reached_name(reaching[number], own.as_slice());
         imports = with_module(imports, &modules[number], reached)?;
+    }
+    Ok(imports)
+}
+
+// The name of the module that is imported.
+fn own_name(import: &Import) -> &Text {
+    match &import.module_name {
+        Some(own) => &own.name,
+        None => &import.name.name,
+    }
+}
+
+/// The loaded modules, with their interfaces, as the rules for this module see them. Names of those that it imports are looked
+/// up quickly.
+///
+/// # Errors
+///
+/// Want of memory.
+pub fn loaded_for(alloc: Global, modules: &Modules, tree: &Module) -> Result<Imports, AllocError>
+    requires { AllDistinct modules.now }
+    ensures { IfOk result (λ imports. imports ≡ map (meaning.loaded_as modules.now tree.now.name.name) modules.now) }
+{
+    let mut imports = all_loaded(alloc, modules, &tree.name.name)?;
+    for import in tree.imports.as_slice() {
+        imports.index_at(modules.place_of(own_name(import)))?;
     }
     Ok(imports)
 }

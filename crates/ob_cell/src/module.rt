@@ -31,7 +31,7 @@ pub fn module_plan(alloc: Global, modules: &Modules, tree: &Module) -> Result<Pl
     ensures found { IfOk result (λ plan. (store : Value) → IsPlanned (in_store modules.now store) (cells.Module tree.now) plan) }
     ensures faults { IfErr result (λ refused. (store : Value) → IsStaticRefusal (in_store modules.now store) (cells.Module tree.now) refused) }
 {
-    let loaded = loaded_for(alloc, modules, &tree.name.name)?;
+    let loaded = loaded_for(alloc, modules, tree)?;
     let checked = check(alloc, tree, &loaded)?;
     let imports = keyed_imports(alloc, checked.imports())?;
     match modules.link_fault(imports.as_slice())? {

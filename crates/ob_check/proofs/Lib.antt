@@ -1,2 +1,3 @@
 pub mod ShapeForms
 pub mod Ranges
+pub mod Answering

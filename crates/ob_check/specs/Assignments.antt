@@ -1,7 +1,7 @@
 -- To be believed.
 -- Assignments (Wirth, The Programming Language Oberon, Oberon-07): what may be assigned to a variable, and the typed tree.
 use Rattle.std.specs.Prelude.{ℕ, length, Bool, true, false, not, ◌&&◌, ◌||◌, Option, Some, None}
-use Rattle.ob_base.specs.declared.fault.Code.TheVariants as code
+use Rattle.ob_declare.specs.declared.rule.RuleCode.TheVariants as code
 use Rattle.ob_parse.specs.declared.tree.Designator.{Designator}
 use Rattle.ob_parse.specs.declared.tree.Expr.{Expr}
 use Rattle.ob_parse.specs.FirstToken.{first_of}

@@ -2,7 +2,7 @@
 -- Calls of procedures by statements: a function is called in an expression alone (Wirth, The Programming Language Oberon,
 -- Oberon-07).
 use Rattle.std.specs.Prelude.{ℕ, List, [], ◌∷◌, Bool, true, false, Option, Some, None, is_none}
-use Rattle.ob_base.specs.declared.fault.Code.TheVariants as code
+use Rattle.ob_declare.specs.declared.rule.RuleCode.TheVariants as code
 use Rattle.ob_parse.specs.declared.tree.Designator.{Designator, out-Designator}
 use Rattle.ob_parse.specs.declared.tree.Expr.{Expr}
 use Rattle.ob_types.specs.declared.exports.Formal.{Formal}

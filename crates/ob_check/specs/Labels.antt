@@ -2,7 +2,7 @@
 -- The labels of CASE (Wirth, The Programming Language Oberon, Oberon-07): constants, numbers where a number is looked up and
 -- characters where a character is. No label stands twice, and no range is empty.
 use Rattle.std.specs.Prelude.{ℕ, ℤ, pos, int_le, int_lt, List, [], ◌∷◌, ◌++◌, Bool, true, false, ◌&&◌, ◌||◌, Option, Some, None}
-use Rattle.ob_base.specs.declared.fault.Code.TheVariants as code
+use Rattle.ob_declare.specs.declared.rule.RuleCode.TheVariants as code
 use Rattle.ob_parse.specs.declared.tree.Ident.{Ident}
 use Rattle.ob_parse.specs.declared.tree.Label.{Label}
 use Rattle.ob_parse.specs.declared.tree.Label.TheVariants as label

@@ -2,7 +2,7 @@
 -- Procedures (Wirth, The Programming Language Oberon, Oberon-07), with those in them. They are numbered as their ends follow each
 -- other: a procedure comes behind those in it. The number says how many more constructs may nest.
 use Rattle.std.specs.Prelude.{ℕ, zero, suc, ◌+◌, sum, List, [], ◌∷◌, ◌++◌, length, map, Option, Some, None, nat_le, if◌then◌else◌}
-use Rattle.ob_base.specs.declared.fault.Code.TheVariants as code
+use Rattle.ob_declare.specs.declared.rule.RuleCode.TheVariants as code
 use Rattle.ob_parse.specs.declared.tree.Declarations.{out-Declarations}
 use Rattle.ob_parse.specs.declared.tree.Procedure.{Procedure, out-Procedure}
 use Rattle.ob_parse.specs.declared.tree.Returned.{Returned}

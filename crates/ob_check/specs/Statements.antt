@@ -4,8 +4,8 @@
 -- left to right.
 use Rattle.std.specs.Prelude.{ℕ, zero, suc, ℤ, pos, List, [], ◌∷◌, ◌++◌, Bool, true, false, not, Option, Some, None}
 use Rattle.std.specs.Ordering.{int_eq}
-use Rattle.ob_base.specs.declared.fault.Code.{Code}
-use Rattle.ob_base.specs.declared.fault.Code.TheVariants as code
+use Rattle.ob_declare.specs.declared.rule.RuleCode.{RuleCode}
+use Rattle.ob_declare.specs.declared.rule.RuleCode.TheVariants as code
 use Rattle.ob_parse.specs.declared.tree.Branch.{Branch, out-Branch}
 use Rattle.ob_parse.specs.declared.tree.Case.{Case, out-Case}
 use Rattle.ob_parse.specs.declared.tree.Expr.{Expr}
@@ -50,7 +50,7 @@ StatementLayer = Statement-F Statement Branch Case
 -- ---- what stands between FOR and DO
 
 -- what is broken where nothing declares the name of a variable
-abbrev pub absent_variable : Predeclared → Code
+abbrev pub absent_variable : Predeclared → RuleCode
 absent_variable predeclared.LeftOut = code.LeftOut
 absent_variable predeclared.Unknown = code.UnknownName
 absent_variable p = code.ReadOnly

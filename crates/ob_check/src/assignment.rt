@@ -4,8 +4,8 @@ ghost use Rattle.std.specs.Prelude.{◌≡◌};
 ghost use Rattle.ob_declare.specs.Rule.{Judges};
 ghost use Rattle.ob_check.specs.Assignments as spec;
 
-use ob_base::{Code, Refused};
-use ob_declare::fault::fault;
+use ob_declare::rejected::{Rejected, broken};
+use ob_declare::rule::RuleCode;
 use ob_declare::{Imports, Scope};
 use ob_express::{Operand, Variables, assigned_value, expr, target};
 use ob_mean::{Action, Designator as Place};
@@ -56,26 +56,26 @@ fn structured_assigned(
     to: Place,
     span: Span,
     value: Operand,
-) -> Result<Action, Refused>
+) -> Result<Action, Rejected>
     ensures { Judges (spec.structured_assigned of.now to span.line value) result }
 {
     match value {
         Operand::Text(chars) => {
             if !string_assignable(of, chars.as_slice().len()) {
-                return Err(Refused::Fault(fault(Code::Types, span)));
+                return Err(Rejected::Rule(broken(RuleCode::Types, span)));
             }
             Ok(Action::AssignText(to, span.line, chars))
         }
         Operand::Place(from_type, from) => {
             if is_left_out_copy(of, &from_type) {
-                return Err(Refused::Fault(fault(Code::LeftOut, span)));
+                return Err(Rejected::Rule(broken(RuleCode::LeftOut, span)));
             }
             if !same(of, &from_type) {
-                return Err(Refused::Fault(fault(Code::Types, span)));
+                return Err(Rejected::Rule(broken(RuleCode::Types, span)));
             }
             Ok(Action::Copy(to, from))
         }
-        Operand::Value(_, _) => Err(Refused::Fault(fault(Code::Types, span))),
+        Operand::Value(_, _) => Err(Rejected::Rule(broken(RuleCode::Types, span))),
     }
 }
 
@@ -91,7 +91,7 @@ fn assigned(
     to: Place,
     variables: Variables,
     e: &Expr,
-) -> Result<(Action, Variables), Refused>
+) -> Result<(Action, Variables), Rejected>
     ensures { Judges (spec.assigned imports.now scope.now levels basic of.now to variables e.now) result }
 {
     match basic {
@@ -119,7 +119,7 @@ pub fn assignment(
     variables: Variables,
     d: &Designator,
     e: &Expr,
-) -> Result<(Action, Variables), Refused>
+) -> Result<(Action, Variables), Rejected>
     ensures { Judges (spec.assignment imports.now scope.now levels variables d.now e.now) result }
 {
     let (of, to, variables) = target(alloc, imports, scope, levels, variables, d)?;

@@ -6,8 +6,9 @@ ghost use Rattle.ob_express.specs.Named.{callable};
 ghost use Rattle.ob_check.specs.Calls as spec;
 
 use crate::standard_call::{in_call, out_call, predeclared_call};
-use ob_base::{Code, Items, Refused};
-use ob_declare::fault::fault;
+use ob_base::Items;
+use ob_declare::rejected::{Rejected, broken};
+use ob_declare::rule::RuleCode;
 use ob_declare::{Imports, Scope};
 use ob_express::{Called, Variables, actuals as actual_list, procedure};
 use ob_mean::{Action, Callee};
@@ -36,13 +37,13 @@ fn call_with(
     variables: Variables,
     actuals: &Option<Items<Expr>>,
     span: Span,
-) -> Result<(Action, Variables), Refused>
+) -> Result<(Action, Variables), Rejected>
     ensures { Judges (spec.call_with imports.now scope.now levels to formals.now span.line variables actuals.now) result }
 {
     match actuals {
         None => {
             if !has_none(formals) {
-                return Err(Refused::Fault(fault(Code::Parameters, span)));
+                return Err(Rejected::Rule(broken(RuleCode::Parameters, span)));
             }
             Ok((Action::Call(to, span.line, Items::new(alloc)), variables))
         }
@@ -74,11 +75,11 @@ fn procedure_call(
     variables: Variables,
     actuals: &Option<Items<Expr>>,
     span: Span,
-) -> Result<(Action, Variables), Refused>
+) -> Result<(Action, Variables), Rejected>
     ensures { Judges (spec.procedure_call imports.now scope.now levels signature.now to span.line variables actuals.now) result }
 {
     if signature.result.is_some() {
-        return Err(Refused::Fault(fault(Code::Parameters, span)));
+        return Err(Rejected::Rule(broken(RuleCode::Parameters, span)));
     }
     let formals = signature.formals.as_slice();
     call_with(
@@ -97,14 +98,14 @@ fn call_of(
     variables: Variables,
     actuals: &Option<Items<Expr>>,
     span: Span,
-) -> Result<(Action, Variables), Refused>
+) -> Result<(Action, Variables), Rejected>
     ensures { Judges (spec.call_of imports.now scope.now levels (callable what.entry) span.line variables actuals.now) result }
 {
     match what {
         Called::Procedure(signature, to) => procedure_call(
             alloc, imports, scope, levels, signature, to, variables, actuals, span,
         ),
-        Called::Function(_) => Err(Refused::Fault(fault(Code::Parameters, span))),
+        Called::Function(_) => Err(Rejected::Rule(broken(RuleCode::Parameters, span))),
         Called::Proper(procedure) => predeclared_call(
             alloc, imports, scope, levels, procedure, variables, actuals, span,
         ),
@@ -131,7 +132,7 @@ pub fn call(
     variables: Variables,
     d: &Designator,
     actuals: &Option<Items<Expr>>,
-) -> Result<(Action, Variables), Refused>
+) -> Result<(Action, Variables), Rejected>
     ensures { Judges (spec.call imports.now scope.now levels variables d.now actuals.now) result }
 {
     let what = procedure(imports, scope, d)?;

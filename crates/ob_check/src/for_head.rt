@@ -4,10 +4,11 @@ ghost use Rattle.std.specs.Prelude.{◌≡◌, option_copied};
 ghost use Rattle.ob_declare.specs.Rule.{Judges};
 ghost use Rattle.ob_check.specs.Statements as spec;
 
-use ob_base::{Boxed, Code, Refused};
+use ob_base::Boxed;
 use ob_declare::constant::constant;
-use ob_declare::fault::fault;
 use ob_declare::predeclared::Predeclared;
+use ob_declare::rejected::{Rejected, broken};
+use ob_declare::rule::RuleCode;
 use ob_declare::{Entry, Imports, Scope, Standing, is_writable};
 use ob_express::{Variables, assigned_value};
 use ob_mean::{ForHead as TypedHead, Variable};
@@ -17,13 +18,13 @@ use ob_types::{Basic, Constant, ObType};
 use std::alloc::Global;
 
 /// What is broken where nothing declares the name of a variable.
-fn absent_variable(before: Predeclared) -> Code
+fn absent_variable(before: Predeclared) -> RuleCode
     ensures { result ≡ spec.absent_variable before }
 {
     match before {
-        Predeclared::LeftOut => Code::LeftOut,
-        Predeclared::Unknown => Code::UnknownName,
-        _ => Code::ReadOnly,
+        Predeclared::LeftOut => RuleCode::LeftOut,
+        Predeclared::Unknown => RuleCode::UnknownName,
+        _ => RuleCode::ReadOnly,
     }
 }
 
@@ -42,14 +43,14 @@ fn counter_of(
     of: &ObType,
     standing: Standing,
     span: Span,
-) -> Result<Variable, Refused>
+) -> Result<Variable, Rejected>
     ensures { Judges (spec.counter_of scope.now of.now standing) result }
 {
     if !is_writable(standing) {
-        return Err(Refused::Fault(fault(Code::ReadOnly, span)));
+        return Err(Rejected::Rule(broken(RuleCode::ReadOnly, span)));
     }
     if !is_integer(of) {
-        return Err(Refused::Fault(fault(Code::Types, span)));
+        return Err(Rejected::Rule(broken(RuleCode::Types, span)));
     }
     Ok(scope.variable_of(standing))
 }
@@ -60,19 +61,19 @@ fn counter_found(
     entry: Option<&Entry>,
     before: Predeclared,
     span: Span,
-) -> Result<Variable, Refused>
+) -> Result<Variable, Rejected>
     ensures { Judges (spec.counter_found scope.now (option_copied entry.entry) before) result }
 {
     match entry {
         Some(Entry::Variable(of, standing)) => counter_of(scope, of, *standing, span),
-        Some(_) => Err(Refused::Fault(fault(Code::ReadOnly, span))),
-        None => Err(Refused::Fault(fault(absent_variable(before), span))),
+        Some(_) => Err(Rejected::Rule(broken(RuleCode::ReadOnly, span))),
+        None => Err(Rejected::Rule(broken(absent_variable(before), span))),
     }
 }
 
 /// The variable of a FOR.
 #[tactic(auto, unfolding(crate::specs::Statements::counter_named))]
-fn counter_named(scope: &Scope, name: &Ident) -> Result<Variable, Refused>
+fn counter_named(scope: &Scope, name: &Ident) -> Result<Variable, Rejected>
     ensures { Judges (spec.counter_named scope.now name.now) result }
 {
     counter_found(
@@ -85,18 +86,18 @@ fn counter_named(scope: &Scope, name: &Ident) -> Result<Variable, Refused>
 
 /// The step that a constant is.
 #[tactic(auto, unfolding(crate::specs::Statements::step_of))]
-fn step_of(constant: &Constant, span: Span) -> Result<i32, Refused>
+fn step_of(constant: &Constant, span: Span) -> Result<i32, Rejected>
     ensures { Judges (spec.step_of constant.now) result }
 {
     match constant {
         Constant::Integer(number) => {
             let number = *number;
             if number == 0 {
-                return Err(Refused::Fault(fault(Code::NotConstant, span)));
+                return Err(Rejected::Rule(broken(RuleCode::NotConstant, span)));
             }
             Ok(number)
         }
-        _ => Err(Refused::Fault(fault(Code::Types, span))),
+        _ => Err(Rejected::Rule(broken(RuleCode::Types, span))),
     }
 }
 
@@ -107,7 +108,7 @@ fn step(
     scope: &Scope,
     levels: u32,
     e: &Option<Boxed<Expr>>,
-) -> Result<i32, Refused>
+) -> Result<i32, Rejected>
     ensures { Judges (spec.step_at imports.now scope.now levels e.now) result }
 {
     match e {
@@ -130,7 +131,7 @@ pub fn for_head(
     levels: u32,
     variables: Variables,
     h: &ForHead,
-) -> Result<(TypedHead, Variables), Refused>
+) -> Result<(TypedHead, Variables), Rejected>
     ensures { Judges (spec.for_head imports.now scope.now levels variables h.now) result }
 {
     let variable = counter_named(scope, &h.variable)?;

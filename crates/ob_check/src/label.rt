@@ -5,11 +5,12 @@ ghost use Rattle.ob_declare.specs.Rule.{Judges, through};
 ghost use Rattle.ob_check.specs.Labels as spec;
 
 use crate::labels::Labels;
-use ob_base::{Code, Items, Refused};
-use ob_declare::fault::fault;
+use ob_base::Items;
 use ob_declare::predeclared::{
     InputName, OutputName, Predeclared, absent, input_named, output_named,
 };
+use ob_declare::rejected::{Rejected, broken};
+use ob_declare::rule::RuleCode;
 use ob_declare::{Entry, Imports, Scope};
 use ob_mean::LabelRange as TypedRange;
 use ob_parse::tree::{Ident, Label, LabelRange, Qualident};
@@ -24,46 +25,46 @@ fn own_constant(
     entry: Option<&Entry>,
     before: Predeclared,
     span: Span,
-) -> Result<Constant, Refused>
+) -> Result<Constant, Rejected>
     ensures { Judges (spec.own_constant (option_copied entry.entry) before) result }
 {
     match entry {
         Some(Entry::Constant(constant)) => Ok(constant.copy(alloc)?),
-        Some(Entry::Variable(_, _)) => Err(Refused::Fault(fault(Code::NotConstant, span))),
-        Some(_) => Err(Refused::Fault(fault(Code::Types, span))),
-        None => Err(Refused::Fault(fault(absent(before), span))),
+        Some(Entry::Variable(_, _)) => Err(Rejected::Rule(broken(RuleCode::NotConstant, span))),
+        Some(_) => Err(Rejected::Rule(broken(RuleCode::Types, span))),
+        None => Err(Rejected::Rule(broken(absent(before), span))),
     }
 }
 
 #[tactic(auto, unfolding(crate::specs::Labels::object_constant))]
-fn object_constant(alloc: Global, object: &Object, span: Span) -> Result<Constant, Refused>
+fn object_constant(alloc: Global, object: &Object, span: Span) -> Result<Constant, Rejected>
     ensures { Judges (spec.object_constant object.now) result }
 {
     match object {
         Object::Constant(constant) => Ok(constant.copy(alloc)?),
-        Object::Variable(_) => Err(Refused::Fault(fault(Code::NotConstant, span))),
-        _ => Err(Refused::Fault(fault(Code::Types, span))),
+        Object::Variable(_) => Err(Rejected::Rule(broken(RuleCode::NotConstant, span))),
+        _ => Err(Rejected::Rule(broken(RuleCode::Types, span))),
     }
 }
 
 #[tactic(auto, unfolding(crate::specs::Labels::input_constant))]
-fn input_constant(name: InputName, span: Span) -> Result<Constant, Refused>
+fn input_constant(name: InputName, span: Span) -> Result<Constant, Rejected>
     ensures { Judges (spec.input_constant name) result }
 {
     match name {
-        InputName::Unknown => Err(Refused::Fault(fault(Code::NotExported, span))),
-        InputName::Done => Err(Refused::Fault(fault(Code::NotConstant, span))),
-        _ => Err(Refused::Fault(fault(Code::Types, span))),
+        InputName::Unknown => Err(Rejected::Rule(broken(RuleCode::NotExported, span))),
+        InputName::Done => Err(Rejected::Rule(broken(RuleCode::NotConstant, span))),
+        _ => Err(Rejected::Rule(broken(RuleCode::Types, span))),
     }
 }
 
 #[tactic(auto, unfolding(crate::specs::Labels::output_constant))]
-fn output_constant(name: OutputName, span: Span) -> Result<Constant, Refused>
+fn output_constant(name: OutputName, span: Span) -> Result<Constant, Rejected>
     ensures { Judges (spec.output_constant name) result }
 {
     match name {
-        OutputName::Unknown => Err(Refused::Fault(fault(Code::NotExported, span))),
-        _ => Err(Refused::Fault(fault(Code::Types, span))),
+        OutputName::Unknown => Err(Rejected::Rule(broken(RuleCode::NotExported, span))),
+        _ => Err(Rejected::Rule(broken(RuleCode::Types, span))),
     }
 }
 
@@ -76,19 +77,22 @@ fn other_constant(
     before: Predeclared,
     first: &Ident,
     name: &Ident,
-) -> Result<Constant, Refused>
+) -> Result<Constant, Rejected>
     ensures { Judges (spec.other_constant imports.now (option_copied entry.entry) before name.now.name) result }
 {
     match entry {
         Some(Entry::Module(_, place)) => match imports.exported_at(*place, &name.name) {
             Some(object) => object_constant(alloc, object, name.span),
-            None => Err(Refused::Fault(fault(Code::NotExported, name.span))),
+            None => Err(Rejected::Rule(broken(RuleCode::NotExported, name.span))),
         },
         Some(Entry::In) => input_constant(input_named(&name.name), name.span),
         Some(Entry::Out) => output_constant(output_named(&name.name), name.span),
-        Some(Entry::Variable(_, _)) => Err(Refused::Fault(fault(Code::NotConstant, first.span))),
-        Some(_) => Err(Refused::Fault(fault(Code::Types, first.span))),
-        None => Err(Refused::Fault(fault(absent(before), first.span))),
+        Some(Entry::Variable(_, _)) => Err(Rejected::Rule(broken(
+            RuleCode::NotConstant,
+            first.span,
+        ))),
+        Some(_) => Err(Rejected::Rule(broken(RuleCode::Types, first.span))),
+        None => Err(Rejected::Rule(broken(absent(before), first.span))),
     }
 }
 
@@ -99,7 +103,7 @@ fn constant_named(
     imports: &Imports,
     scope: &Scope,
     name: &Qualident,
-) -> Result<Constant, Refused>
+) -> Result<Constant, Rejected>
     ensures { Judges (spec.constant_named imports.now scope.now name.now) result }
 {
     let first = &name.first;
@@ -138,7 +142,7 @@ fn label_constant(
     imports: &Imports,
     scope: &Scope,
     label: &Label,
-) -> Result<Constant, Refused>
+) -> Result<Constant, Rejected>
     ensures { Judges (spec.label_constant imports.now scope.now label.now) result }
 {
     match label {
@@ -203,13 +207,13 @@ fn label_number(
     scope: &Scope,
     character: bool,
     label: &Label,
-) -> Result<i32, Refused>
+) -> Result<i32, Rejected>
     ensures { Judges (spec.label_at imports.now scope.now character label.now) result }
 {
     let constant = label_constant(alloc, imports, scope, label)?;
     match number_of_label(character, &constant) {
         Some(number) => Ok(number),
-        None => Err(Refused::Fault(fault(Code::Types, label_span(label)))),
+        None => Err(Rejected::Rule(broken(RuleCode::Types, label_span(label)))),
     }
 }
 
@@ -221,7 +225,7 @@ fn last_label(
     character: bool,
     first: i32,
     label: &Option<Label>,
-) -> Result<i32, Refused>
+) -> Result<i32, Rejected>
     ensures { Judges (spec.last_label imports.now scope.now character first label.now) result }
 {
     match label {
@@ -237,7 +241,7 @@ fn range(
     scope: &Scope,
     character: bool,
     r: &LabelRange,
-) -> Result<TypedRange, Refused>
+) -> Result<TypedRange, Rejected>
     ensures { Judges (spec.range_at imports.now scope.now character r.now) result }
 {
     let first = label_number(alloc, imports, scope, character, &r.first)?;
@@ -251,16 +255,16 @@ fn with_range(
     arm: Items<TypedRange>,
     range: TypedRange,
     span: Span,
-) -> Result<(Labels, Items<TypedRange>), Refused>
+) -> Result<(Labels, Items<TypedRange>), Rejected>
     ensures { Judges (spec.with_range (all, arm) range) result }
 {
     let mut all = all;
     let mut arm = arm;
     if range.first > range.last {
-        return Err(Refused::Fault(fault(Code::Label, span)));
+        return Err(Rejected::Rule(broken(RuleCode::Label, span)));
     }
     if !all.is_free(range) {
-        return Err(Refused::Fault(fault(Code::Label, span)));
+        return Err(Rejected::Rule(broken(RuleCode::Label, span)));
     }
     all.add(range)?;
     arm.push(range)?;
@@ -277,7 +281,7 @@ fn next_range(
     all: Labels,
     arm: Items<TypedRange>,
     r: &LabelRange,
-) -> Result<(Labels, Items<TypedRange>), Refused>
+) -> Result<(Labels, Items<TypedRange>), Rejected>
     ensures { Judges (spec.next_range imports.now scope.now character (all, arm) r.now) result }
 {
     let range = range(alloc, imports, scope, character, r)?;
@@ -292,7 +296,7 @@ pub fn labels(
     character: bool,
     all: Labels,
     list: &[LabelRange],
-) -> Result<(Labels, Items<TypedRange>), Refused>
+) -> Result<(Labels, Items<TypedRange>), Rejected>
     ensures { Judges (through (spec.next_range imports.now scope.now character) (all, []) list.now) result }
 {
     let mut so_far = all;

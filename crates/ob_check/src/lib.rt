@@ -7,6 +7,7 @@ mod checked;
 mod for_head;
 mod label;
 mod labels;
+mod made;
 mod module;
 mod procedure;
 mod shapes;
@@ -14,5 +15,6 @@ mod standard_call;
 mod statement;
 
 pub use checked::{Checked, Imported};
+pub use made::Made;
 pub use module::check;
 pub use shapes::{parameters_of, shape_of};

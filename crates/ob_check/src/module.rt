@@ -2,16 +2,19 @@
 
 ghost use Rattle.std.specs.Prelude.{◌≡◌, ◌++◌, [], option_copied, IfOk, IfErr};
 ghost use Rattle.ob_parse.specs.declared.tree.Declarations.{out-Declarations};
-ghost use Rattle.ob_declare.specs.Rule.{Judges, gives, AnswersTree, FaultsOnly};
+ghost use Rattle.ob_declare.specs.Rule.{Judges, gives, answer};
 ghost use Rattle.ob_check.specs.CheckedTree.{CheckedTree};
-ghost use Rattle.ob_check.specs.Codes.{is_rule_code, HasRuleCode};
+ghost use Rattle.ob_check.specs.Codes as codes;
+ghost use Rattle.ob_check.specs.Codes.{AnswersTree, FaultsOnly, HasRuleCode, IsAnswer};
 ghost use Rattle.ob_check.specs.Modules as spec;
 
 use crate::checked::{Checked, Imported};
+use crate::made::Made;
 use crate::procedure::procedures;
 use crate::shapes::shape_of;
 use crate::statement::optional;
-use ob_base::{Code, Items, Refused, Text};
+use ob_base::{Items, Refused, Text};
+use ob_declare::rejected::{Rejected, told};
 use ob_declare::{
     Declared, Entry, Imports, LoadedModule, MAX_NESTING, Scope, Standing, declared_by,
     exported_procedures, interface_of,
@@ -23,6 +26,7 @@ use std::alloc::{AllocError, Global};
 
 fn exported_variable(
     alloc: Global,
+    made: &mut Made,
     so_far: Variables,
     entry: &Entry,
 ) -> Result<Variables, AllocError>
@@ -31,7 +35,7 @@ fn exported_variable(
     let mut so_far = so_far;
     match entry {
         Entry::Variable(of, Standing::Exported(_)) => {
-            so_far.push(ModuleVariable::Declared(shape_of(alloc, of)?))?;
+            so_far.push(ModuleVariable::Declared(shape_of(alloc, made, of)?))?;
             Ok(so_far)
         }
         _ => Ok(so_far),
@@ -39,23 +43,32 @@ fn exported_variable(
 }
 
 /// The variables that others see.
-fn exported_variables(alloc: Global, declared: &[Declared]) -> Result<Variables, AllocError>
+fn exported_variables(
+    alloc: Global,
+    made: &mut Made,
+    declared: &[Declared],
+) -> Result<Variables, AllocError>
     ensures { IfOk result (λ vs. vs ≡ spec.exported_variables declared.now) }
 {
     let mut so_far = Items::new(alloc);
     for d in declared {
-        so_far = exported_variable(alloc, so_far, &d.entry)?;
+        so_far = exported_variable(alloc, made, so_far, &d.entry)?;
     }
     Ok(so_far)
 }
 
-fn own_variable(alloc: Global, so_far: Variables, entry: &Entry) -> Result<Variables, AllocError>
+fn own_variable(
+    alloc: Global,
+    made: &mut Made,
+    so_far: Variables,
+    entry: &Entry,
+) -> Result<Variables, AllocError>
     ensures { IfOk result (λ vs. vs ≡ so_far ++ spec.own_variable entry.now) }
 {
     let mut so_far = so_far;
     match entry {
         Entry::Variable(of, Standing::Own(_)) => {
-            so_far.push(ModuleVariable::Declared(shape_of(alloc, of)?))?;
+            so_far.push(ModuleVariable::Declared(shape_of(alloc, made, of)?))?;
             Ok(so_far)
         }
         _ => Ok(so_far),
@@ -65,6 +78,7 @@ fn own_variable(alloc: Global, so_far: Variables, entry: &Entry) -> Result<Varia
 /// The other variables, behind these.
 fn own_variables(
     alloc: Global,
+    made: &mut Made,
     first: Variables,
     declared: &[Declared],
 ) -> Result<Variables, AllocError>
@@ -72,7 +86,7 @@ fn own_variables(
 {
     let mut so_far = first;
     for d in declared {
-        so_far = own_variable(alloc, so_far, &d.entry)?;
+        so_far = own_variable(alloc, made, so_far, &d.entry)?;
     }
     Ok(so_far)
 }
@@ -81,8 +95,9 @@ fn own_variables(
 fn declared_variables(alloc: Global, declared: &[Declared]) -> Result<Variables, AllocError>
     ensures { IfOk result (λ vs. vs ≡ spec.declared_variables declared.now) }
 {
-    let exported = exported_variables(alloc, declared)?;
-    own_variables(alloc, exported, declared)
+    let mut made = Made::new(alloc);
+    let exported = exported_variables(alloc, &mut made, declared)?;
+    own_variables(alloc, &mut made, exported, declared)
 }
 
 /// The import of a loaded module, with its key, behind these.
@@ -168,7 +183,7 @@ fn with_body(
     done: Items<TypedProcedure>,
     variables: Variables,
     tree: &Module,
-) -> Result<Checked, Refused>
+) -> Result<Checked, Rejected>
     ensures { Judges (spec.body_rule imports.now (scope, done, variables) tree.now) result }
 {
     let list = tree.body.as_slice();
@@ -186,7 +201,7 @@ fn with_procedures(
     scope: Scope,
     variables: Variables,
     tree: &Module,
-) -> Result<Checked, Refused>
+) -> Result<Checked, Rejected>
     ensures { Judges (spec.procedures_rule imports.now scope variables tree.now) result }
 {
     let none = Items::new(alloc);
@@ -210,7 +225,7 @@ fn behind_declarations(
     imports: &Imports,
     scope: Scope,
     tree: &Module,
-) -> Result<Checked, Refused>
+) -> Result<Checked, Rejected>
     ensures { Judges (spec.checked_rule imports.now scope tree.now) result }
 {
     let variables = declared_variables(alloc, scope.block.declared())?;
@@ -218,44 +233,20 @@ fn behind_declarations(
 }
 
 #[tactic(auto, unfolding(crate::specs::Modules::module_at))]
-fn module_of(alloc: Global, imports: &Imports, tree: &Module) -> Result<Checked, Refused>
+fn module_of(alloc: Global, imports: &Imports, tree: &Module) -> Result<Checked, Rejected>
     ensures { Judges (spec.module_at imports.now tree.now) result }
 {
     let scope = declared_by(alloc, imports, tree)?;
     behind_declarations(alloc, imports, scope, tree)
 }
 
-/// Whether a code is one of the static rules.
-fn is_rule_code(code: Code) -> bool
-    ensures { result ≡ is_rule_code code }
+/// What is told of what the rules give.
+fn told_of(outcome: Result<Checked, Rejected>) -> Result<Checked, Refused>
+    ensures { result ≡ codes.told_of outcome }
 {
-    match code {
-        Code::Character
-        | Code::Comment
-        | Code::String
-        | Code::Number
-        | Code::Token
-        | Code::Nesting
-        | Code::EndName => false,
-        _ => true,
-    }
-}
-
-/// What the rules give, with a code of the rules where they are broken.
-fn judged(alloc: Global, imports: &Imports, tree: &Module) -> Result<Checked, Refused>
-    ensures judged { Judges (spec.module_at imports.now tree.now) result }
-    ensures codes { IfErr result (λ e. HasRuleCode e) }
-{
-    match module_of(alloc, imports, tree) {
+    match outcome {
         Ok(checked) => Ok(checked),
-        Err(Refused::Memory) => Err(Refused::Memory),
-        Err(Refused::Fault(fault)) => {
-            if is_rule_code(fault.code) {
-                Err(Refused::Fault(fault))
-            } else {
-                Err(Refused::Memory)
-            }
-        }
+        Err(rejected) => Err(told(rejected)),
     }
 }
 
@@ -268,10 +259,12 @@ pub fn check(alloc: Global, tree: &Module, imports: &Imports) -> Result<Checked,
     ensures found { IfOk result (λ c. gives (spec.module_at imports.now tree.now) c) }
     // Where the rules give a checked module it is answered, unless memory runs out.
     ensures only { (c : CheckedTree) → gives (spec.module_at imports.now tree.now) c → AnswersTree c result }
-    // The code of a refusal is broken, and then the rules give none.
+    // The code of a refusal is that of a rule which is broken, and then the rules give none.
     ensures faults { FaultsOnly (spec.module_at imports.now tree.now) result }
+    // Of several broken rules the code is that of the first, from left to right.
+    ensures answer { IsAnswer (answer (spec.module_at imports.now tree.now)) result }
     // The code is one of the static rules, 10 to 21.
     ensures codes { IfErr result (λ e. HasRuleCode e) }
 {
-    judged(alloc, imports, tree)
+    told_of(module_of(alloc, imports, tree))
 }

@@ -5,10 +5,12 @@ ghost use Rattle.ob_parse.specs.declared.tree.Procedure.{out-Procedure};
 ghost use Rattle.ob_declare.specs.Rule.{Judges, through};
 ghost use Rattle.ob_check.specs.Procedures as spec;
 
+use crate::made::Made;
 use crate::shapes::{parameters_of, shape_of};
 use crate::statement::optional;
-use ob_base::{Code, Items, Refused};
-use ob_declare::fault::{fault, open};
+use ob_base::Items;
+use ob_declare::rejected::{Rejected, broken, open};
+use ob_declare::rule::RuleCode;
 use ob_declare::{
     Declared, Entered, Entry, Imports, Scope, Standing, declare_all, enter_procedure,
 };
@@ -73,6 +75,7 @@ fn number_of(levels: u32, before: usize, p: &Procedure) -> Result<usize, AllocEr
 /// The variable that a declaration of a procedure makes, if it makes one: the parameters stand before it.
 fn own_shape(
     alloc: Global,
+    made: &mut Made,
     so_far: Items<Shape>,
     parameters: usize,
     entry: &Entry,
@@ -83,7 +86,7 @@ fn own_shape(
     match entry {
         Entry::Variable(of, Standing::Local(i)) => {
             if parameters <= *i {
-                so_far.push(shape_of(alloc, of)?)?;
+                so_far.push(shape_of(alloc, made, of)?)?;
             }
             Ok(so_far)
         }
@@ -94,6 +97,7 @@ fn own_shape(
 /// The variables of a procedure, behind so many parameters.
 fn own_shapes(
     alloc: Global,
+    made: &mut Made,
     parameters: usize,
     declared: &[Declared],
 ) -> Result<Items<Shape>, AllocError>
@@ -101,7 +105,7 @@ fn own_shapes(
 {
     let mut so_far = Items::new(alloc);
     for d in declared {
-        so_far = own_shape(alloc, so_far, parameters, &d.entry)?;
+        so_far = own_shape(alloc, made, so_far, parameters, &d.entry)?;
     }
     Ok(so_far)
 }
@@ -117,13 +121,13 @@ fn returned(
     variables: Variables,
     value: &Option<Returned>,
     span: Span,
-) -> Result<(Option<TypedExpr>, Variables), Refused>
+) -> Result<(Option<TypedExpr>, Variables), Rejected>
     ensures { Judges (spec.result_at imports.now scope.now levels basic variables value.now) result }
 {
     match (basic, value) {
         (None, None) => Ok((None, variables)),
-        (None, Some(r)) => Err(Refused::Fault(fault(Code::Parameters, r.span))),
-        (Some(_), None) => Err(Refused::Fault(fault(Code::Parameters, span))),
+        (None, Some(r)) => Err(Rejected::Rule(broken(RuleCode::Parameters, r.span))),
+        (Some(_), None) => Err(Rejected::Rule(broken(RuleCode::Parameters, span))),
         (Some(basic), Some(r)) => {
             let e = r.value.get();
             let (e, variables) = assigned_value(
@@ -145,8 +149,9 @@ fn typed_procedure(
     ensures { IfOk result (λ p. p ≡ spec.typed_procedure signature.now scope.now body returned) }
 {
     let formals = signature.formals.as_slice();
-    let parameters = parameters_of(alloc, formals)?;
-    let variables = own_shapes(alloc, formals.len(), scope.block.declared())?;
+    let mut made = Made::new(alloc);
+    let parameters = parameters_of(alloc, &mut made, formals)?;
+    let variables = own_shapes(alloc, &mut made, formals.len(), scope.block.declared())?;
     Ok(TypedProcedure {
         parameters,
         variables,
@@ -166,7 +171,7 @@ fn body_of(
     done: Items<TypedProcedure>,
     variables: Variables,
     p: &Procedure,
-) -> Result<(Scope, Items<TypedProcedure>, Variables), Refused>
+) -> Result<(Scope, Items<TypedProcedure>, Variables), Rejected>
     ensures { Judges (spec.body_of imports.now levels signature.now (scope, done, variables) p.now) result }
 {
     let mut done = done;
@@ -194,7 +199,7 @@ fn inside_of(
     done: Items<TypedProcedure>,
     variables: Variables,
     p: &Procedure,
-) -> Result<(Scope, Items<TypedProcedure>, Variables), Refused>
+) -> Result<(Scope, Items<TypedProcedure>, Variables), Rejected>
     ensures { Judges (spec.inside_of imports.now levels (spec.procedure_at imports.now levels) entered done variables p.now) result }
 {
     let declarations = p.declarations.get();
@@ -220,7 +225,7 @@ fn procedure_of(
     done: Items<TypedProcedure>,
     variables: Variables,
     p: &Procedure,
-) -> Result<(Scope, Items<TypedProcedure>, Variables), Refused>
+) -> Result<(Scope, Items<TypedProcedure>, Variables), Rejected>
     ensures { Judges (spec.procedure_of imports.now levels (spec.procedure_at imports.now levels) (scope, done, variables) p.now) result }
 {
     let number = number_of(levels, done.len(), p)?;
@@ -239,7 +244,7 @@ fn procedure(
     done: Items<TypedProcedure>,
     variables: Variables,
     p: &Procedure,
-) -> Result<(Scope, Items<TypedProcedure>, Variables), Refused>
+) -> Result<(Scope, Items<TypedProcedure>, Variables), Rejected>
     ensures { Judges (spec.procedure_at imports.now levels (scope, done, variables) p.now) result }
 {
     let inside = open(levels, p.name.name.span)?;
@@ -256,7 +261,7 @@ pub fn procedures(
     done: Items<TypedProcedure>,
     variables: Variables,
     list: &[Procedure],
-) -> Result<(Scope, Items<TypedProcedure>, Variables), Refused>
+) -> Result<(Scope, Items<TypedProcedure>, Variables), Rejected>
     ensures { Judges (through (spec.procedure_at imports.now levels) (scope, done, variables) list.now) result }
 {
     let mut scope = scope;

@@ -4,9 +4,10 @@ ghost use Rattle.std.specs.Prelude.{◌≡◌, IfOk};
 ghost use Rattle.ob_declare.specs.Rule.{Judges};
 ghost use Rattle.ob_check.specs.StandardCalls as spec;
 
-use ob_base::{Code, Items, Refused, Shared};
-use ob_declare::fault::{fault, open};
+use ob_base::{Items, Shared};
 use ob_declare::predeclared::{InputName, OutputName, ProperProcedure};
+use ob_declare::rejected::{Rejected, broken, open};
+use ob_declare::rule::RuleCode;
 use ob_declare::{Imports, Scope};
 use ob_express::{Variables, actual, number, truth};
 use ob_mean::{Action, Adjustment, Argument, Designator, InputCall, OutputCall, Reader, TypedExpr};
@@ -68,24 +69,24 @@ fn reader_formal(alloc: Global, reader: Reader) -> Result<Formal, AllocError>
 
 /// The place that is passed to a VAR or structured parameter.
 #[tactic(auto, unfolding(crate::specs::StandardCalls::place_passed))]
-fn place_passed(argument: Argument, span: Span) -> Result<Designator, Refused>
+fn place_passed(argument: Argument, span: Span) -> Result<Designator, Rejected>
     ensures { Judges (spec.place_passed argument) result }
 {
     match argument {
         Argument::Place(place) => Ok(place),
         Argument::Open(place) => Ok(place),
-        Argument::Value(_) => Err(Refused::Fault(fault(Code::Parameters, span))),
+        Argument::Value(_) => Err(Rejected::Rule(broken(RuleCode::Parameters, span))),
     }
 }
 
 /// The value that is passed to a scalar value parameter.
 #[tactic(auto, unfolding(crate::specs::StandardCalls::value_passed))]
-fn value_passed(argument: Argument, span: Span) -> Result<TypedExpr, Refused>
+fn value_passed(argument: Argument, span: Span) -> Result<TypedExpr, Rejected>
     ensures { Judges (spec.value_passed argument) result }
 {
     match argument {
         Argument::Value(value) => Ok(value),
-        _ => Err(Refused::Fault(fault(Code::Parameters, span))),
+        _ => Err(Rejected::Rule(broken(RuleCode::Parameters, span))),
     }
 }
 
@@ -95,12 +96,12 @@ fn none_left(
     action: Action,
     variables: Variables,
     actuals: &[Expr],
-) -> Result<(Action, Variables), Refused>
+) -> Result<(Action, Variables), Rejected>
     ensures { Judges (spec.none_left action variables actuals.now) result }
 {
     match actuals {
         [] => Ok((action, variables)),
-        [e, ..] => Err(Refused::Fault(fault(Code::Parameters, e.first_token()))),
+        [e, ..] => Err(Rejected::Rule(broken(RuleCode::Parameters, e.first_token()))),
     }
 }
 
@@ -110,7 +111,7 @@ fn without_actuals(
     action: Action,
     variables: Variables,
     actuals: &Option<Items<Expr>>,
-) -> Result<(Action, Variables), Refused>
+) -> Result<(Action, Variables), Rejected>
     ensures { Judges (spec.without_actuals action variables actuals.now) result }
 {
     match actuals {
@@ -127,7 +128,7 @@ fn number_inside(
     levels: u32,
     variables: Variables,
     e: &Expr,
-) -> Result<(TypedExpr, Variables), Refused>
+) -> Result<(TypedExpr, Variables), Rejected>
     ensures { Judges (spec.number_inside imports.now scope.now levels variables e.now) result }
 {
     let inside = open(levels, e.first_token())?;
@@ -142,7 +143,7 @@ fn truth_inside(
     levels: u32,
     variables: Variables,
     e: &Expr,
-) -> Result<(TypedExpr, Variables), Refused>
+) -> Result<(TypedExpr, Variables), Rejected>
     ensures { Judges (spec.truth_inside imports.now scope.now levels variables e.now) result }
 {
     let inside = open(levels, e.first_token())?;
@@ -159,7 +160,7 @@ fn place(
     variables: Variables,
     formal: &Formal,
     e: &Expr,
-) -> Result<(Designator, Variables), Refused>
+) -> Result<(Designator, Variables), Rejected>
     ensures { Judges (spec.place_at imports.now scope.now levels variables formal.now e.now) result }
 {
     let (argument, variables) = actual(
@@ -186,7 +187,7 @@ fn scalar(
     variables: Variables,
     basic: Basic,
     e: &Expr,
-) -> Result<(TypedExpr, Variables), Refused>
+) -> Result<(TypedExpr, Variables), Rejected>
     ensures { Judges (spec.scalar_at imports.now scope.now levels variables basic e.now) result }
 {
     let formal = value_formal(basic);
@@ -215,14 +216,14 @@ fn read_call(
     variables: Variables,
     actuals: &Option<Items<Expr>>,
     span: Span,
-) -> Result<(Action, Variables), Refused>
+) -> Result<(Action, Variables), Rejected>
     ensures { Judges (spec.read_call imports.now scope.now levels reader variables actuals.now) result }
 {
     let Some(actuals) = actuals else {
-        return Err(Refused::Fault(fault(Code::Parameters, span)));
+        return Err(Rejected::Rule(broken(RuleCode::Parameters, span)));
     };
     match actuals.as_slice() {
-        [] => Err(Refused::Fault(fault(Code::Parameters, span))),
+        [] => Err(Rejected::Rule(broken(RuleCode::Parameters, span))),
         [e, behind @ ..] => {
             let formal = reader_formal(alloc, reader)?;
             let (place, variables) = place(alloc, imports, scope, levels, variables, &formal, e)?;
@@ -246,7 +247,7 @@ pub fn in_call(
     variables: Variables,
     actuals: &Option<Items<Expr>>,
     span: Span,
-) -> Result<(Action, Variables), Refused>
+) -> Result<(Action, Variables), Rejected>
     ensures { Judges (spec.in_call imports.now scope.now levels name variables actuals.now) result }
 {
     match name {
@@ -299,8 +300,8 @@ pub fn in_call(
                 span,
             )
         }
-        InputName::Done => Err(Refused::Fault(fault(Code::Types, span))),
-        InputName::Unknown => Err(Refused::Fault(fault(Code::NotExported, span))),
+        InputName::Done => Err(Rejected::Rule(broken(RuleCode::Types, span))),
+        InputName::Unknown => Err(Rejected::Rule(broken(RuleCode::NotExported, span))),
     }
 }
 
@@ -314,14 +315,14 @@ fn out_char(
     variables: Variables,
     actuals: &Option<Items<Expr>>,
     span: Span,
-) -> Result<(Action, Variables), Refused>
+) -> Result<(Action, Variables), Rejected>
     ensures { Judges (spec.out_char imports.now scope.now levels variables actuals.now) result }
 {
     let Some(actuals) = actuals else {
-        return Err(Refused::Fault(fault(Code::Parameters, span)));
+        return Err(Rejected::Rule(broken(RuleCode::Parameters, span)));
     };
     match actuals.as_slice() {
-        [] => Err(Refused::Fault(fault(Code::Parameters, span))),
+        [] => Err(Rejected::Rule(broken(RuleCode::Parameters, span))),
         [e, behind @ ..] => {
             let (value, variables) = scalar(
                 alloc,
@@ -347,14 +348,14 @@ fn out_string(
     variables: Variables,
     actuals: &Option<Items<Expr>>,
     span: Span,
-) -> Result<(Action, Variables), Refused>
+) -> Result<(Action, Variables), Rejected>
     ensures { Judges (spec.out_string imports.now scope.now levels variables actuals.now) result }
 {
     let Some(actuals) = actuals else {
-        return Err(Refused::Fault(fault(Code::Parameters, span)));
+        return Err(Rejected::Rule(broken(RuleCode::Parameters, span)));
     };
     match actuals.as_slice() {
-        [] => Err(Refused::Fault(fault(Code::Parameters, span))),
+        [] => Err(Rejected::Rule(broken(RuleCode::Parameters, span))),
         [e, behind @ ..] => {
             let formal = text_value(alloc)?;
             let (place, variables) = place(alloc, imports, scope, levels, variables, &formal, e)?;
@@ -374,11 +375,11 @@ fn out_width(
     variables: Variables,
     actuals: &[Expr],
     span: Span,
-) -> Result<(Action, Variables), Refused>
+) -> Result<(Action, Variables), Rejected>
     ensures { Judges (spec.out_width imports.now scope.now levels value variables actuals.now) result }
 {
     match actuals {
-        [] => Err(Refused::Fault(fault(Code::Parameters, span))),
+        [] => Err(Rejected::Rule(broken(RuleCode::Parameters, span))),
         [e, behind @ ..] => {
             let (width, variables) = scalar(
                 alloc,
@@ -408,14 +409,14 @@ fn out_int(
     variables: Variables,
     actuals: &Option<Items<Expr>>,
     span: Span,
-) -> Result<(Action, Variables), Refused>
+) -> Result<(Action, Variables), Rejected>
     ensures { Judges (spec.out_int imports.now scope.now levels variables actuals.now) result }
 {
     let Some(actuals) = actuals else {
-        return Err(Refused::Fault(fault(Code::Parameters, span)));
+        return Err(Rejected::Rule(broken(RuleCode::Parameters, span)));
     };
     match actuals.as_slice() {
-        [] => Err(Refused::Fault(fault(Code::Parameters, span))),
+        [] => Err(Rejected::Rule(broken(RuleCode::Parameters, span))),
         [e, behind @ ..] => {
             let (value, variables) = scalar(
                 alloc,
@@ -444,7 +445,7 @@ pub fn out_call(
     variables: Variables,
     actuals: &Option<Items<Expr>>,
     span: Span,
-) -> Result<(Action, Variables), Refused>
+) -> Result<(Action, Variables), Rejected>
     ensures { Judges (spec.out_call imports.now scope.now levels name variables actuals.now) result }
 {
     match name {
@@ -453,7 +454,7 @@ pub fn out_call(
         OutputName::String => out_string(alloc, imports, scope, levels, variables, actuals, span),
         OutputName::Int => out_int(alloc, imports, scope, levels, variables, actuals, span),
         OutputName::Ln => without_actuals(Action::Output(OutputCall::Ln), variables, actuals),
-        OutputName::Unknown => Err(Refused::Fault(fault(Code::NotExported, span))),
+        OutputName::Unknown => Err(Rejected::Rule(broken(RuleCode::NotExported, span))),
     }
 }
 
@@ -468,7 +469,7 @@ fn adjusted_by(
     place: Designator,
     variables: Variables,
     actuals: &[Expr],
-) -> Result<(Action, Variables), Refused>
+) -> Result<(Action, Variables), Rejected>
     ensures { Judges (spec.adjusted_by imports.now scope.now levels adjustment place variables actuals.now) result }
 {
     match actuals {
@@ -494,15 +495,15 @@ fn adjusted(
     variables: Variables,
     actuals: &Option<Items<Expr>>,
     span: Span,
-) -> Result<(Action, Variables), Refused>
+) -> Result<(Action, Variables), Rejected>
     ensures { Judges (spec.adjusted imports.now scope.now levels adjustment variables actuals.now) result }
 {
     let Some(actuals) = actuals else {
-        return Err(Refused::Fault(fault(Code::Parameters, span)));
+        return Err(Rejected::Rule(broken(RuleCode::Parameters, span)));
     };
     let formal = variable_formal(Basic::Integer);
     match actuals.as_slice() {
-        [] => Err(Refused::Fault(fault(Code::Parameters, span))),
+        [] => Err(Rejected::Rule(broken(RuleCode::Parameters, span))),
         [v, behind @ ..] => {
             let (place, variables) = place(alloc, imports, scope, levels, variables, &formal, v)?;
             adjusted_by(
@@ -522,14 +523,14 @@ fn asserted(
     variables: Variables,
     actuals: &Option<Items<Expr>>,
     span: Span,
-) -> Result<(Action, Variables), Refused>
+) -> Result<(Action, Variables), Rejected>
     ensures { Judges (spec.asserted imports.now scope.now levels span.line variables actuals.now) result }
 {
     let Some(actuals) = actuals else {
-        return Err(Refused::Fault(fault(Code::Parameters, span)));
+        return Err(Rejected::Rule(broken(RuleCode::Parameters, span)));
     };
     match actuals.as_slice() {
-        [] => Err(Refused::Fault(fault(Code::Parameters, span))),
+        [] => Err(Rejected::Rule(broken(RuleCode::Parameters, span))),
         [e, behind @ ..] => {
             let (condition, variables) = truth_inside(alloc, imports, scope, levels, variables, e)?;
             none_left(Action::Assert(span.line, condition), variables, behind)
@@ -548,7 +549,7 @@ pub fn predeclared_call(
     variables: Variables,
     actuals: &Option<Items<Expr>>,
     span: Span,
-) -> Result<(Action, Variables), Refused>
+) -> Result<(Action, Variables), Rejected>
     ensures { Judges (spec.predeclared_call imports.now scope.now levels procedure span.line variables actuals.now) result }
 {
     match procedure {

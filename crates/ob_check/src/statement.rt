@@ -11,8 +11,9 @@ use crate::call::call;
 use crate::for_head::for_head;
 use crate::label::{is_character, labels};
 use crate::labels::Labels;
-use ob_base::{Code, Items, Refused};
-use ob_declare::fault::{fault, open};
+use ob_base::Items;
+use ob_declare::rejected::{Rejected, broken, open};
+use ob_declare::rule::RuleCode;
 use ob_declare::{Imports, Scope};
 use ob_express::{Variables, basic_value, guard};
 use ob_mean::{
@@ -34,7 +35,7 @@ pub fn optional(
     variables: Variables,
     xs: &[Statement],
     span: Span,
-) -> Result<(Items<TypedStatement>, Variables), Refused>
+) -> Result<(Items<TypedStatement>, Variables), Rejected>
     ensures { Judges (spec.optional imports.now scope.now levels (spec.statements_at imports.now scope.now levels) variables xs.now) result }
 {
     match xs {
@@ -54,7 +55,7 @@ fn next_branch(
     before: Items<TypedBranch>,
     variables: Variables,
     b: &Branch,
-) -> Result<(Items<TypedBranch>, Variables), Refused>
+) -> Result<(Items<TypedBranch>, Variables), Rejected>
     ensures { Judges (spec.next_branch imports.now scope.now levels (spec.statements_at imports.now scope.now levels) (before, variables) b.now) result }
 {
     let mut before = before;
@@ -82,7 +83,7 @@ fn more_branches(
     first: Items<TypedBranch>,
     variables: Variables,
     others: &[Branch],
-) -> Result<(Items<TypedBranch>, Variables), Refused>
+) -> Result<(Items<TypedBranch>, Variables), Rejected>
     ensures { Judges (through (spec.next_branch imports.now scope.now levels (spec.statements_at imports.now scope.now levels)) (first, variables) others.now) result }
 {
     let mut done = first;
@@ -105,7 +106,7 @@ fn branches(
     variables: Variables,
     first: &Branch,
     others: &[Branch],
-) -> Result<(Items<TypedBranch>, Variables), Refused>
+) -> Result<(Items<TypedBranch>, Variables), Rejected>
     ensures { Judges (spec.branches imports.now scope.now levels (spec.statements_at imports.now scope.now levels) variables first.now others.now) result }
 {
     let none = Items::new(alloc);
@@ -124,7 +125,7 @@ fn if_statement(
     first: &Branch,
     others: &[Branch],
     rest: &[Statement],
-) -> Result<(TypedStatement, Variables), Refused>
+) -> Result<(TypedStatement, Variables), Rejected>
     ensures { Judges (spec.if_rule imports.now scope.now levels (spec.statements_at imports.now scope.now levels) variables first.now others.now rest.now) result }
 {
     let span = first.guard.get().first_token();
@@ -143,7 +144,7 @@ fn while_statement(
     variables: Variables,
     first: &Branch,
     others: &[Branch],
-) -> Result<(TypedStatement, Variables), Refused>
+) -> Result<(TypedStatement, Variables), Rejected>
     ensures { Judges (spec.while_rule imports.now scope.now levels (spec.statements_at imports.now scope.now levels) variables first.now others.now) result }
 {
     let (done, variables) = branches(alloc, imports, scope, levels, variables, first, others)?;
@@ -164,7 +165,7 @@ fn arm_of(
     variables: Variables,
     body: &[Statement],
     span: Span,
-) -> Result<(Labels, Items<CaseArm>, Variables), Refused>
+) -> Result<(Labels, Items<CaseArm>, Variables), Rejected>
     ensures { Judges (spec.arm_of imports.now scope.now levels (spec.statements_at imports.now scope.now levels) (all, labels) arms variables body.now) result }
 {
     let mut arms = arms;
@@ -188,7 +189,7 @@ fn case_of(
     list: &[LabelRange],
     body: &[Statement],
     span: Span,
-) -> Result<(Labels, Items<CaseArm>, Variables), Refused>
+) -> Result<(Labels, Items<CaseArm>, Variables), Rejected>
     ensures { Judges (spec.case_of imports.now scope.now levels (spec.statements_at imports.now scope.now levels) character (all, arms, variables) list.now body.now) result }
 {
     match list {
@@ -215,7 +216,7 @@ fn next_case(
     variables: Variables,
     x: &Case,
     span: Span,
-) -> Result<(Labels, Items<CaseArm>, Variables), Refused>
+) -> Result<(Labels, Items<CaseArm>, Variables), Rejected>
     ensures { Judges (spec.next_case imports.now scope.now levels (spec.statements_at imports.now scope.now levels) character (all, arms, variables) x.now) result }
 {
     case_of(
@@ -243,7 +244,7 @@ fn all_cases(
     variables: Variables,
     cases: &[Case],
     span: Span,
-) -> Result<(Labels, Items<CaseArm>, Variables), Refused>
+) -> Result<(Labels, Items<CaseArm>, Variables), Rejected>
     ensures { Judges (through (spec.next_case imports.now scope.now levels (spec.statements_at imports.now scope.now levels) character) ([], [], variables) cases.now) result }
 {
     let mut all = Labels::new(alloc);
@@ -273,7 +274,7 @@ fn arms_of(
     value: TypedExpr,
     variables: Variables,
     cases: &[Case],
-) -> Result<(TypedStatement, Variables), Refused>
+) -> Result<(TypedStatement, Variables), Rejected>
     ensures { Judges (spec.arms_of imports.now scope.now levels (spec.statements_at imports.now scope.now levels) span.line (basic, value, variables) cases.now) result }
 {
     match is_character(basic) {
@@ -283,7 +284,7 @@ fn arms_of(
             )?;
             Ok((TypedStatement::Case(span.line, value, arms), variables))
         }
-        None => Err(Refused::Fault(fault(Code::Types, span))),
+        None => Err(Rejected::Rule(broken(RuleCode::Types, span))),
     }
 }
 
@@ -298,7 +299,7 @@ fn case_statement(
     span: Span,
     e: &Expr,
     cases: &[Case],
-) -> Result<(TypedStatement, Variables), Refused>
+) -> Result<(TypedStatement, Variables), Rejected>
     ensures { Judges (spec.case_rule imports.now scope.now levels (spec.statements_at imports.now scope.now levels) variables span.line e.now cases.now) result }
 {
     let (basic, value, variables) = basic_value(alloc, imports, scope, levels, variables, e)?;
@@ -317,7 +318,7 @@ fn repeat_statement(
     variables: Variables,
     body: &[Statement],
     e: &Expr,
-) -> Result<(TypedStatement, Variables), Refused>
+) -> Result<(TypedStatement, Variables), Rejected>
     ensures { Judges (spec.repeat_rule imports.now scope.now levels (spec.statements_at imports.now scope.now levels) variables body.now e.now) result }
 {
     let (body, variables) = statements(
@@ -343,7 +344,7 @@ fn for_statement(
     variables: Variables,
     h: &ForHead,
     body: &[Statement],
-) -> Result<(TypedStatement, Variables), Refused>
+) -> Result<(TypedStatement, Variables), Rejected>
     ensures { Judges (spec.for_rule imports.now scope.now levels (spec.statements_at imports.now scope.now levels) variables h.now body.now) result }
 {
     let (head, variables) = for_head(alloc, imports, scope, levels, variables, h)?;
@@ -368,7 +369,7 @@ fn statement(
     levels: u32,
     variables: Variables,
     x: &Statement,
-) -> Result<(Option<TypedStatement>, Variables), Refused>
+) -> Result<(Option<TypedStatement>, Variables), Rejected>
     ensures { Judges (spec.statement_of imports.now scope.now levels (spec.statements_at imports.now scope.now levels) variables x.now) result }
 {
     match x {
@@ -452,7 +453,7 @@ fn next_statement(
     before: Items<TypedStatement>,
     variables: Variables,
     x: &Statement,
-) -> Result<(Items<TypedStatement>, Variables), Refused>
+) -> Result<(Items<TypedStatement>, Variables), Rejected>
     ensures { Judges (spec.next_statement imports.now scope.now levels (spec.statements_at imports.now scope.now levels) (before, variables) x.now) result }
 {
     let mut all = before;
@@ -474,7 +475,7 @@ fn sequence(
     levels: u32,
     variables: Variables,
     xs: &[Statement],
-) -> Result<(Items<TypedStatement>, Variables), Refused>
+) -> Result<(Items<TypedStatement>, Variables), Rejected>
     ensures { Judges (through (spec.next_statement imports.now scope.now levels (spec.statements_at imports.now scope.now levels)) ([], variables) xs.now) result }
 {
     let mut done = Items::new(alloc);
@@ -498,7 +499,7 @@ pub fn statements(
     variables: Variables,
     xs: &[Statement],
     span: Span,
-) -> Result<(Items<TypedStatement>, Variables), Refused>
+) -> Result<(Items<TypedStatement>, Variables), Rejected>
     ensures { Judges (spec.statements_at imports.now scope.now levels variables xs.now) result }
 {
     let inside = open(levels, span)?;

@@ -1,11 +1,10 @@
 -- What the tests of kinds rest on.
-use Rattle.std.proofs.Common.{◌≡◌, ℕ, zero, suc, ◌+◌, ◌<◌, ◌≤◌, List, [], ◌∷◌, length, Some, Bool, true, false, refl, ap, subst, ⊎_elim, arith}
-use Rattle.std.specs.Prelude.{slice_get, nat_lt, if◌then◌else◌}
+use Rattle.std.proofs.Common.{◌≡◌, ℕ, suc, ◌+◌, ◌<◌, ◌≤◌, [], ◌∷◌, length, true, false, refl, ap, ◌∙◌, subst, ⊎_elim, arith}
+use Rattle.std.specs.Prelude.{nat_lt, nat_le, if◌then◌else◌}
 use Rattle.std.proofs.lemmas.Bool.{cases_lt}
 use Rattle.std.proofs.lemmas.Bool.Decides.{nat_tests}
-use Rattle.ob_code.specs.declared.kinds.Kind.{Kind}
-use Rattle.ob_code.specs.declared.kinds.Kind.TheVariants.{Number, UpTo}
-use Rattle.ob_code.specs.Kinds.{Kinds, CoversAt, CoverAll, low}
+use Rattle.ob_code.specs.declared.kinds.Kind.TheVariants.{Number, UpTo, Inside}
+use Rattle.ob_code.specs.Kinds.{Kinds, NameKinds, CoversAt, CoverAll, SameAt, low, inside}
 
 pub low_fits : (n : ℕ) → n < 2147483648 → low n ≡ UpTo n
 low_fits n lt = ap (λ b. if b then UpTo n else Number) yes
@@ -19,12 +18,34 @@ low_high n le = ap (λ b. if b then UpTo n else Number) no
     no : nat_lt n 2147483648 ≡ false
     no = grind (arith, nat_tests, le)
 
+pub inside_near : (x size n : ℕ) → n ≤ size → inside x size n ≡ Inside x size n
+inside_near x size n le = ap (λ b. if b then Inside x size n else Number) yes
+  where
+    yes : nat_le n size ≡ true
+    yes = grind (arith, nat_tests, le)
+
+pub inside_far : (x size n : ℕ) → size < n → inside x size n ≡ Number
+inside_far x size n lt = ap (λ b. if b then Inside x size n else Number) no
+  where
+    no : nat_le n size ≡ false
+    no = grind (arith, nat_tests, lt)
+
 -- each covers the one at its place
 pub all_covered : (es ks : Kinds) → length es ≡ length ks → ((i : ℕ) → i < length es → CoversAt es ks i) → CoverAll es ks
 all_covered [] [] same h = tt
 all_covered [] (k ∷ ks) same h = absurd (omega (arith, same))
 all_covered (e ∷ es) [] same h = absurd (omega (arith, same))
 all_covered (e ∷ es) (k ∷ ks) same h = (h 0 (omega arith) e k refl refl, all_covered es ks (omega (arith, same)) (λ i lt. h (suc i) (omega (arith, lt))))
+
+-- each is the one at its place
+pub all_same : (es ks : NameKinds) → length es ≡ length ks → ((i : ℕ) → i < length es → SameAt es ks i) → es ≡ ks
+all_same [] [] same h = refl
+all_same [] (k ∷ ks) same h = absurd (omega (arith, same))
+all_same (e ∷ es) [] same h = absurd (omega (arith, same))
+all_same (e ∷ es) (k ∷ ks) same h =
+    let first = h 0 (omega arith) e k refl refl in
+    let rest = all_same es ks (omega (arith, same)) (λ i lt. h (suc i) (omega (arith, lt))) in
+    ap (λ x. x ∷ es) first ∙ ap (λ l. k ∷ l) rest
 
 -- one place more
 pub one_more : (P : ℕ → Type 0) (n : ℕ) → ((i : ℕ) → i < n → P i) → P n → (i : ℕ) → i < n + 1 → P i

@@ -1,8 +1,7 @@
--- Runs that take no place out of an object: what code promises of whose operands enough is known.
+-- Runs that take no place out of an object: what code promises of whose operands and names enough is known.
 use Rattle.std.specs.Prelude.{◌≡◌, ℕ, ◌*◌, ℤ, pos, List, [], ◌∷◌, length, ◌⊎◌, Option, Some, None, Bool, true, slice_get}
 use Rattle.ob_mean.specs.Runs.{Supply}
 use Rattle.ob_code.specs.declared.instr.Root.{Root}
-use Rattle.ob_code.specs.declared.instr.Root.TheVariants.{OfModule, OfImport, OfCall, Named}
 use Rattle.ob_code.specs.declared.instr.Span.{Span}
 use Rattle.ob_code.specs.declared.instr.Target.{Target}
 use Rattle.ob_code.specs.declared.instr.Target.TheVariants as target
@@ -15,12 +14,9 @@ use Rattle.ob_code.specs.Machine.{Code, Memory, Config, lines_of, object, elemen
 use Rattle.ob_code.specs.Linked.{all_cells, IsLinked}
 use Rattle.ob_code.specs.Kinds.{IsMeasured}
 
--- so many cells, from this one of an object on, are cells of the object; of a name nothing is claimed
+-- so many cells, from this one of an object on, are cells of the object
 abbrev pub AreIn : Code → Config → Root → ℤ → ℕ → Type 0
-AreIn code c (OfModule e) k n = (a : ℕ) × (within (object code c (OfModule e)) k n ≡ Some a)
-AreIn code c (OfImport i e) k n = (a : ℕ) × (within (object code c (OfImport i e)) k n ≡ Some a)
-AreIn code c (OfCall e) k n = (a : ℕ) × (within (object code c (OfCall e)) k n ≡ Some a)
-AreIn code c (Named x) k n = Unit {0}
+AreIn code c r k n = (a : ℕ) × (within (object code c r) k n ≡ Some a)
 
 abbrev pub IsTextIn : Code → Config → Span → ℤ → Type 0
 IsTextIn code c s k = AreIn code c s.root k (elements c s.length)
@@ -69,16 +65,16 @@ IsOnCourse code (Standing why n c) = Unit {0}
 IsOnCourse code Lost = Unit {0}
 
 -- From any memory with the cells of the modules, and with any supply, no instruction of a run of a body takes cells out of
--- an object of a module, of an import or of the running call.
+-- an object: of a module, of an import, of the running call, or of what one of its names stands for.
 abbrev pub NeverStrays : Code → (ℕ → Bool) → Type 0
 NeverStrays code runs = (home : ℕ) (l : LinkedModule) → slice_get code home ≡ Some l → runs home ≡ true → (m : Memory) → length m.cells ≡ all_cells code → (n : Supply) (steps : ℕ) → IsOnCourse code (after code steps (Going n (start code home m)))
 
--- Wherever this code stands among modules of whose operands as much is known, no run takes a place out of an object.
+-- Wherever this code stands among modules of whose operands and names as much is known, no run takes a place out of an object.
 abbrev pub StaysInObjects : CodeModule → Type 0
 StaysInObjects m = (code : Code) (runs : ℕ → Bool) → IsLinked code runs
     → ((home : ℕ) (l : LinkedModule) → slice_get code home ≡ Some l → runs home ≡ true → (l.code ≡ m) ⊎ IsMeasured l.code)
     → NeverStrays code runs
 
--- Code of whose operands enough is known stays in its objects.
+-- Code of whose operands and names enough is known stays in its objects.
 abbrev pub MeasuredStays : Type 0
 MeasuredStays = (m : CodeModule) → IsMeasured m → StaysInObjects m

@@ -1,6 +1,6 @@
 // Code of Oberon that was validated.
 
-ghost use Rattle.std.specs.Prelude.{◌≡◌, ℕ, ◌+◌, ◌-◌, ◌<◌, ◌≤◌, length, IsTrue, IfOk, IfSome, Option, Some, slice_get};
+ghost use Rattle.std.specs.Prelude.{◌≡◌, ℕ, ◌+◌, ◌-◌, ◌<◌, ◌≤◌, length, option_copied, IsTrue, IfOk, IfSome, Option, Some, slice_get};
 ghost use Rattle.ob_code.specs.Valid.{height, results, height_at, RootFits, LengthFits, SpanFits, TargetFits, Calls, entry_of, is_ask, asks, Fits, LinesFit, ProcedureFits, IsBody, IsValid};
 ghost use Rattle.ob_code.specs.Kinds.{HasKinds, IsMeasured};
 ghost use Rattle.ob_code.specs.Stuck.{RunsSafely};
@@ -65,7 +65,7 @@ impl Checked {
 
 /// Tests code that somebody made. What is answered is that code. Wherever it is linked among such modules, no run leaves the
 /// code, misses an operand or a name, reaches cells that are not there, or goes on for ever without a turn or a line; and
-/// none takes cells out of an object of a module, of an import or of the running call. Of a name's object nothing is said.
+/// none takes cells out of an object: of a module, of an import, of the running call, or of what one of its names stands for.
 #[tactic(auto, using(crate::proofs::machine::Never::runs_safely))]
 pub fn validate(alloc: Global, code: CodeModule) -> Result<Option<Checked>, AllocError>
     ensures value { IfOk result (λ o. IfSome o (λ c. c ≡ code)) }
@@ -81,7 +81,7 @@ pub fn validate(alloc: Global, code: CodeModule) -> Result<Option<Checked>, Allo
     }
 }
 
-// Whether code is valid, and enough is known of its operands.
+// Whether code is valid, and enough is known of its operands and names.
 fn is_measured(alloc: Global, code: &CodeModule) -> Result<bool, AllocError>
     ensures { IfOk result (λ b. IsTrue b → IsMeasured code.now) }
 {
@@ -91,7 +91,7 @@ fn is_measured(alloc: Global, code: &CodeModule) -> Result<bool, AllocError>
     have_kinds(alloc, code)
 }
 
-// Whether enough is known of the operands of each procedure.
+// Whether enough is known of the operands and names of each procedure.
 fn have_kinds(alloc: Global, code: &CodeModule) -> Result<bool, AllocError>
     ensures { IfOk result (λ b. IsTrue b → (p : ℕ) (f : Procedure) → slice_get code.now.procedures.items p ≡ Some f → HasKinds code.now f) }
 {
@@ -288,19 +288,16 @@ fn target_fits(code: &CodeModule, procedure: &Procedure, target: Target) -> bool
 }
 
 // What a call takes and leaves.
-pub(crate) fn entry_of(code: &CodeModule, callee: Callee) -> Option<Entry>
-    ensures { result ≡ entry_of code.now callee }
+pub(crate) fn entry_of(code: &CodeModule, callee: Callee) -> Option<&Entry>
+    ensures { option_copied result ≡ entry_of code.now callee }
 {
     match callee {
         Callee::OfModule(number) => match code.procedures.get(number) {
-            Some(procedure) => Some(procedure.entry),
+            Some(procedure) => Some(&procedure.entry),
             None => None,
         },
         Callee::OfImport(import, place) => match code.imports.get(import) {
-            Some(known) => match known.exported.get(place) {
-                Some(entry) => Some(*entry),
-                None => None,
-            },
+            Some(known) => known.exported.get(place),
             None => None,
         },
     }

@@ -1,4 +1,4 @@
-use ob_base::Text;
+use ob_base::{Items, Text};
 use ob_mean::{Adjustment, Callee, Operator, Relation, TrapKind, UnaryOperator};
 
 /// Cells of a module or of a call: so many from this one on.
@@ -126,11 +126,22 @@ pub struct Line {
     pub instr: Instr,
 }
 
-/// What a call takes and leaves: operands and names for its parameters, and whether it leaves a number.
+/// What a name stands for.
 #[derive(Clone, Copy, PartialEq, Eq, Debug)]
+pub enum NameKind {
+    /// So many cells.
+    Cells(usize),
+    /// An array, whose elements have so many cells. How many elements there are the name says.
+    ArrayOf(usize),
+}
+
+/// What a call takes and leaves: operands and names for its parameters, what each of these names stands for, and whether it
+/// leaves a number.
+#[derive(Drop)]
 pub struct Entry {
     pub operands: usize,
     pub names: usize,
+    pub kinds: Items<NameKind>,
     pub is_function: bool,
 }
 

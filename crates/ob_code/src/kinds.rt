@@ -1,10 +1,11 @@
-// Kinds of operands.
+// Kinds of operands, and of names.
 
-ghost use Rattle.std.specs.Prelude.{◌≡◌, ℕ, ◌+◌, ◌<◌, length, IsTrue};
+ghost use Rattle.std.specs.Prelude.{◌≡◌, ℕ, ◌+◌, ◌<◌, ◌≤◌, length, IsTrue};
 ghost use Rattle.ob_code.specs.Kinds as spec;
-ghost use Rattle.ob_code.specs.Kinds.{Covers, CoversAt, CoverAll};
+ghost use Rattle.ob_code.specs.Kinds.{Covers, CoversAt, CoverAll, SameAt};
 
-use crate::instr::Length;
+use crate::instr::{Length, NameKind};
+use ob_base::Items;
 
 /// What is known of an operand.
 #[derive(Clone, Copy, PartialEq, Eq, Debug)]
@@ -13,12 +14,22 @@ pub enum Kind {
     Number,
     /// It is from 0 on, and at most so much: the number of a cell in any object that has more cells.
     UpTo(usize),
+    /// The number of a name that stands for an array, the cells of an element, and so much: it is from 0 on, and at most so
+    /// much behind where the array's last element begins.
+    Inside(usize, usize, usize),
     /// No run comes here: it is the number of an element of an array that has none.
     Absent,
 }
 
+/// What is known before a line: of each operand, the top first, and of each name that was made for a call, the newest last.
+#[derive(Drop)]
+pub struct Known {
+    pub operands: Items<Kind>,
+    pub names: Items<NameKind>,
+}
+
 // No number of 32 bits is this or more.
-const NUMBERS: usize = 2_147_483_648;
+pub(crate) const NUMBERS: usize = 2_147_483_648;
 
 // Whether the first is known of every operand of which the second is.
 pub(crate) fn covers(expected: Kind, found: Kind) -> bool
@@ -29,14 +40,29 @@ pub(crate) fn covers(expected: Kind, found: Kind) -> bool
         Kind::UpTo(most) => match found {
             Kind::Number => false,
             Kind::UpTo(k) => k <= most,
+            Kind::Inside(_, _, _) => false,
+            Kind::Absent => true,
+        },
+        Kind::Inside(name, size, most) => match found {
+            Kind::Number => false,
+            Kind::UpTo(_) => false,
+            Kind::Inside(other, cells, k) => other == name && cells == size && k <= most,
             Kind::Absent => true,
         },
         Kind::Absent => match found {
             Kind::Number => false,
             Kind::UpTo(_) => false,
+            Kind::Inside(_, _, _) => false,
             Kind::Absent => true,
         },
     }
+}
+
+fn larger(one: usize, other: usize) -> usize
+    ensures first { one ≤ result }
+    ensures second { other ≤ result }
+{
+    if one < other { other } else { one }
 }
 
 // What is known where one or the other is.
@@ -44,14 +70,13 @@ pub(crate) fn either(first: Kind, second: Kind) -> Kind
     ensures first { Covers result first }
     ensures second { Covers result second }
 {
-    match first {
-        Kind::Number => Kind::Number,
-        Kind::Absent => second,
-        Kind::UpTo(most) => match second {
-            Kind::Number => Kind::Number,
-            Kind::Absent => first,
-            Kind::UpTo(k) => Kind::UpTo(if most < k { k } else { most }),
-        },
+    match (first, second) {
+        (Kind::Absent, _) => second,
+        (_, Kind::Absent) => first,
+        (Kind::UpTo(most), Kind::UpTo(k)) => Kind::UpTo(larger(most, k)),
+        (Kind::Inside(name, size, most), Kind::Inside(other, cells, k))
+            if name == other && size == cells => { Kind::Inside(name, size, larger(most, k)) }
+        _ => Kind::Number,
     }
 }
 
@@ -129,12 +154,24 @@ fn more(most: usize, more: usize) -> Kind
     }
 }
 
+// So far behind where the last element begins
+#[tactic(auto, using(crate::proofs::Lows::inside_far))]
+fn inside(name: usize, size: usize, most: usize, more: usize) -> Kind
+    ensures { result ≡ spec.inside name size (most + more) }
+{
+    match most.checked_add(more) {
+        Some(sum) if sum <= size => Kind::Inside(name, size, sum),
+        _ => Kind::Number,
+    }
+}
+
 pub(crate) fn moved(cells: usize, kind: Kind) -> Kind
     ensures { result ≡ spec.moved cells kind }
 {
     match kind {
         Kind::Number => Kind::Number,
         Kind::UpTo(most) => more(most, cells),
+        Kind::Inside(name, size, most) => inside(name, size, most, cells),
         Kind::Absent => Kind::Absent,
     }
 }
@@ -153,15 +190,75 @@ fn one_of(count: usize, size: usize, most: usize) -> Kind
     }
 }
 
+// The same within an element of a name's array
+#[tactic(auto, using(crate::proofs::Lows::inside_far))]
+fn one_inside(count: usize, by: usize, name: usize, size: usize, most: usize) -> Kind
+    ensures { result ≡ spec.one_inside count by name size most }
+{
+    if count == 0 {
+        return Kind::Absent;
+    }
+    match (count - 1).checked_mul(by) {
+        Some(far) => inside(name, size, most, far),
+        None => Kind::Number,
+    }
+}
+
 pub(crate) fn element(length: Length, size: usize, kind: Kind) -> Kind
     ensures { result ≡ spec.element length size kind }
 {
-    match kind {
-        Kind::Number => Kind::Number,
-        Kind::Absent => Kind::Absent,
-        Kind::UpTo(most) => match length {
-            Length::Elements(count) => one_of(count, size, most),
-            Length::OfName(_) => Kind::Number,
-        },
+    match (kind, length) {
+        (Kind::Number, _) => Kind::Number,
+        (Kind::Absent, _) => Kind::Absent,
+        (Kind::UpTo(most), Length::Elements(count)) => one_of(count, size, most),
+        (Kind::UpTo(most), Length::OfName(name)) => inside(name, size, most, 0),
+        (Kind::Inside(name, whole, most), Length::Elements(count)) => {
+            one_inside(count, size, name, whole, most)
+        }
+        (Kind::Inside(_, _, _), Length::OfName(_)) => Kind::Number,
     }
+}
+
+fn name_is(one: NameKind, other: NameKind) -> bool
+    ensures { IsTrue result → one ≡ other }
+{
+    match (one, other) {
+        (NameKind::Cells(cells), NameKind::Cells(others)) => cells == others,
+        (NameKind::ArrayOf(cells), NameKind::ArrayOf(others)) => cells == others,
+        _ => false,
+    }
+}
+
+fn name_is_at(one: &[NameKind], other: &[NameKind], place: usize) -> bool
+    ensures { IsTrue result → SameAt one.now other.now place }
+{
+    match one.get(place) {
+        Some(kind) => match other.get(place) {
+            Some(second) => name_is(*kind, *second),
+            None => false,
+        },
+        None => false,
+    }
+}
+
+fn each_same(one: &[NameKind], other: &[NameKind]) -> bool
+    requires { length one.now ≡ length other.now }
+    ensures { IsTrue result → one.now ≡ other.now }
+{
+    for place in 0..one.len() {
+        if !name_is_at(one, other, place) {
+            return false;
+        }
+    }
+    true
+}
+
+// Whether these are kinds of the same names.
+pub(crate) fn are_same(one: &[NameKind], other: &[NameKind]) -> bool
+    ensures { IsTrue result → one.now ≡ other.now }
+{
+    if one.len() != other.len() {
+        return false;
+    }
+    each_same(one, other)
 }

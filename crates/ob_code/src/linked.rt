@@ -7,6 +7,7 @@ ghost use Rattle.ob_code.specs.declared.instr.Entries.{Entries as EntriesOf};
 ghost use Rattle.ob_code.specs.declared.instr.LinkedModule.{LinkedModule as ModuleOf};
 
 use crate::instr::{Entries, Entry, LinkedModule};
+use crate::kinds::are_same;
 
 /// Whether these modules are linked, where those may run that `may_run` says, by their numbers: their cells lie one after
 /// the other, and each import of a module that may run may run too, and is as that module's code knows it.
@@ -102,19 +103,19 @@ fn exports(imported: &LinkedModule, known: &Entries) -> bool
     ensures { IsTrue result → (place : ℕ) (entry : EntryOf) → slice_get known.now.exported.items place ≡ Some entry → Exports imported.now place entry }
 {
     for place in 0..known.exported.len() {
-        if !exports_at(imported, place, known.exported[place]) {
+        if !exports_at(imported, place, &known.exported[place]) {
             return false;
         }
     }
     true
 }
 
-fn exports_at(imported: &LinkedModule, place: usize, entry: Entry) -> bool
-    ensures { IsTrue result → Exports imported.now place entry }
+fn exports_at(imported: &LinkedModule, place: usize, entry: &Entry) -> bool
+    ensures { IsTrue result → Exports imported.now place entry.now }
 {
     match imported.code.exported.get(place) {
         Some(number) => match imported.code.procedures.get(*number) {
-            Some(procedure) => are_same(procedure.entry, entry),
+            Some(procedure) => takes_the_same(&procedure.entry, entry),
             None => false,
         },
         None => false,
@@ -122,10 +123,11 @@ fn exports_at(imported: &LinkedModule, place: usize, entry: Entry) -> bool
 }
 
 #[tactic(auto, using(crate::proofs::machine::Laid::entry_same))]
-fn are_same(first: Entry, second: Entry) -> bool
-    ensures { IsTrue result → first ≡ second }
+fn takes_the_same(first: &Entry, second: &Entry) -> bool
+    ensures { IsTrue result → first.now ≡ second.now }
 {
     first.operands == second.operands
         && first.names == second.names
+        && are_same(first.kinds.as_slice(), second.kinds.as_slice())
         && first.is_function == second.is_function
 }

@@ -1,5 +1,5 @@
 -- The places of names, and what stands there.
-use Rattle.std.proofs.Common.{◌≡◌, ◌||◌, ℕ, suc, ◌<◌, Bool, true, false, cond, List, [], ◌∷◌, ◌++◌, length, Option, Some, None, option_map, is_some, slice_get, refl, sym, ◌∙◌, ap, subst, inl, inr, arith}
+use Rattle.std.proofs.Common.{◌≡◌, ◌||◌, ℕ, suc, ◌+◌, ◌<◌, Bool, true, false, cond, List, [], ◌∷◌, ◌++◌, length, Option, Some, None, option_map, is_some, slice_get, refl, sym, ◌∙◌, ap, subst, inl, inr, arith}
 use Rattle.std.specs.Str.{bytes_eq}
 use Rattle.std.proofs.lemmas.Bool.{cases_Bool}
 use Rattle.std.proofs.Math.ListN.{set}
@@ -86,10 +86,6 @@ exported_here (d ∷ es) q i e =
 
 -- ---- modules
 
-pub names_more : (ms : Modules) (m : LoadedTree) → module_names (ms ++ m ∷ []) ≡ module_names ms ++ m.interface.name ∷ []
-names_more [] m = refl
-names_more (n ∷ ms) m = ap (λ ns. n.interface.name ∷ ns) (names_more ms m)
-
 pub added_new : (ms : Modules) (m : LoadedTree) → place_in (module_names ms) m.interface.name ≡ None → added ms m ≡ ms ++ m ∷ []
 added_new [] m e = refl
 added_new (n ∷ ms) m e =
@@ -113,11 +109,8 @@ added_again (n ∷ ms) m i e =
       | inr p ↦ rw (p.1.2) (ap (λ b. cond b (m ∷ ms) (n ∷ added ms m)) p.0 ∙ ap (λ l. n ∷ l) (added_again ms m p.1.0 p.1.1))
     ]
 
--- a module in the place of one of its name leaves the names
-pub names_again : (ms : Modules) (m : LoadedTree) (i : ℕ) → place_in (module_names ms) m.interface.name ≡ Some i → module_names (set ms i m) ≡ module_names ms
-names_again [] m i e = absurd (let k : none_ℕ ≡ Some i = e in cc)
-names_again (n ∷ ms) m i e =
-    elim (some_found (bytes_eq n.interface.name m.interface.name) (place_in (module_names ms) m.interface.name) i e) as (λ _. module_names (set (n ∷ ms) i m) ≡ module_names (n ∷ ms)) [
-      | inl p ↦ rw (p.1) (ap (λ q. q ∷ module_names ms) (sym ((bytes_decides n.interface.name m.interface.name).0 p.0)))
-      | inr p ↦ rw (p.1.2) (ap (λ ns. n.interface.name ∷ ns) (names_again ms m p.1.0 p.1.1))
-    ]
+-- ---- places counted from a number on
+
+abbrev pub later : ℕ → Option ℕ → Option ℕ
+later n None = None
+later n (Some k) = Some (n + k)

@@ -2,8 +2,8 @@
 -- Constants (Wirth, The Programming Language Oberon, Oberon-07): a literal, a declared constant, or operators and the
 -- functions ABS, ODD, LSL, ASR, ROR, ORD, CHR of constants. The number says how many more constructs may nest.
 use Rattle.std.specs.Prelude.{ℕ, zero, suc, List, [], ◌∷◌, Bool, true, false, Option, Some, None, is_some}
-use Rattle.ob_base.specs.declared.fault.Code.{Code}
-use Rattle.ob_base.specs.declared.fault.Code.TheVariants as code
+use Rattle.ob_declare.specs.declared.rule.RuleCode.{RuleCode}
+use Rattle.ob_declare.specs.declared.rule.RuleCode.TheVariants as code
 use Rattle.ob_scan.specs.declared.token.Span.{Span}
 use Rattle.ob_parse.specs.declared.tree.Sign.{Sign}
 use Rattle.ob_parse.specs.declared.tree.Expr.{Expr, out-Expr}
@@ -64,12 +64,12 @@ unfoldable pub member : Modules → ℕ → Selector → List Selector → Rule 
 member ms place x xs = member_layer ms place (out-Selector x) xs
 
 -- In and Out export no constants
-abbrev pub no_input : InputName → Code
+abbrev pub no_input : InputName → RuleCode
 no_input input.Unknown = code.NotExported
 no_input input.Done = code.NotConstant
 no_input _ = code.Types
 
-abbrev pub no_output : OutputName → Code
+abbrev pub no_output : OutputName → RuleCode
 no_output output.Unknown = code.NotExported
 no_output _ = code.Types
 
@@ -110,24 +110,24 @@ function_called (predeclared.Procedure p) = Breaks code.Parameters
 function_called p = Breaks (absent p)
 
 -- what is broken where something of another module is called: that it isn't there, or that no call of it is constant
-abbrev pub no_call : Bool → Code
+abbrev pub no_call : Bool → RuleCode
 no_call true = code.NotConstant
 no_call false = code.NotExported
 
-abbrev pub calls_object : Modules → ℕ → SelectorLayer → Code
+abbrev pub calls_object : Modules → ℕ → SelectorLayer → RuleCode
 calls_object ms place (Selector-F.Field f) = no_call (is_some (exported_at ms place f.name))
 calls_object ms place (Selector-F.Index indexes) = code.NotConstant
 
-abbrev pub calls_input : SelectorLayer → Code
+abbrev pub calls_input : SelectorLayer → RuleCode
 calls_input (Selector-F.Field f) = no_call (is_input (input_named f.name))
 calls_input (Selector-F.Index indexes) = code.NotConstant
 
-abbrev pub calls_output : SelectorLayer → Code
+abbrev pub calls_output : SelectorLayer → RuleCode
 calls_output (Selector-F.Field f) = no_call (is_output (output_named f.name))
 calls_output (Selector-F.Index indexes) = code.NotConstant
 
 -- what is broken where a declared name is called
-unfoldable pub entry_called : Modules → Entry → List Selector → Code
+unfoldable pub entry_called : Modules → Entry → List Selector → RuleCode
 entry_called ms (entry.Module number place) (x ∷ xs) = calls_object ms place (out-Selector x)
 entry_called ms entry.In (x ∷ xs) = calls_input (out-Selector x)
 entry_called ms entry.Out (x ∷ xs) = calls_output (out-Selector x)

@@ -3,7 +3,7 @@
 -- Programming Language Oberon, Oberon-07).
 use Rattle.std.specs.Prelude.{ℕ, ◌+◌, List, [], ◌∷◌, ◌++◌, Bool, true, false, not, Option, Some, None, is_some, nat_le, nat_lt, slice_get, if◌then◌else◌}
 use Rattle.std.specs.Str.{bytes_eq}
-use Rattle.ob_base.specs.declared.fault.Code.TheVariants as code
+use Rattle.ob_declare.specs.declared.rule.RuleCode.TheVariants as code
 use Rattle.ob_parse.specs.declared.tree.ConstDeclaration.{ConstDeclaration}
 use Rattle.ob_parse.specs.declared.tree.Declarations.{Declarations, out-Declarations}
 use Rattle.ob_parse.specs.declared.tree.Ident.{Ident}

@@ -1,7 +1,7 @@
 -- To be believed.
 -- Headings of procedures: their formal parameters and results (Wirth, The Programming Language Oberon, Oberon-07).
 use Rattle.std.specs.Prelude.{ℕ, zero, suc, List, [], ◌∷◌, ◌++◌, length, Bool, true, false, Option, Some, None, is_some}
-use Rattle.ob_base.specs.declared.fault.Code.TheVariants as code
+use Rattle.ob_declare.specs.declared.rule.RuleCode.TheVariants as code
 use Rattle.ob_parse.specs.declared.tree.Formals.{Formals}
 use Rattle.ob_parse.specs.declared.tree.FormalSection.{FormalSection}
 use Rattle.ob_parse.specs.declared.tree.FormalType.{FormalType, out-FormalType}

@@ -1,3 +1,5 @@
+pub mod RuleCodes
+pub mod Told
 pub mod Rule
 pub mod Stack
 pub mod Names
@@ -8,6 +10,7 @@ pub mod Predeclared
 pub mod Scope
 pub mod Folding
 pub mod Imports
+pub mod Tables
 pub mod Constants
 pub mod WrittenTypes
 pub mod Declarations

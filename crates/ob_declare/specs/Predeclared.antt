@@ -3,8 +3,8 @@
 -- language leaves out, and the names in In and Out (the Oakwood Guidelines).
 use Rattle.std.specs.Prelude.{ℕ, List, Bool, true, false, ◌||◌, Option, Some, None, codes, if◌then◌else◌}
 use Rattle.std.specs.Str.{bytes_eq}
-use Rattle.ob_base.specs.declared.fault.Code.{Code}
-use Rattle.ob_base.specs.declared.fault.Code.TheVariants as code
+use Rattle.ob_declare.specs.declared.rule.RuleCode.{RuleCode}
+use Rattle.ob_declare.specs.declared.rule.RuleCode.TheVariants as code
 use Rattle.ob_types.specs.declared.structure.Basic.{Basic}
 use Rattle.ob_types.specs.declared.structure.Basic.TheVariants as basic
 use Rattle.ob_declare.specs.declared.predeclared.Function.{Function}
@@ -74,7 +74,7 @@ unfoldable pub predeclared_named : List ℕ → Predeclared
 predeclared_named name = predeclared_of (basic_named name) (function_named name) (procedure_named name) (is_left_out name)
 
 -- what is broken where nothing declares a name that has to stand for a value, or for a type
-abbrev pub absent : Predeclared → Code
+abbrev pub absent : Predeclared → RuleCode
 absent predeclared.LeftOut = code.LeftOut
 absent predeclared.Unknown = code.UnknownName
 absent (predeclared.Basic b) = code.Types

@@ -2,8 +2,8 @@
 -- Types as they are written (Wirth, The Programming Language Oberon, Oberon-07). A record type is named by its module, the
 -- procedures round its declaration, the declared name, and how many words RECORD stand before it in that declaration.
 use Rattle.std.specs.Prelude.{ℕ, zero, suc, ◌+◌, ◌*◌, ℤ, pos, negsuc, List, [], ◌∷◌, ◌++◌, length, map, reverse, Bool, true, false, not, Option, Some, None, ◌&&◌, is_some, nat_le, nat_lt, if◌then◌else◌}
-use Rattle.ob_base.specs.declared.fault.Code.{Code}
-use Rattle.ob_base.specs.declared.fault.Code.TheVariants as code
+use Rattle.ob_declare.specs.declared.rule.RuleCode.{RuleCode}
+use Rattle.ob_declare.specs.declared.rule.RuleCode.TheVariants as code
 use Rattle.ob_parse.specs.declared.tree.Expr.{Expr}
 use Rattle.ob_parse.specs.declared.tree.Ident.{Ident}
 use Rattle.ob_parse.specs.declared.tree.IdentDef.{IdentDef}
@@ -53,7 +53,7 @@ object_type (object.TypeName t) = Given t
 object_type o = Breaks code.Types
 
 -- a name of another module: In and Out export no type
-abbrev pub no_type : Bool → Code
+abbrev pub no_type : Bool → RuleCode
 no_type true = code.Types
 no_type false = code.NotExported
 

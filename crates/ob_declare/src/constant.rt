@@ -1,15 +1,14 @@
 //! Constants.
 
 ghost use Rattle.std.specs.Prelude.{◌≡◌, suc, option_copied, OnErr, IfErr, IfOk};
-ghost use Rattle.ob_base.specs.declared.fault.Code.TheVariants as code;
+ghost use Rattle.ob_declare.specs.declared.rule.RuleCode.TheVariants as code;
 ghost use Rattle.ob_parse.specs.declared.tree.Designator.{out-Designator};
 ghost use Rattle.ob_parse.specs.declared.tree.Selector.{out-Selector};
-ghost use Rattle.ob_declare.specs.Rule.{Judges, IsFault, there, through};
+ghost use Rattle.ob_declare.specs.Rule.{Judges, IsBroken, there, through};
 ghost use Rattle.ob_declare.specs.Constants as spec;
 ghost use Rattle.ob_declare.specs.Folding as folding;
 
 use crate::block::Entry;
-use crate::fault::{fault, open};
 use crate::folding::{
     Folded, adds, constant_of, folded_of, is_shift, multiplies, not_of, one_of, product_of,
     related_of, relates, sign_of, sum_of, takes, two_of,
@@ -19,8 +18,9 @@ use crate::predeclared::{
     Function, InputName, OutputName, Predeclared, absent, input_named, is_input, is_output,
     output_named,
 };
+use crate::rejected::{Rejected, broken, open};
+use crate::rule::RuleCode;
 use crate::scope::Scope;
-use ob_base::{Code, Refused};
 use ob_parse::tree::{
     AddedTerm, Designator, Expr, Factor, NextFactor, Related, Selector, Sign, Simple, Term,
 };
@@ -35,15 +35,15 @@ fn imported(
     object: &Object,
     behind: &[Selector],
     span: Span,
-) -> Result<Folded, Refused>
+) -> Result<Folded, Rejected>
     ensures { Judges (spec.imported object.now behind.now) result }
 {
     match (object, behind) {
         (Object::Constant(constant), []) => Ok(folded_of(alloc, constant)?),
-        (Object::Constant(_), [_, ..]) => Err(Refused::Fault(fault(Code::Types, span))),
-        (Object::Variable(_), _) => Err(Refused::Fault(fault(Code::NotConstant, span))),
+        (Object::Constant(_), [_, ..]) => Err(Rejected::Rule(broken(RuleCode::Types, span))),
+        (Object::Variable(_), _) => Err(Rejected::Rule(broken(RuleCode::NotConstant, span))),
         (Object::TypeName(_) | Object::Procedure(_), _) => {
-            Err(Refused::Fault(fault(Code::Types, span)))
+            Err(Rejected::Rule(broken(RuleCode::Types, span)))
         }
     }
 }
@@ -57,62 +57,62 @@ fn member(
     selector: &Selector,
     behind: &[Selector],
     span: Span,
-) -> Result<Folded, Refused>
+) -> Result<Folded, Rejected>
     ensures { Judges (spec.member modules.now place selector.now behind.now) result }
 {
     match selector {
         Selector::Field(field) => match modules.exported_at(place, &field.name) {
             Some(object) => imported(alloc, object, behind, field.span),
-            None => Err(Refused::Fault(fault(Code::NotExported, field.span))),
+            None => Err(Rejected::Rule(broken(RuleCode::NotExported, field.span))),
         },
-        Selector::Index(_) => Err(Refused::Fault(fault(Code::Types, span))),
+        Selector::Index(_) => Err(Rejected::Rule(broken(RuleCode::Types, span))),
     }
 }
 
-fn no_input(name: InputName) -> Code
+fn no_input(name: InputName) -> RuleCode
     ensures { result ≡ spec.no_input name }
 {
     match name {
-        InputName::Unknown => Code::NotExported,
-        InputName::Done => Code::NotConstant,
-        _ => Code::Types,
+        InputName::Unknown => RuleCode::NotExported,
+        InputName::Done => RuleCode::NotConstant,
+        _ => RuleCode::Types,
     }
 }
 
 /// The selector behind the name of the module In.
 #[tactic(auto, unfolding(crate::specs::Constants::input_member))]
-fn input_member(selector: &Selector, span: Span) -> Result<Folded, Refused>
+fn input_member(selector: &Selector, span: Span) -> Result<Folded, Rejected>
     ensures { Judges (spec.input_member selector.now) result }
 {
     match selector {
         Selector::Field(field) => {
             let code = no_input(input_named(&field.name));
-            Err(Refused::Fault(fault(code, field.span)))
+            Err(Rejected::Rule(broken(code, field.span)))
         }
-        Selector::Index(_) => Err(Refused::Fault(fault(Code::Types, span))),
+        Selector::Index(_) => Err(Rejected::Rule(broken(RuleCode::Types, span))),
     }
 }
 
-fn no_output(name: OutputName) -> Code
+fn no_output(name: OutputName) -> RuleCode
     ensures { result ≡ spec.no_output name }
 {
     match name {
-        OutputName::Unknown => Code::NotExported,
-        _ => Code::Types,
+        OutputName::Unknown => RuleCode::NotExported,
+        _ => RuleCode::Types,
     }
 }
 
 /// The selector behind the name of the module Out.
 #[tactic(auto, unfolding(crate::specs::Constants::output_member))]
-fn output_member(selector: &Selector, span: Span) -> Result<Folded, Refused>
+fn output_member(selector: &Selector, span: Span) -> Result<Folded, Rejected>
     ensures { Judges (spec.output_member selector.now) result }
 {
     match selector {
         Selector::Field(field) => {
             let code = no_output(output_named(&field.name));
-            Err(Refused::Fault(fault(code, field.span)))
+            Err(Rejected::Rule(broken(code, field.span)))
         }
-        Selector::Index(_) => Err(Refused::Fault(fault(Code::Types, span))),
+        Selector::Index(_) => Err(Rejected::Rule(broken(RuleCode::Types, span))),
     }
 }
 
@@ -124,18 +124,18 @@ fn named(
     entry: &Entry,
     selectors: &[Selector],
     span: Span,
-) -> Result<Folded, Refused>
+) -> Result<Folded, Rejected>
     ensures { Judges (spec.named modules.now entry.now selectors.now) result }
 {
     match (entry, selectors) {
         (Entry::Constant(constant), []) => Ok(folded_of(alloc, constant)?),
-        (Entry::Variable(_, _), _) => Err(Refused::Fault(fault(Code::NotConstant, span))),
+        (Entry::Variable(_, _), _) => Err(Rejected::Rule(broken(RuleCode::NotConstant, span))),
         (Entry::Module(_, place), [first, behind @ ..]) => {
             member(alloc, modules, *place, first, behind, span)
         }
         (Entry::In, [first, ..]) => input_member(first, span),
         (Entry::Out, [first, ..]) => output_member(first, span),
-        _ => Err(Refused::Fault(fault(Code::Types, span))),
+        _ => Err(Rejected::Rule(broken(RuleCode::Types, span))),
     }
 }
 
@@ -145,82 +145,82 @@ fn value_named(
     modules: &Imports,
     scope: &Scope,
     d: &Designator,
-) -> Result<Folded, Refused>
+) -> Result<Folded, Rejected>
     ensures { Judges (spec.value_named modules.now scope.now d.now) result }
 {
     match scope.seen(&d.name.name) {
         Some(entry) => named(alloc, modules, entry, d.selectors.as_slice(), d.name.span),
-        None => Err(Refused::Fault(fault(absent(scope.outer(&d.name.name)), d.name.span))),
+        None => Err(Rejected::Rule(broken(absent(scope.outer(&d.name.name)), d.name.span))),
     }
 }
 
 /// The function that a name is which nothing declares.
 #[tactic(auto, unfolding(crate::specs::Constants::function_called))]
-fn function_called(predeclared: Predeclared, span: Span) -> Result<Function, Refused>
+fn function_called(predeclared: Predeclared, span: Span) -> Result<Function, Rejected>
     ensures { Judges (spec.function_called predeclared) result }
 {
     match predeclared {
         Predeclared::Function(function) => Ok(function),
-        Predeclared::Procedure(_) => Err(Refused::Fault(fault(Code::Parameters, span))),
-        _ => Err(Refused::Fault(fault(absent(predeclared), span))),
+        Predeclared::Procedure(_) => Err(Rejected::Rule(broken(RuleCode::Parameters, span))),
+        _ => Err(Rejected::Rule(broken(absent(predeclared), span))),
     }
 }
 
 /// What is broken where something of another module is called.
-fn no_call(exported: bool) -> Code
+fn no_call(exported: bool) -> RuleCode
     ensures { result ≡ spec.no_call exported }
 {
     if exported {
-        Code::NotConstant
+        RuleCode::NotConstant
     } else {
-        Code::NotExported
+        RuleCode::NotExported
     }
 }
 
-fn calls_object(modules: &Imports, place: usize, selector: &Selector) -> Code
+fn calls_object(modules: &Imports, place: usize, selector: &Selector) -> RuleCode
     ensures { result ≡ spec.calls_object modules.now place (out-Selector selector.now) }
 {
     match selector {
         Selector::Field(field) => no_call(modules.exported_at(place, &field.name).is_some()),
-        Selector::Index(_) => Code::NotConstant,
+        Selector::Index(_) => RuleCode::NotConstant,
     }
 }
 
-fn calls_input(selector: &Selector) -> Code
+fn calls_input(selector: &Selector) -> RuleCode
     ensures { result ≡ spec.calls_input (out-Selector selector.now) }
 {
     match selector {
         Selector::Field(field) => no_call(is_input(input_named(&field.name))),
-        Selector::Index(_) => Code::NotConstant,
+        Selector::Index(_) => RuleCode::NotConstant,
     }
 }
 
-fn calls_output(selector: &Selector) -> Code
+fn calls_output(selector: &Selector) -> RuleCode
     ensures { result ≡ spec.calls_output (out-Selector selector.now) }
 {
     match selector {
         Selector::Field(field) => no_call(is_output(output_named(&field.name))),
-        Selector::Index(_) => Code::NotConstant,
+        Selector::Index(_) => RuleCode::NotConstant,
     }
 }
 
 /// What is broken where a declared name is called.
 #[tactic(auto, unfolding(crate::specs::Constants::entry_called))]
-fn entry_called(modules: &Imports, entry: &Entry, selectors: &[Selector]) -> Code
+fn entry_called(modules: &Imports, entry: &Entry, selectors: &[Selector]) -> RuleCode
     ensures { result ≡ spec.entry_called modules.now entry.now selectors.now }
 {
     match (entry, selectors) {
         (Entry::Module(_, place), [first, ..]) => calls_object(modules, *place, first),
         (Entry::In, [first, ..]) => calls_input(first),
         (Entry::Out, [first, ..]) => calls_output(first),
-        _ => Code::NotConstant,
+        _ => RuleCode::NotConstant,
     }
 }
 
 /// Where a fault of a name with selectors behind it stands: at the name that its module lacks, or else at the first token.
-fn place_of(code: Code, selectors: &[Selector], span: Span) -> Span {
+fn place_of(code: RuleCode, selectors: &[Selector], span: Span) -> Span {
     match (code, selectors) {
-        (Code::NotExported, [Selector::Field(field), ..]) => field.span,
+        (RuleCode::NotExported, [Selector::Field(field), ..]) => field.span,
         _ => span,
     }
 }
@@ -233,20 +233,20 @@ fn function_found(
     selectors: &[Selector],
     predeclared: Predeclared,
     span: Span,
-) -> Result<Function, Refused>
+) -> Result<Function, Rejected>
     ensures { Judges (spec.function_found modules.now (option_copied entry.entry) selectors.now predeclared) result }
 {
     match (entry, selectors) {
         (Some(entry), _) => {
             let code = entry_called(modules, entry, selectors);
-            Err(Refused::Fault(fault(code, place_of(code, selectors, span))))
+            Err(Rejected::Rule(broken(code, place_of(code, selectors, span))))
         }
         (None, []) => function_called(predeclared, span),
-        (None, [_, ..]) => Err(Refused::Fault(fault(absent(predeclared), span))),
+        (None, [_, ..]) => Err(Rejected::Rule(broken(absent(predeclared), span))),
     }
 }
 
-fn function_of(modules: &Imports, scope: &Scope, d: &Designator) -> Result<Function, Refused>
+fn function_of(modules: &Imports, scope: &Scope, d: &Designator) -> Result<Function, Rejected>
     ensures { Judges (spec.function_of modules.now scope.now d.now) result }
 {
     function_found(
@@ -259,23 +259,23 @@ fn function_of(modules: &Imports, scope: &Scope, d: &Designator) -> Result<Funct
 }
 
 /// What a rule gave, or the fault of types that don't fit.
-fn fitting(value: Option<Folded>, code: Code, span: Span) -> Result<Folded, Refused>
+fn fitting(value: Option<Folded>, code: RuleCode, span: Span) -> Result<Folded, Rejected>
     ensures { Judges (there value code) result }
 {
     match value {
         Some(value) => Ok(value),
-        None => Err(Refused::Fault(fault(code, span))),
+        None => Err(Rejected::Rule(broken(code, span))),
     }
 }
 
 /// A value with a sign before it.
 #[tactic(auto, unfolding(crate::specs::Constants::signed))]
-fn signed(sign: Option<(Sign, Span)>, value: Folded) -> Result<Folded, Refused>
+fn signed(sign: Option<(Sign, Span)>, value: Folded) -> Result<Folded, Rejected>
     ensures { Judges (spec.signed sign value) result }
 {
     match sign {
         None => Ok(value),
-        Some((sign, span)) => fitting(sign_of(sign, &value), Code::Types, span),
+        Some((sign, span)) => fitting(sign_of(sign, &value), RuleCode::Types, span),
     }
 }
 
@@ -288,7 +288,7 @@ fn expr(
     scope: &Scope,
     levels: u32,
     e: &Expr,
-) -> Result<Folded, Refused>
+) -> Result<Folded, Rejected>
     ensures { Judges (spec.expr_at modules.now scope.now levels e.now) result }
 {
     let left = simple(alloc, modules, scope, levels, &e.left)?;
@@ -304,19 +304,19 @@ fn related(
     levels: u32,
     left: Folded,
     right: &Option<Related>,
-) -> Result<Folded, Refused>
+) -> Result<Folded, Rejected>
     ensures { Judges (spec.related (spec.inner_at modules.now scope.now levels) (spec.deeper_at modules.now scope.now levels) modules.now scope.now left right.now) result }
 {
     match right {
         None => Ok(left),
         Some(right) => {
             if !relates(right.relation, &left) {
-                return Err(Refused::Fault(fault(Code::Types, right.span)));
+                return Err(Rejected::Rule(broken(RuleCode::Types, right.span)));
             }
             let other = simple(alloc, modules, scope, levels, &right.simple)?;
             fitting(
                 related_of(right.relation, &left, &other),
-                Code::Types,
+                RuleCode::Types,
                 right.span,
             )
         }
@@ -331,7 +331,7 @@ fn simple(
     scope: &Scope,
     levels: u32,
     x: &Simple,
-) -> Result<Folded, Refused>
+) -> Result<Folded, Rejected>
     ensures { Judges (spec.simple_rule (spec.inner_at modules.now scope.now levels) (spec.deeper_at modules.now scope.now levels) modules.now scope.now x.now) result }
 {
     let first = term(alloc, modules, scope, levels, &x.first)?;
@@ -347,7 +347,7 @@ fn added_terms(
     levels: u32,
     first: Folded,
     others: &[AddedTerm],
-) -> Result<Folded, Refused>
+) -> Result<Folded, Rejected>
     ensures { Judges (through (spec.added_term (spec.inner_at modules.now scope.now levels) (spec.deeper_at modules.now scope.now levels) modules.now scope.now) first others.now) result }
 {
     let mut so_far = first;
@@ -366,14 +366,14 @@ fn added_term(
     levels: u32,
     left: Folded,
     x: &AddedTerm,
-) -> Result<Folded, Refused>
+) -> Result<Folded, Rejected>
     ensures { Judges (spec.added_term (spec.inner_at modules.now scope.now levels) (spec.deeper_at modules.now scope.now levels) modules.now scope.now left x.now) result }
 {
     if !adds(x.operator, &left) {
-        return Err(Refused::Fault(fault(Code::Types, x.span)));
+        return Err(Rejected::Rule(broken(RuleCode::Types, x.span)));
     }
     let right = term(alloc, modules, scope, levels, &x.term)?;
-    fitting(sum_of(x.operator, &left, &right), Code::Types, x.span)
+    fitting(sum_of(x.operator, &left, &right), RuleCode::Types, x.span)
 }
 
 #[cycle(constant)]
@@ -384,7 +384,7 @@ fn term(
     scope: &Scope,
     levels: u32,
     t: &Term,
-) -> Result<Folded, Refused>
+) -> Result<Folded, Rejected>
     ensures { Judges (spec.term_rule (spec.inner_at modules.now scope.now levels) (spec.deeper_at modules.now scope.now levels) modules.now scope.now t.now) result }
 {
     let first = factor(alloc, modules, scope, levels, &t.first)?;
@@ -399,7 +399,7 @@ fn next_factors(
     levels: u32,
     first: Folded,
     others: &[NextFactor],
-) -> Result<Folded, Refused>
+) -> Result<Folded, Rejected>
     ensures { Judges (through (spec.next_factor (spec.inner_at modules.now scope.now levels) (spec.deeper_at modules.now scope.now levels) modules.now scope.now) first others.now) result }
 {
     let mut so_far = first;
@@ -418,14 +418,18 @@ fn next_factor(
     levels: u32,
     left: Folded,
     x: &NextFactor,
-) -> Result<Folded, Refused>
+) -> Result<Folded, Rejected>
     ensures { Judges (spec.next_factor (spec.inner_at modules.now scope.now levels) (spec.deeper_at modules.now scope.now levels) modules.now scope.now left x.now) result }
 {
     if !multiplies(x.operator, &left) {
-        return Err(Refused::Fault(fault(Code::Types, x.span)));
+        return Err(Rejected::Rule(broken(RuleCode::Types, x.span)));
     }
     let right = factor(alloc, modules, scope, levels, &x.factor)?;
-    fitting(product_of(x.operator, &left, &right), Code::Types, x.span)
+    fitting(
+        product_of(x.operator, &left, &right),
+        RuleCode::Types,
+        x.span,
+    )
 }
 
 #[cycle(constant)]
@@ -436,7 +440,7 @@ fn factor(
     scope: &Scope,
     levels: u32,
     f: &Factor,
-) -> Result<Folded, Refused>
+) -> Result<Folded, Rejected>
     ensures { Judges (spec.factor_rule (spec.inner_at modules.now scope.now levels) (spec.deeper_at modules.now scope.now levels) modules.now scope.now f.now) result }
 {
     match f {
@@ -459,7 +463,7 @@ fn factor(
         Factor::Parens(span, e) => nested(alloc, modules, scope, levels, *span, e.get()),
         Factor::Not(span, f) => {
             let value = deeper(alloc, modules, scope, levels, *span, f.get())?;
-            fitting(not_of(&value), Code::Types, *span)
+            fitting(not_of(&value), RuleCode::Types, *span)
         }
     }
 }
@@ -475,16 +479,16 @@ fn called(
     function: Function,
     actuals: &[Expr],
     span: Span,
-) -> Result<Folded, Refused>
+) -> Result<Folded, Rejected>
     ensures { Judges (spec.called (spec.inner_at modules.now scope.now levels) function actuals.now) result }
 {
     match (function, actuals) {
-        (Function::Len, _) => Err(Refused::Fault(fault(Code::NotConstant, span))),
-        (_, []) => Err(Refused::Fault(fault(Code::Parameters, span))),
+        (Function::Len, _) => Err(Rejected::Rule(broken(RuleCode::NotConstant, span))),
+        (_, []) => Err(Rejected::Rule(broken(RuleCode::Parameters, span))),
         (_, [one, behind @ ..]) => {
             let value = nested(alloc, modules, scope, levels, span, one)?;
             if !takes(function, &value) {
-                return Err(Refused::Fault(fault(Code::Parameters, one.first_token())));
+                return Err(Rejected::Rule(broken(RuleCode::Parameters, one.first_token())));
             }
             one_called(
                 alloc, modules, scope, levels, function, &value, behind, span,
@@ -505,23 +509,26 @@ fn one_called(
     left: &Folded,
     actuals: &[Expr],
     span: Span,
-) -> Result<Folded, Refused>
+) -> Result<Folded, Rejected>
     ensures { Judges (spec.one_called (spec.inner_at modules.now scope.now levels) function left.now actuals.now) result }
 {
     match actuals {
-        [] => fitting(one_of(function, left), Code::Parameters, span),
+        [] => fitting(one_of(function, left), RuleCode::Parameters, span),
         [two, behind @ ..] => {
             if !is_shift(function) {
-                return Err(Refused::Fault(fault(Code::Parameters, two.first_token())));
+                return Err(Rejected::Rule(broken(RuleCode::Parameters, two.first_token())));
             }
             let right = nested(alloc, modules, scope, levels, span, two)?;
             match behind {
                 [] => fitting(
                     two_of(function, left, &right),
-                    Code::Parameters,
+                    RuleCode::Parameters,
                     two.first_token(),
                 ),
-                [three, ..] => Err(Refused::Fault(fault(Code::Parameters, three.first_token()))),
+                [three, ..] => Err(Rejected::Rule(broken(
+                    RuleCode::Parameters,
+                    three.first_token(),
+                ))),
             }
         }
     }
@@ -536,7 +543,7 @@ fn nested(
     levels: u32,
     span: Span,
     e: &Expr,
-) -> Result<Folded, Refused>
+) -> Result<Folded, Rejected>
     ensures { Judges (spec.inner_at modules.now scope.now levels e.now) result }
 {
     let inside = open(levels, span)?;
@@ -552,7 +559,7 @@ fn deeper(
     levels: u32,
     span: Span,
     f: &Factor,
-) -> Result<Folded, Refused>
+) -> Result<Folded, Rejected>
     ensures { Judges (spec.deeper_at modules.now scope.now levels f.now) result }
 {
     let inside = open(levels, span)?;
@@ -567,12 +574,12 @@ pub fn constant(
     scope: &Scope,
     levels: u32,
     e: &Expr,
-) -> Result<Constant, Refused>
+) -> Result<Constant, Rejected>
     ensures { Judges (spec.constant_at modules.now scope.now levels e.now) result }
 {
     let value = expr(alloc, modules, scope, levels, e)?;
     match constant_of(value) {
         Some(constant) => Ok(constant),
-        None => Err(Refused::Fault(fault(Code::NotConstant, e.first_token()))),
+        None => Err(Rejected::Rule(broken(RuleCode::NotConstant, e.first_token()))),
     }
 }

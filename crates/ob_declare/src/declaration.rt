@@ -1,21 +1,22 @@
 //! Imports and declarations.
 
 ghost use Rattle.std.specs.Prelude.{◌≡◌, ◌≤◌, [], false, None, IfOk};
-ghost use Rattle.ob_base.specs.declared.fault.Code.TheVariants as code;
+ghost use Rattle.ob_declare.specs.declared.rule.RuleCode.TheVariants as code;
 ghost use Rattle.ob_declare.specs.Block.{find};
 ghost use Rattle.ob_declare.specs.Scope.{with_entry};
-ghost use Rattle.ob_declare.specs.Rule.{Judges, Given, gives, AnswersTree, FaultsOnly, there, through};
+ghost use Rattle.ob_declare.specs.Rule.{Judges, Given, gives, AnswersTree, BrokenOnly, there, through};
 ghost use Rattle.ob_declare.specs.Declarations as spec;
 ghost use Rattle.ob_declare.specs.declared.scope.Scope.{Scope};
 
 use crate::block::{Block, Entry, Standing};
 use crate::constant::constant;
-use crate::fault::fault;
 use crate::imports::{Imports, StandardName, standard_named};
 use crate::names::Names;
+use crate::rejected::{Rejected, broken};
+use crate::rule::RuleCode;
 use crate::scope::Scope;
 use crate::written_type::written_type;
-use ob_base::{Code, Refused, Text};
+use ob_base::Text;
 use ob_parse::tree::{
     ConstDeclaration, Declarations, Ident, IdentDef, Import, Module, TypeDeclaration, TypedNames,
 };
@@ -33,22 +34,22 @@ const MAX_MODULE_CELLS: u32 = 262_144;
 const MAX_PROCEDURE_CELLS: u32 = 16_384;
 
 /// One more, of what there are not too many.
-fn next_place(n: usize, span: Span) -> Result<usize, Refused>
+fn next_place(n: usize, span: Span) -> Result<usize, Rejected>
     ensures { Judges (there (spec.one_more spec.max_count n) code.Size) result }
 {
     match n.checked_add(1) {
         Some(next) => Ok(next),
-        None => Err(Refused::Fault(fault(Code::Size, span))),
+        None => Err(Rejected::Rule(broken(RuleCode::Size, span))),
     }
 }
 
 /// One variable more.
-fn next_variable(n: u32, span: Span) -> Result<u32, Refused>
+fn next_variable(n: u32, span: Span) -> Result<u32, Rejected>
     ensures { Judges (there (spec.one_more spec.max_variables n) code.Size) result }
 {
     match n.checked_add(1) {
         Some(next) => Ok(next),
-        None => Err(Refused::Fault(fault(Code::Size, span))),
+        None => Err(Rejected::Rule(broken(RuleCode::Size, span))),
     }
 }
 
@@ -59,15 +60,15 @@ pub(crate) fn new_name(
     block: &Block,
     so_far: Names,
     name: &Ident,
-) -> Result<Names, Refused>
+) -> Result<Names, Rejected>
     ensures { Judges (spec.new_name block.now so_far name.now.name) result }
 {
     let mut so_far = so_far;
     if block.find(&name.name).is_some() {
-        return Err(Refused::Fault(fault(Code::DeclaredTwice, name.span)));
+        return Err(Rejected::Rule(broken(RuleCode::DeclaredTwice, name.span)));
     }
     if so_far.contains(&name.name) {
-        return Err(Refused::Fault(fault(Code::DeclaredTwice, name.span)));
+        return Err(Rejected::Rule(broken(RuleCode::DeclaredTwice, name.span)));
     }
     so_far.push(alloc, &name.name)?;
     Ok(so_far)
@@ -90,14 +91,14 @@ fn loaded_place(
     this: &Text,
     place: Option<usize>,
     span: Span,
-) -> Result<usize, Refused>
+) -> Result<usize, Rejected>
     ensures { Judges (spec.loaded_place modules.now this.now place) result }
 {
     match place {
-        None => Err(Refused::Fault(fault(Code::NotLoaded, span))),
+        None => Err(Rejected::Rule(broken(RuleCode::NotLoaded, span))),
         Some(place) => {
             if modules.reaches_at(place, this) {
-                return Err(Refused::Fault(fault(Code::ImportsItself, span)));
+                return Err(Rejected::Rule(broken(RuleCode::ImportsItself, span)));
             }
             Ok(place)
         }
@@ -105,7 +106,7 @@ fn loaded_place(
 }
 
 /// One import more, of a name that is new.
-fn with_import(alloc: Global, so_far: Scope, name: &Ident, entry: Entry) -> Result<Scope, Refused>
+fn with_import(alloc: Global, so_far: Scope, name: &Ident, entry: Entry) -> Result<Scope, Rejected>
     requires { find so_far.block name.now.name ≡ None }
     ensures { Judges (Given (with_entry so_far name.now.name false entry)) result }
 {
@@ -116,7 +117,7 @@ fn with_import(alloc: Global, so_far: Scope, name: &Ident, entry: Entry) -> Resu
 
 /// One import more of a module that is loaded at a place.
 #[tactic(auto, unfolding(crate::specs::Declarations::with_module))]
-fn with_module(alloc: Global, so_far: Scope, name: &Ident, place: usize) -> Result<Scope, Refused>
+fn with_module(alloc: Global, so_far: Scope, name: &Ident, place: usize) -> Result<Scope, Rejected>
     requires { find so_far.block name.now.name ≡ None }
     ensures { Judges (spec.with_module so_far name.now.name place) result }
 {
@@ -134,7 +135,7 @@ fn other_module(
     so_far: Scope,
     name: &Ident,
     own: &Ident,
-) -> Result<Scope, Refused>
+) -> Result<Scope, Rejected>
     requires { find so_far.block name.now.name ≡ None }
     ensures { Judges (spec.other_module modules.now so_far name.now.name own.now.name) result }
 {
@@ -152,14 +153,14 @@ fn imported_as(
     name: &Ident,
     own: &Ident,
     standard: StandardName,
-) -> Result<Scope, Refused>
+) -> Result<Scope, Rejected>
     requires { find so_far.block name.now.name ≡ None }
     ensures { Judges (spec.imported_as modules.now so_far name.now.name own.now.name standard) result }
 {
     match standard {
         StandardName::In => with_import(alloc, so_far, name, Entry::In),
         StandardName::Out => with_import(alloc, so_far, name, Entry::Out),
-        StandardName::System => Err(Refused::Fault(fault(Code::LeftOut, own.span))),
+        StandardName::System => Err(Rejected::Rule(broken(RuleCode::LeftOut, own.span))),
         StandardName::Other => other_module(alloc, modules, so_far, name, own),
     }
 }
@@ -172,12 +173,12 @@ fn import_named(
     so_far: Scope,
     name: &Ident,
     own: &Ident,
-) -> Result<Scope, Refused>
+) -> Result<Scope, Rejected>
     requires { find so_far.block name.now.name ≡ None }
     ensures { Judges (spec.import_named modules.now so_far name.now.name own.now.name) result }
 {
     if own.name.same(&so_far.module_name) {
-        return Err(Refused::Fault(fault(Code::ImportsItself, own.span)));
+        return Err(Rejected::Rule(broken(RuleCode::ImportsItself, own.span)));
     }
     let standard = standard_named(&own.name);
     imported_as(alloc, modules, so_far, name, own, standard)
@@ -189,7 +190,7 @@ fn new_import(
     modules: &Imports,
     so_far: Scope,
     import: &Import,
-) -> Result<Scope, Refused>
+) -> Result<Scope, Rejected>
     requires { find so_far.block import.now.name.name ≡ None }
     ensures { Judges (spec.new_import modules.now so_far import.now) result }
 {
@@ -203,12 +204,12 @@ fn import(
     modules: &Imports,
     so_far: Scope,
     import: &Import,
-) -> Result<Scope, Refused>
+) -> Result<Scope, Rejected>
     ensures { Judges (spec.import_rule modules.now so_far import.now) result }
 {
     let name = &import.name;
     if so_far.block.find(&name.name).is_some() {
-        return Err(Refused::Fault(fault(Code::DeclaredTwice, name.span)));
+        return Err(Rejected::Rule(broken(RuleCode::DeclaredTwice, name.span)));
     }
     new_import(alloc, modules, so_far, import)
 }
@@ -218,7 +219,7 @@ fn imports(
     modules: &Imports,
     first: Scope,
     list: &[Import],
-) -> Result<Scope, Refused>
+) -> Result<Scope, Rejected>
     ensures { Judges (through (spec.import_rule modules.now) first list.now) result }
 {
     let mut so_far = first;
@@ -236,7 +237,7 @@ fn new_constant(
     nesting: u32,
     so_far: Scope,
     d: &ConstDeclaration,
-) -> Result<Scope, Refused>
+) -> Result<Scope, Rejected>
     requires { find so_far.block d.now.name.name.name ≡ None }
     ensures { Judges (spec.new_constant modules.now nesting so_far d.now) result }
 {
@@ -256,12 +257,12 @@ fn constant_declared(
     nesting: u32,
     so_far: Scope,
     d: &ConstDeclaration,
-) -> Result<Scope, Refused>
+) -> Result<Scope, Rejected>
     ensures { Judges (spec.constant_rule modules.now nesting so_far d.now) result }
 {
     let name = &d.name.name;
     if so_far.block.find(&name.name).is_some() {
-        return Err(Refused::Fault(fault(Code::DeclaredTwice, name.span)));
+        return Err(Rejected::Rule(broken(RuleCode::DeclaredTwice, name.span)));
     }
     new_constant(alloc, modules, nesting, so_far, d)
 }
@@ -272,7 +273,7 @@ fn constants(
     nesting: u32,
     first: Scope,
     list: &[ConstDeclaration],
-) -> Result<Scope, Refused>
+) -> Result<Scope, Rejected>
     ensures { Judges (through (spec.constant_rule modules.now nesting) first list.now) result }
 {
     let mut so_far = first;
@@ -290,7 +291,7 @@ fn new_type(
     nesting: u32,
     so_far: Scope,
     d: &TypeDeclaration,
-) -> Result<Scope, Refused>
+) -> Result<Scope, Rejected>
     requires { find so_far.block d.now.name.name.name ≡ None }
     ensures { Judges (spec.new_type modules.now nesting so_far d.now) result }
 {
@@ -311,12 +312,12 @@ fn type_declared(
     nesting: u32,
     so_far: Scope,
     d: &TypeDeclaration,
-) -> Result<Scope, Refused>
+) -> Result<Scope, Rejected>
     ensures { Judges (spec.type_rule modules.now nesting so_far d.now) result }
 {
     let name = &d.name.name;
     if so_far.block.find(&name.name).is_some() {
-        return Err(Refused::Fault(fault(Code::DeclaredTwice, name.span)));
+        return Err(Rejected::Rule(broken(RuleCode::DeclaredTwice, name.span)));
     }
     new_type(alloc, modules, nesting, so_far, d)
 }
@@ -327,7 +328,7 @@ fn types(
     nesting: u32,
     first: Scope,
     list: &[TypeDeclaration],
-) -> Result<Scope, Refused>
+) -> Result<Scope, Rejected>
     ensures { Judges (through (spec.type_rule modules.now nesting) first list.now) result }
 {
     let mut so_far = first;
@@ -365,7 +366,7 @@ fn exported_variable(
     so_far: Scope,
     name: &Ident,
     of: ObType,
-) -> Result<Scope, Refused>
+) -> Result<Scope, Rejected>
     requires { find so_far.block name.now.name ≡ None }
     ensures { Judges (spec.exported_variable so_far name.now.name of) result }
 {
@@ -379,7 +380,7 @@ fn exported_variable(
 
 /// One variable of the module more, which others don't see.
 #[tactic(auto, unfolding(crate::specs::Declarations::own_variable))]
-fn own_variable(alloc: Global, so_far: Scope, name: &Ident, of: ObType) -> Result<Scope, Refused>
+fn own_variable(alloc: Global, so_far: Scope, name: &Ident, of: ObType) -> Result<Scope, Rejected>
     requires { find so_far.block name.now.name ≡ None }
     ensures { Judges (spec.own_variable so_far name.now.name of) result }
 {
@@ -393,7 +394,7 @@ fn own_variable(alloc: Global, so_far: Scope, name: &Ident, of: ObType) -> Resul
 
 /// One variable of a procedure more.
 #[tactic(auto, unfolding(crate::specs::Declarations::local_variable))]
-fn local_variable(alloc: Global, so_far: Scope, name: &Ident, of: ObType) -> Result<Scope, Refused>
+fn local_variable(alloc: Global, so_far: Scope, name: &Ident, of: ObType) -> Result<Scope, Rejected>
     requires { find so_far.block name.now.name ≡ None }
     ensures { Judges (spec.local_variable so_far name.now.name of) result }
 {
@@ -414,7 +415,7 @@ fn variable_in(
     so_far: Scope,
     name: &Ident,
     of: ObType,
-) -> Result<Scope, Refused>
+) -> Result<Scope, Rejected>
     requires { find so_far.block name.now.name ≡ None }
     ensures { Judges (spec.variable_in outermost mark so_far name.now.name of) result }
 {
@@ -429,13 +430,13 @@ fn variable_in(
 
 /// One variable more.
 #[tactic(auto, unfolding(crate::specs::Declarations::variable_rule))]
-fn variable(alloc: Global, of: &ObType, so_far: Scope, name: &IdentDef) -> Result<Scope, Refused>
+fn variable(alloc: Global, of: &ObType, so_far: Scope, name: &IdentDef) -> Result<Scope, Rejected>
     ensures { Judges (spec.variable_rule of.now so_far name.now) result }
 {
     let mut so_far = so_far;
     let ident = &name.name;
     if so_far.block.find(&ident.name).is_some() {
-        return Err(Refused::Fault(fault(Code::DeclaredTwice, ident.span)));
+        return Err(Rejected::Rule(broken(RuleCode::DeclaredTwice, ident.span)));
     }
     let outermost = so_far.is_outermost();
     match cells_behind(outermost, so_far.cells_taken, of) {
@@ -444,11 +445,16 @@ fn variable(alloc: Global, of: &ObType, so_far: Scope, name: &IdentDef) -> Resul
             let of = of.another()?;
             variable_in(alloc, outermost, name.mark.is_some(), so_far, ident, of)
         }
-        None => Err(Refused::Fault(fault(Code::Size, ident.span))),
+        None => Err(Rejected::Rule(broken(RuleCode::Size, ident.span))),
     }
 }
 
-fn variables(alloc: Global, of: &ObType, first: Scope, names: &[IdentDef]) -> Result<Scope, Refused>
+fn variables(
+    alloc: Global,
+    of: &ObType,
+    first: Scope,
+    names: &[IdentDef],
+) -> Result<Scope, Rejected>
     ensures { Judges (through (spec.variable_rule of.now) first names.now) result }
 {
     let mut so_far = first;
@@ -459,7 +465,7 @@ fn variables(alloc: Global, of: &ObType, first: Scope, names: &[IdentDef]) -> Re
 }
 
 /// The names of variables of one type, none of which the block has.
-fn variable_names(alloc: Global, block: &Block, list: &[IdentDef]) -> Result<Names, Refused>
+fn variable_names(alloc: Global, block: &Block, list: &[IdentDef]) -> Result<Names, Rejected>
     ensures { Judges (through (spec.variable_name block.now) [] list.now) result }
 {
     let mut so_far = Names::new(alloc);
@@ -486,7 +492,7 @@ fn typed_variables(
     nesting: u32,
     so_far: Scope,
     x: &TypedNames,
-) -> Result<Scope, Refused>
+) -> Result<Scope, Rejected>
     ensures { Judges (spec.typed_variables modules.now nesting so_far x.now) result }
 {
     let list = x.names.as_slice();
@@ -503,7 +509,7 @@ fn typed_names(
     nesting: u32,
     so_far: Scope,
     x: &TypedNames,
-) -> Result<Scope, Refused>
+) -> Result<Scope, Rejected>
     ensures { Judges (spec.variables_rule modules.now nesting so_far x.now) result }
 {
     let _names = variable_names(alloc, &so_far.block, x.names.as_slice())?;
@@ -516,7 +522,7 @@ fn all_variables(
     nesting: u32,
     first: Scope,
     lists: &[TypedNames],
-) -> Result<Scope, Refused>
+) -> Result<Scope, Rejected>
     ensures { Judges (through (spec.variables_rule modules.now nesting) first lists.now) result }
 {
     let mut so_far = first;
@@ -529,10 +535,10 @@ fn all_variables(
 /// The constants, types and variables of a module or of the procedure that was entered (Wirth, The Programming Language
 /// Oberon, Oberon-07). `nesting` says how many more constructs may nest.
 ///
-/// `Refused::Fault`: `DeclaredTwice` where the block has a name, or a record a field's; `NotConstant` for a constant or a
+/// `Rejected::Rule`: `DeclaredTwice` where the block has a name, or a record a field's; `NotConstant` for a constant or a
 /// length that is none or would trap; `Types` where types don't fit; `UnknownName`, `LeftOut` and `NotExported` for a name
 /// that stands for nothing; `Size` for a length, a type or variables of too many cells, a type of too many levels, or
-/// where more constructs nest than may. `Refused::Memory` where memory was refused. The scope is gone then.
+/// where more constructs nest than may. `Rejected::Memory` where memory was refused. The scope is gone then.
 #[tactic(auto, unfolding(crate::specs::Declarations::declarations_rule))]
 pub fn declare_all(
     alloc: Global,
@@ -540,7 +546,7 @@ pub fn declare_all(
     nesting: u32,
     scope: Scope,
     d: &Declarations,
-) -> Result<Scope, Refused>
+) -> Result<Scope, Rejected>
     ensures { Judges (spec.declarations_rule modules.now nesting scope d.now) result }
 {
     let scope = constants(alloc, modules, nesting, scope, d.constants.as_slice())?;
@@ -550,11 +556,11 @@ pub fn declare_all(
 
 /// What a module declares but for its procedures, as `declare_module`, for rules that go on from there.
 #[tactic(auto, unfolding(crate::specs::Declarations::module_rule))]
-pub fn declared_by(alloc: Global, modules: &Imports, tree: &Module) -> Result<Scope, Refused>
+pub fn declared_by(alloc: Global, modules: &Imports, tree: &Module) -> Result<Scope, Rejected>
     ensures { Judges (spec.module_rule modules.now tree.now) result }
 {
     if standard_named(&tree.name.name) != StandardName::Other {
-        return Err(Refused::Fault(fault(Code::DeclaredTwice, tree.name.span)));
+        return Err(Rejected::Rule(broken(RuleCode::DeclaredTwice, tree.name.span)));
     }
     let first = Scope::opening(alloc, tree.name.name.copy(alloc)?);
     let scope = imports(alloc, modules, first, tree.imports.as_slice())?;
@@ -564,16 +570,16 @@ pub fn declared_by(alloc: Global, modules: &Imports, tree: &Module) -> Result<Sc
 /// What a module declares but for its procedures, over the modules that are loaded (Wirth, The Programming Language Oberon,
 /// Oberon-07).
 ///
-/// `Refused::Fault` has the code of a broken rule and the place of a token there: those of `declare_all`, and for imports
+/// `Rejected::Rule` has the code of a broken rule and the place of a token there: those of `declare_all`, and for imports
 /// `ImportsItself`, `NotLoaded`, `LeftOut` (SYSTEM) and `DeclaredTwice`, the last also for a module named In, Out or SYSTEM.
-/// `Refused::Memory` where memory was refused.
-pub fn declare_module(alloc: Global, modules: &Imports, tree: &Module) -> Result<Scope, Refused>
+/// `Rejected::Memory` where memory was refused.
+pub fn declare_module(alloc: Global, modules: &Imports, tree: &Module) -> Result<Scope, Rejected>
     // What is answered is what the module declares.
     ensures found { IfOk result (λ d. gives (spec.module_rule modules.now tree.now) d) }
     // Where the rules give a scope it is answered, unless memory runs out.
     ensures only { (d : Scope) → gives (spec.module_rule modules.now tree.now) d → AnswersTree d result }
-    // The code of a refusal is broken, and then the rules give none.
-    ensures faults { FaultsOnly (spec.module_rule modules.now tree.now) result }
+    // The code of a rejection is broken, and then the rules give none.
+    ensures broken { BrokenOnly (spec.module_rule modules.now tree.now) result }
 {
     declared_by(alloc, modules, tree)
 }

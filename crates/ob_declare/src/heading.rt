@@ -9,12 +9,13 @@ ghost use Rattle.ob_declare.specs.Headings as spec;
 
 use crate::block::{Block, Entry, Standing};
 use crate::declaration::new_name;
-use crate::fault::{fault, open};
 use crate::imports::Imports;
 use crate::names::Names;
+use crate::rejected::{Rejected, broken, open};
+use crate::rule::RuleCode;
 use crate::scope::Scope;
 use crate::written_type::type_in_heading;
-use ob_base::{Boxed, Code, Items, Refused, Shared};
+use ob_base::{Boxed, Items, Shared};
 use ob_parse::tree::{FormalSection, FormalType, Formals, Ident, Procedure, Qualident};
 use ob_scan::Span;
 use ob_types::{Basic, Formal, FormalKind, ObType, Signature, is_admitted};
@@ -43,12 +44,12 @@ pub struct Entered {
 
 /// An open array of a type.
 #[tactic(auto, unfolding(crate::specs::Headings::open_of))]
-fn open_of(alloc: Global, element: ObType, span: Span) -> Result<ObType, Refused>
+fn open_of(alloc: Global, element: ObType, span: Span) -> Result<ObType, Rejected>
     ensures { Judges (spec.open_of element) result }
 {
     let of = ObType::Open(Shared::new(alloc, element)?);
     if !is_admitted(&of) {
-        return Err(Refused::Fault(fault(Code::Size, span)));
+        return Err(Rejected::Rule(broken(RuleCode::Size, span)));
     }
     Ok(of)
 }
@@ -63,7 +64,7 @@ fn formal_type(
     parameters: &Block,
     levels: u32,
     of: &FormalType,
-) -> Result<ObType, Refused>
+) -> Result<ObType, Rejected>
     ensures { Judges (spec.formal_at modules.now (in_heading scope.now parameters.now) levels of.now) result }
 {
     match of {
@@ -94,7 +95,7 @@ fn inner_formal(
     levels: u32,
     span: Span,
     of: &FormalType,
-) -> Result<ObType, Refused>
+) -> Result<ObType, Rejected>
     ensures { Judges (spec.inner_formal modules.now (in_heading scope.now parameters.now) levels of.now) result }
 {
     let inside = open(levels, span)?;
@@ -131,12 +132,12 @@ fn parameter(
     of: &ObType,
     so_far: Parameters,
     name: &Ident,
-) -> Result<Parameters, Refused>
+) -> Result<Parameters, Rejected>
     ensures { Judges (spec.parameter_rule by_reference of.now so_far name.now) result }
 {
     let mut so_far = so_far;
     if so_far.block.find(&name.name).is_some() {
-        return Err(Refused::Fault(fault(Code::DeclaredTwice, name.span)));
+        return Err(Rejected::Rule(broken(RuleCode::DeclaredTwice, name.span)));
     }
     let number = so_far.block.declared().len();
     let entry = Entry::Variable(of.another()?, standing_of(by_reference, of, number));
@@ -154,7 +155,7 @@ fn all_parameters(
     of: &ObType,
     first: Parameters,
     names: &[Ident],
-) -> Result<Parameters, Refused>
+) -> Result<Parameters, Rejected>
     ensures { Judges (through (spec.parameter_rule by_reference of.now) first names.now) result }
 {
     let mut so_far = first;
@@ -165,7 +166,7 @@ fn all_parameters(
 }
 
 /// The names of parameters of one type, none of which stands in the heading before.
-fn parameter_names(alloc: Global, block: &Block, list: &[Ident]) -> Result<Names, Refused>
+fn parameter_names(alloc: Global, block: &Block, list: &[Ident]) -> Result<Names, Rejected>
     ensures { Judges (through (spec.parameter_name block.now) [] list.now) result }
 {
     let mut so_far = Names::new(alloc);
@@ -181,7 +182,7 @@ fn parameters_of(
     of: &ObType,
     so_far: Parameters,
     x: &FormalSection,
-) -> Result<Parameters, Refused>
+) -> Result<Parameters, Rejected>
     ensures { Judges (spec.parameters_of of.now so_far x.now) result }
 {
     all_parameters(
@@ -202,7 +203,7 @@ fn typed_parameters(
     scope: &Scope,
     so_far: Parameters,
     x: &FormalSection,
-) -> Result<Parameters, Refused>
+) -> Result<Parameters, Rejected>
     ensures { Judges (spec.typed_parameters modules.now levels scope.now so_far x.now) result }
 {
     let of = formal_type(alloc, modules, scope, &so_far.block, levels, x.of.get())?;
@@ -218,7 +219,7 @@ fn section(
     scope: &Scope,
     so_far: Parameters,
     x: &FormalSection,
-) -> Result<Parameters, Refused>
+) -> Result<Parameters, Rejected>
     ensures { Judges (spec.section_rule modules.now levels scope.now so_far x.now) result }
 {
     let _names = parameter_names(alloc, &so_far.block, x.names.as_slice())?;
@@ -231,7 +232,7 @@ fn sections(
     levels: u32,
     scope: &Scope,
     list: &[FormalSection],
-) -> Result<Parameters, Refused>
+) -> Result<Parameters, Rejected>
     ensures { Judges (through (spec.section_rule modules.now levels scope.now) spec.no_parameters list.now) result }
 {
     let mut so_far = Parameters {
@@ -245,12 +246,12 @@ fn sections(
 }
 
 #[tactic(auto, unfolding(crate::specs::Headings::basic_of))]
-fn basic_of(of: &ObType, span: Span) -> Result<Basic, Refused>
+fn basic_of(of: &ObType, span: Span) -> Result<Basic, Rejected>
     ensures { Judges (spec.basic_of of.now) result }
 {
     match of {
         ObType::Basic(basic) => Ok(*basic),
-        _ => Err(Refused::Fault(fault(Code::Parameters, span))),
+        _ => Err(Rejected::Rule(broken(RuleCode::Parameters, span))),
     }
 }
 
@@ -261,7 +262,7 @@ fn result_type(
     scope: &Scope,
     parameters: &Block,
     name: &Option<Qualident>,
-) -> Result<Option<Basic>, Refused>
+) -> Result<Option<Basic>, Rejected>
     ensures { Judges (spec.result_rule modules.now (in_heading scope.now parameters.now) name.now) result }
 {
     match name {
@@ -281,7 +282,7 @@ fn formals(
     levels: u32,
     scope: &Scope,
     formals: &Formals,
-) -> Result<Heading, Refused>
+) -> Result<Heading, Rejected>
     ensures { Judges (spec.formals_rule modules.now levels scope.now formals.now) result }
 {
     let parameters = sections(alloc, modules, levels, scope, formals.sections.as_slice())?;
@@ -303,7 +304,7 @@ fn written_heading(
     levels: u32,
     scope: &Scope,
     list: &Option<Boxed<Formals>>,
-) -> Result<Heading, Refused>
+) -> Result<Heading, Rejected>
     ensures { Judges (spec.heading_rule modules.now levels scope.now list.now) result }
 {
     match list {
@@ -327,7 +328,7 @@ fn new_procedure(
     number: usize,
     scope: Scope,
     p: &Procedure,
-) -> Result<Entered, Refused>
+) -> Result<Entered, Rejected>
     requires { find scope.block (out-Procedure p.now).name.name.name ≡ None }
     ensures { Judges (spec.new_procedure modules.now levels number scope p.now) result }
 {
@@ -344,9 +345,9 @@ fn new_procedure(
 /// Declares a procedure, which has this number among those of the module, by its heading, and goes inside (Wirth, The
 /// Programming Language Oberon, Oberon-07: procedure declarations). `levels` says how many more constructs may nest in it.
 ///
-/// `Refused::Fault`: `DeclaredTwice` where the block has the name, or the heading a parameter's name twice; `UnknownName`,
+/// `Rejected::Rule`: `DeclaredTwice` where the block has the name, or the heading a parameter's name twice; `UnknownName`,
 /// `LeftOut`, `Types` and `NotExported` for what is no type's name; `Parameters` where the result is of no basic type; `Size`
-/// where an open array has more than 200 levels, or more open arrays nest than may. `Refused::Memory` where memory was
+/// where an open array has more than 200 levels, or more open arrays nest than may. `Rejected::Memory` where memory was
 /// refused. The scope is gone then.
 #[tactic(auto, unfolding(crate::specs::Headings::procedure_rule))]
 pub fn enter_procedure(
@@ -356,12 +357,12 @@ pub fn enter_procedure(
     number: usize,
     scope: Scope,
     p: &Procedure,
-) -> Result<Entered, Refused>
+) -> Result<Entered, Rejected>
     ensures { Judges (spec.procedure_rule modules.now levels number scope p.now) result }
 {
     let name = &p.name.name;
     if scope.block.find(&name.name).is_some() {
-        return Err(Refused::Fault(fault(Code::DeclaredTwice, name.span)));
+        return Err(Rejected::Rule(broken(RuleCode::DeclaredTwice, name.span)));
     }
     new_procedure(alloc, modules, levels, number, scope, p)
 }

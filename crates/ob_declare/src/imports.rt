@@ -4,39 +4,46 @@ ghost use Rattle.std.specs.Prelude.{◌≡◌, ◌++◌, [], Some, None, OnOk, O
 ghost use Rattle.ob_declare.specs.Imports as spec;
 ghost use Rattle.ob_declare.specs.Imports.{reaches};
 ghost use Rattle.ob_declare.specs.Exports as exports_spec;
-ghost use Rattle.ob_declare.specs.Names.{place_in, is_among};
+ghost use Rattle.ob_declare.specs.Names as names_spec;
+ghost use Rattle.ob_declare.specs.Names.{place_in};
+ghost use Rattle.ob_declare.specs.Tables.{IsTableOf};
 
 use crate::names::Names;
-use ob_base::{Items, Text};
+use ob_base::{Boxed, Text};
 use ob_types::{Exported, Interface, Object};
 use std::alloc::{AllocError, Global};
 use std::marker::Model;
 
-/// A module that is loaded: its interface, and the names of the modules that it reaches by its imports and theirs.
+// What a module exports, and the variables and the procedures among that, each name with its place.
 #[derive(Drop)]
-pub struct LoadedModule {
-    interface: Interface,
-    reached: Names,
-    /// What it exports, and the variables and the procedures among that.
+struct Tables {
     names: Names,
     variables: Names,
     procedures: Names,
 }
 
+/// A module that is loaded: its interface, and the names of the modules that it reaches by its imports and theirs.
+#[derive(Drop)]
+pub struct LoadedModule {
+    interface: Interface,
+    reached: Vec<Text>,
+    /// Made where names of it are looked up often.
+    tables: Option<Boxed<Tables>>,
+}
+
 impl Model for LoadedModule {
-    ghost use Rattle.std.specs.Prelude.{◌≡◌};
     ghost use Rattle.std.specs.Coded.{codes};
     ghost use Rattle.ob_types.specs.contracts.structure.ObType as structure;
     ghost use Rattle.ob_declare.specs.LoadedTree.{LoadedTree};
-    ghost use Rattle.ob_declare.specs.Exports.{names_of, variables_in, procedures_in};
+    ghost use Rattle.ob_declare.specs.Tables.{AreTablesOf};
 
     ghost Value = { LoadedTree };
 
     ghost coded = { Prim.hlevel (codes, structure.the_row.coded) };
 
-    ghost view = { λ m. record { interface = m.interface; reached = m.reached } };
+    ghost view = { λ m. record { interface = m.interface; reached = m.reached.items } };
 
-    ghost invariant = { λ m. (m.names ≡ names_of m.interface.exports) × (m.variables ≡ variables_in m.interface.exports) × (m.procedures ≡ procedures_in m.interface.exports) };
+    ghost invariant = { λ m. AreTablesOf m.interface.exports m.tables };
 }
 
 fn names_of(alloc: Global, exports: &[Exported]) -> Result<Names, AllocError>
@@ -73,37 +80,82 @@ fn procedures_in(alloc: Global, exports: &[Exported]) -> Result<Names, AllocErro
     Ok(so_far)
 }
 
-fn copied_object(alloc: Global, object: &Object) -> Result<Object, AllocError>
-    ensures { IfOk result (λ o. o ≡ object.now) }
+fn tables_of(alloc: Global, exports: &[Exported]) -> Result<Tables, AllocError>
+    ensures { IfOk result (λ t. IsTableOf exports.now t) }
 {
-    match object {
-        Object::Constant(constant) => Ok(Object::Constant(constant.copy(alloc)?)),
-        Object::TypeName(of) => Ok(Object::TypeName(of.another()?)),
-        Object::Variable(of) => Ok(Object::Variable(of.another()?)),
-        Object::Procedure(signature) => Ok(Object::Procedure(signature.copy(alloc)?)),
-    }
+    let names = names_of(alloc, exports)?;
+    let variables = variables_in(alloc, exports)?;
+    let procedures = procedures_in(alloc, exports)?;
+    Ok(Tables {
+        names,
+        variables,
+        procedures,
+    })
 }
 
-fn copied_exports(alloc: Global, exports: &[Exported]) -> Result<Items<Exported>, AllocError>
-    ensures { IfOk result (λ es. es ≡ exports.now) }
+fn copied_names(alloc: Global, names: &[Text]) -> Result<Vec<Text>, AllocError>
+    ensures { IfOk result (λ ns. ns.items ≡ names.now) }
 {
-    let mut so_far = Items::new(alloc);
-    for e in exports {
-        let name = e.name.copy(alloc)?;
-        let object = copied_object(alloc, &e.object)?;
-        so_far.push(Exported { name, object })?;
-    }
-    Ok(so_far)
-}
-
-fn copied_names(alloc: Global, names: &[Text]) -> Result<Names, AllocError>
-    ensures { IfOk result (λ ns. ns ≡ names.now) }
-{
-    let mut so_far = Names::new(alloc);
+    let mut so_far = Vec::new(alloc);
     for name in names {
-        so_far.push(alloc, name)?;
+        so_far.push(name.copy(alloc)?)?;
     }
     Ok(so_far)
+}
+
+fn is_among(names: &[Text], name: &Text) -> bool
+    ensures { result ≡ names_spec.is_among names.now name.now }
+{
+    for each in names {
+        if each.same(name) {
+            return true;
+        }
+    }
+    false
+}
+
+// What these have under a name.
+fn exported_in<'a>(exports: &'a [Exported], name: &Text) -> Option<&'a Object>
+    ensures { option_copied result ≡ exports_spec.exported_in exports.now name.now }
+{
+    for e in exports {
+        if e.name.same(name) {
+            return Some(&e.object);
+        }
+    }
+    None
+}
+
+// The number of the variable of a name among the variables of these.
+fn variable_place(exports: &[Exported], name: &Text) -> Option<usize>
+    ensures { result ≡ place_in (exports_spec.variables_in exports.now) name.now }
+{
+    let mut before = 0;
+    for e in exports {
+        if let Object::Variable(_) = &e.object {
+            if e.name.same(name) {
+                return Some(before);
+            }
+            before += 1;
+        }
+    }
+    None
+}
+
+// The number of the procedure of a name among the procedures of these.
+fn procedure_place(exports: &[Exported], name: &Text) -> Option<usize>
+    ensures { result ≡ place_in (exports_spec.procedures_in exports.now) name.now }
+{
+    let mut before = 0;
+    for e in exports {
+        if let Object::Procedure(_) = &e.object {
+            if e.name.same(name) {
+                return Some(before);
+            }
+            before += 1;
+        }
+    }
+    None
 }
 
 fn object_in(exports: &[Exported], place: usize) -> Option<&Object>
@@ -111,6 +163,17 @@ fn object_in(exports: &[Exported], place: usize) -> Option<&Object>
 {
     match exports.get(place) {
         Some(exported) => Some(&exported.object),
+        None => None,
+    }
+}
+
+// The same by tables.
+fn exported_by<'a>(tables: &Tables, exports: &'a [Exported], name: &Text) -> Option<&'a Object>
+    requires { IsTableOf exports.now tables.now }
+    ensures { option_copied result ≡ exports_spec.exported_in exports.now name.now }
+{
+    match tables.names.place_of(name) {
+        Some(place) => object_in(exports, place),
         None => None,
     }
 }
@@ -124,18 +187,12 @@ impl LoadedModule {
     ) -> Result<LoadedModule, AllocError>
         ensures { IfOk result (λ m. m ≡ record { interface = interface.now; reached = reached.now }) }
     {
-        let names = names_of(alloc, interface.exports())?;
-        let variables = variables_in(alloc, interface.exports())?;
-        let procedures = procedures_in(alloc, interface.exports())?;
         let reached = copied_names(alloc, reached)?;
-        let exports = copied_exports(alloc, interface.exports())?;
-        let interface = Interface::new(alloc, interface.name().copy(alloc)?, exports)?;
+        let interface = interface.another()?;
         Ok(LoadedModule {
             interface,
             reached,
-            names,
-            variables,
-            procedures,
+            tables: None,
         })
     }
 
@@ -154,31 +211,48 @@ impl LoadedModule {
     }
 
     fn reaches(&self, name: &Text) -> bool
-        ensures { result ≡ is_among self.now.reached name.now }
+        ensures { result ≡ names_spec.is_among self.now.reached name.now }
     {
-        self.reached.contains(name)
+        is_among(self.reached.as_slice(), name)
+    }
+
+    // Makes its tables. It stays the same module.
+    fn index(&mut self, alloc: Global) -> Result<(), AllocError>
+        ensures { self.new ≡ self.old }
+    {
+        if self.tables.is_none() {
+            let tables = tables_of(alloc, self.interface.exports())?;
+            self.tables = Some(Boxed::new(alloc, tables)?);
+        }
+        Ok(())
     }
 
     /// What it exports under a name.
     fn exported(&self, name: &Text) -> Option<&Object>
         ensures { option_copied result ≡ exports_spec.exported_in self.now.interface.exports name.now }
     {
-        match self.names.place_of(name) {
-            Some(place) => object_in(self.interface.exports(), place),
-            None => None,
+        match &self.tables {
+            Some(tables) => exported_by(tables.get(), self.interface.exports(), name),
+            None => exported_in(self.interface.exports(), name),
         }
     }
 
     fn variable(&self, name: &Text) -> Option<usize>
         ensures { result ≡ place_in (exports_spec.variables_in self.now.interface.exports) name.now }
     {
-        self.variables.place_of(name)
+        match &self.tables {
+            Some(tables) => tables.get().variables.place_of(name),
+            None => variable_place(self.interface.exports(), name),
+        }
     }
 
     fn procedure(&self, name: &Text) -> Option<usize>
         ensures { result ≡ place_in (exports_spec.procedures_in self.now.interface.exports) name.now }
     {
-        self.procedures.place_of(name)
+        match &self.tables {
+            Some(tables) => tables.get().procedures.place_of(name),
+            None => procedure_place(self.interface.exports(), name),
+        }
     }
 }
 
@@ -186,24 +260,34 @@ impl LoadedModule {
 #[derive(Drop)]
 pub struct Imports {
     modules: Vec<LoadedModule>,
-    names: Names,
     alloc: Global,
 }
 
 impl Model for Imports {
-    ghost use Rattle.std.specs.Prelude.{◌≡◌, List};
+    ghost use Rattle.std.specs.Prelude.{List};
     ghost use Rattle.std.specs.Coded.{codes};
     ghost use Rattle.ob_types.specs.contracts.structure.ObType as structure;
     ghost use Rattle.ob_declare.specs.LoadedTree.{LoadedTree};
-    ghost use Rattle.ob_declare.specs.Exports.{module_names};
 
     ghost Value = { List LoadedTree };
 
     ghost coded = { Prim.hlevel (codes, structure.the_row.coded) };
 
     ghost view = { λ i. i.modules.items };
+}
 
-    ghost invariant = { λ i. i.names ≡ module_names i.modules.items };
+// The first place of a name among those of these.
+fn place_among(modules: &[LoadedModule], name: &Text) -> Option<usize>
+    ensures { result ≡ place_in (exports_spec.module_names modules.now) name.now }
+{
+    let mut before = 0;
+    for module in modules {
+        if module.interface().name().same(name) {
+            return Some(before);
+        }
+        before += 1;
+    }
+    None
 }
 
 fn or_zero(number: Option<usize>) -> usize
@@ -222,7 +306,6 @@ impl Imports {
     {
         Imports {
             modules: Vec::new(alloc),
-            names: Names::new(alloc),
             alloc,
         }
     }
@@ -248,12 +331,30 @@ impl Imports {
         ensures ok { OnOk result (self.new ≡ spec.added self.old loaded) }
         ensures err { OnErr result (self.new ≡ self.old) }
     {
-        self.modules.reserve(1)?;
-        self.names.push(self.alloc, loaded.interface().name())?;
-        match self.modules.push(loaded) {
-            Ok(()) => Ok(()),
-            Err(_) => unreachable!(),
+        self.modules.push(loaded)?;
+        Ok(())
+    }
+
+    /// A module more, of a name that none of them has, with the names of the modules that it reaches by its imports and theirs.
+    /// It looks at none of the others. Want of memory leaves the modules as they were.
+    pub fn push(&mut self, interface: &Interface, reached: &[Text]) -> Result<(), AllocError>
+        requires { spec.module_place self.old interface.now.name ≡ None }
+        ensures ok { OnOk result (self.new ≡ spec.added self.old (record { interface = interface.now; reached = reached.now })) }
+        ensures err { OnErr result (self.new ≡ self.old) }
+    {
+        let loaded = LoadedModule::new(self.alloc, interface, reached)?;
+        self.append(loaded)
+    }
+
+    /// Makes the look-up of names in the module at this place quick, if there is one. Nothing that is seen changes. Or want of
+    /// memory.
+    pub fn index_at(&mut self, place: usize) -> Result<(), AllocError>
+        ensures { self.new ≡ self.old }
+    {
+        if place < self.modules.len() {
+            self.modules[place].index(self.alloc)?;
         }
+        Ok(())
     }
 
     /// A module more, with the names of the modules that it reaches by its imports and theirs. It takes the place of the one
@@ -310,7 +411,7 @@ impl Imports {
     pub(crate) fn place_of(&self, name: &Text) -> Option<usize>
         ensures { result ≡ spec.module_place self.now name.now }
     {
-        self.names.place_of(name)
+        place_among(self.modules.as_slice(), name)
     }
 
     /// Whether the loaded module at this place reaches a module by its imports and theirs.

@@ -5,13 +5,14 @@
 mod block;
 pub mod constant;
 mod declaration;
-pub mod fault;
 mod folding;
 mod heading;
 mod imports;
 mod interface;
 mod names;
 pub mod predeclared;
+pub mod rejected;
+pub mod rule;
 mod scope;
 mod stack;
 mod texts;

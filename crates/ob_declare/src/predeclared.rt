@@ -3,7 +3,8 @@
 ghost use Rattle.std.specs.Prelude.{◌≡◌};
 ghost use Rattle.ob_declare.specs.Predeclared as spec;
 
-use ob_base::{Code, Text};
+use crate::rule::RuleCode;
+use ob_base::Text;
 use ob_types::Basic;
 
 /// A function that is declared before any module.
@@ -182,13 +183,14 @@ pub fn predeclared_named(name: &Text) -> Predeclared
 }
 
 /// What is broken where nothing declares a name that has to stand for a value, or for a type.
-pub fn absent(predeclared: Predeclared) -> Code
+pub fn absent(predeclared: Predeclared) -> RuleCode
     ensures { result ≡ spec.absent predeclared }
 {
     match predeclared {
-        Predeclared::LeftOut => Code::LeftOut,
-        Predeclared::Unknown => Code::UnknownName,
-        Predeclared::Basic(_) | Predeclared::Function(_) | Predeclared::Procedure(_) => Code::Types,
+        Predeclared::LeftOut => RuleCode::LeftOut,
+        Predeclared::Unknown => RuleCode::UnknownName,
+        Predeclared::Basic(_) | Predeclared::Function(_) | Predeclared::Procedure(_) =>
+            RuleCode::Types,
     }
 }
 

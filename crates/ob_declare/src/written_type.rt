@@ -7,12 +7,13 @@ ghost use Rattle.ob_declare.specs.WrittenTypes as spec;
 
 use crate::block::{Block, Entry};
 use crate::constant::constant;
-use crate::fault::{fault, open};
 use crate::imports::Imports;
 use crate::names::Names;
 use crate::predeclared::{Predeclared, absent, input_named, is_input, is_output, output_named};
+use crate::rejected::{Rejected, broken, open};
+use crate::rule::RuleCode;
 use crate::scope::Scope;
-use ob_base::{Code, Items, Refused, Shared, SharedItems};
+use ob_base::{Items, Shared, SharedItems};
 use ob_parse::tree::{Expr, Ident, IdentDef, Qualident, TypeExpr, TypedNames};
 use ob_scan::Span;
 use ob_types::{
@@ -39,44 +40,44 @@ pub struct Fields {
 
 /// The type that a name is which nothing declares.
 #[tactic(auto, unfolding(crate::specs::WrittenTypes::predeclared_type))]
-fn predeclared_type(predeclared: Predeclared, span: Span) -> Result<ObType, Refused>
+fn predeclared_type(predeclared: Predeclared, span: Span) -> Result<ObType, Rejected>
     ensures { Judges (spec.predeclared_type predeclared) result }
 {
     match predeclared {
         Predeclared::Basic(basic) => Ok(ObType::Basic(basic)),
-        _ => Err(Refused::Fault(fault(absent(predeclared), span))),
+        _ => Err(Rejected::Rule(broken(absent(predeclared), span))),
     }
 }
 
 /// The type that a name alone stands for.
 #[tactic(auto, unfolding(crate::specs::WrittenTypes::own_type))]
-fn own_type(entry: Option<&Entry>, predeclared: Predeclared, span: Span) -> Result<ObType, Refused>
+fn own_type(entry: Option<&Entry>, predeclared: Predeclared, span: Span) -> Result<ObType, Rejected>
     ensures { Judges (spec.own_type (option_copied entry.entry) predeclared) result }
 {
     match entry {
         Some(Entry::TypeName(of)) => Ok(of.another()?),
-        Some(_) => Err(Refused::Fault(fault(Code::Types, span))),
+        Some(_) => Err(Rejected::Rule(broken(RuleCode::Types, span))),
         None => predeclared_type(predeclared, span),
     }
 }
 
-fn object_type(object: &Object, span: Span) -> Result<ObType, Refused>
+fn object_type(object: &Object, span: Span) -> Result<ObType, Rejected>
     ensures { Judges (spec.object_type object.now) result }
 {
     match object {
         Object::TypeName(of) => Ok(of.another()?),
-        _ => Err(Refused::Fault(fault(Code::Types, span))),
+        _ => Err(Rejected::Rule(broken(RuleCode::Types, span))),
     }
 }
 
 /// What is broken where a name of In or Out has to stand for a type.
-fn no_type(exported: bool) -> Code
+fn no_type(exported: bool) -> RuleCode
     ensures { result ≡ spec.no_type exported }
 {
     if exported {
-        Code::Types
+        RuleCode::Types
     } else {
-        Code::NotExported
+        RuleCode::NotExported
     }
 }
 
@@ -88,24 +89,24 @@ fn other_type(
     predeclared: Predeclared,
     first: Span,
     name: &Ident,
-) -> Result<ObType, Refused>
+) -> Result<ObType, Rejected>
     ensures { Judges (spec.other_type modules.now (option_copied entry.entry) predeclared name.now.name) result }
 {
     match entry {
         Some(Entry::Module(_, place)) => match modules.exported_at(*place, &name.name) {
             Some(object) => object_type(object, name.span),
-            None => Err(Refused::Fault(fault(Code::NotExported, name.span))),
+            None => Err(Rejected::Rule(broken(RuleCode::NotExported, name.span))),
         },
         Some(Entry::In) => {
             let code = no_type(is_input(input_named(&name.name)));
-            Err(Refused::Fault(fault(code, name.span)))
+            Err(Rejected::Rule(broken(code, name.span)))
         }
         Some(Entry::Out) => {
             let code = no_type(is_output(output_named(&name.name)));
-            Err(Refused::Fault(fault(code, name.span)))
+            Err(Rejected::Rule(broken(code, name.span)))
         }
-        Some(_) => Err(Refused::Fault(fault(Code::Types, first))),
-        None => Err(Refused::Fault(fault(absent(predeclared), first))),
+        Some(_) => Err(Rejected::Rule(broken(RuleCode::Types, first))),
+        None => Err(Rejected::Rule(broken(absent(predeclared), first))),
     }
 }
 
@@ -116,7 +117,7 @@ fn qualified(
     entry: Option<&Entry>,
     predeclared: Predeclared,
     name: &Qualident,
-) -> Result<ObType, Refused>
+) -> Result<ObType, Rejected>
     ensures { Judges (spec.qualified modules.now (option_copied entry.entry) predeclared name.now.second) result }
 {
     let first = name.first.span;
@@ -129,7 +130,7 @@ fn qualified(
 /// The type that a name stands for. 10 and 21 where nothing declares it, 12 where it is no type's, 18 where its module doesn't
 /// export it.
 #[tactic(auto, unfolding(crate::specs::WrittenTypes::type_named))]
-fn type_named(modules: &Imports, scope: &Scope, name: &Qualident) -> Result<ObType, Refused>
+fn type_named(modules: &Imports, scope: &Scope, name: &Qualident) -> Result<ObType, Rejected>
     ensures { Judges (spec.type_named modules.now scope.now name.now) result }
 {
     let first = &name.first.name;
@@ -143,7 +144,7 @@ pub(crate) fn type_in_heading(
     scope: &Scope,
     parameters: &Block,
     name: &Qualident,
-) -> Result<ObType, Refused>
+) -> Result<ObType, Rejected>
     ensures { Judges (spec.type_named modules.now (in_heading scope.now parameters.now) name.now) result }
 {
     let first = &name.first.name;
@@ -157,21 +158,21 @@ pub(crate) fn type_in_heading(
 
 /// The length that a constant is.
 #[tactic(auto, unfolding(crate::specs::WrittenTypes::length_of))]
-fn length_of(constant: &Constant, span: Span) -> Result<u32, Refused>
+fn length_of(constant: &Constant, span: Span) -> Result<u32, Rejected>
     ensures { Judges (spec.length_of constant.now) result }
 {
     match constant {
         Constant::Integer(number) => {
             let number = *number;
             if number < 1 {
-                return Err(Refused::Fault(fault(Code::Size, span)));
+                return Err(Rejected::Rule(broken(RuleCode::Size, span)));
             }
             if number > MAX_CELLS as i32 {
-                return Err(Refused::Fault(fault(Code::Size, span)));
+                return Err(Rejected::Rule(broken(RuleCode::Size, span)));
             }
             Ok(number as u32)
         }
-        _ => Err(Refused::Fault(fault(Code::Types, span))),
+        _ => Err(Rejected::Rule(broken(RuleCode::Types, span))),
     }
 }
 
@@ -182,7 +183,7 @@ fn inner_constant(
     scope: &Scope,
     nesting: u32,
     e: &Expr,
-) -> Result<Constant, Refused>
+) -> Result<Constant, Rejected>
     ensures { Judges (spec.inner_constant modules.now scope.now nesting e.now) result }
 {
     let inside = open(nesting, e.first_token())?;
@@ -198,7 +199,7 @@ fn next_length(
     nesting: u32,
     so_far: Items<u32>,
     e: &Expr,
-) -> Result<Items<u32>, Refused>
+) -> Result<Items<u32>, Rejected>
     ensures { Judges (spec.next_length (spec.inner_constant modules.now scope.now nesting) so_far e.now) result }
 {
     let mut so_far = so_far;
@@ -214,7 +215,7 @@ fn lengths_of(
     scope: &Scope,
     nesting: u32,
     list: &[Expr],
-) -> Result<Items<u32>, Refused>
+) -> Result<Items<u32>, Rejected>
     ensures { Judges (through (spec.next_length (spec.inner_constant modules.now scope.now nesting)) [] list.now) result }
 {
     let mut so_far = Items::new(alloc);
@@ -226,18 +227,23 @@ fn lengths_of(
 
 /// An array of so many of these.
 #[tactic(auto, unfolding(crate::specs::WrittenTypes::array_of))]
-fn array_of(alloc: Global, element: ObType, length: u32, span: Span) -> Result<ObType, Refused>
+fn array_of(alloc: Global, element: ObType, length: u32, span: Span) -> Result<ObType, Rejected>
     ensures { Judges (spec.array_of element length) result }
 {
     let of = ObType::Array(length, Shared::new(alloc, element)?);
     if !is_admitted(&of) {
-        return Err(Refused::Fault(fault(Code::Size, span)));
+        return Err(Rejected::Rule(broken(RuleCode::Size, span)));
     }
     Ok(of)
 }
 
 /// Arrays of arrays, the last length innermost.
-fn arrays_of(alloc: Global, element: ObType, lengths: &[u32], span: Span) -> Result<ObType, Refused>
+fn arrays_of(
+    alloc: Global,
+    element: ObType,
+    lengths: &[u32],
+    span: Span,
+) -> Result<ObType, Rejected>
     ensures { Judges (through spec.array_of element (reverse lengths.now)) result }
 {
     let mut so_far = element;
@@ -259,18 +265,18 @@ fn numbered(alloc: Global, naming: &RecordName, before: u32) -> Result<RecordNam
 
 /// One name of a field more.
 #[tactic(auto, unfolding(crate::specs::WrittenTypes::field_name))]
-fn field_name(alloc: Global, so_far: Names, name: &IdentDef) -> Result<Names, Refused>
+fn field_name(alloc: Global, so_far: Names, name: &IdentDef) -> Result<Names, Rejected>
     ensures { Judges (spec.field_name so_far name.now) result }
 {
     let mut so_far = so_far;
     if so_far.contains(&name.name.name) {
-        return Err(Refused::Fault(fault(Code::DeclaredTwice, name.name.span)));
+        return Err(Rejected::Rule(broken(RuleCode::DeclaredTwice, name.name.span)));
     }
     so_far.push(alloc, &name.name.name)?;
     Ok(so_far)
 }
 
-fn field_names(alloc: Global, first: Names, names: &[IdentDef]) -> Result<Names, Refused>
+fn field_names(alloc: Global, first: Names, names: &[IdentDef]) -> Result<Names, Rejected>
     ensures { Judges (through spec.field_name first names.now) result }
 {
     let mut so_far = first;
@@ -326,7 +332,7 @@ pub fn written_type(
     nesting: u32,
     records: u32,
     t: &TypeExpr,
-) -> Result<Written, Refused>
+) -> Result<Written, Rejected>
     ensures { Judges (spec.type_at modules.now scope.now naming.now nesting records t.now) result }
 {
     match t {
@@ -354,7 +360,7 @@ pub fn written_type(
         }
         TypeExpr::Record(span, fields) => {
             if records == u32::MAX {
-                return Err(Refused::Fault(fault(Code::Size, *span)));
+                return Err(Rejected::Rule(broken(RuleCode::Size, *span)));
             }
             record_type(
                 alloc,
@@ -382,7 +388,7 @@ fn record_type(
     records: u32,
     span: Span,
     list: &[TypedNames],
-) -> Result<Written, Refused>
+) -> Result<Written, Rejected>
     requires { records < 4294967295 }
     ensures { Judges (spec.record_rule (spec.inner_type modules.now scope.now naming.now nesting) naming.now records list.now) result }
 {
@@ -414,7 +420,7 @@ fn all_fields(
     records: u32,
     span: Span,
     list: &[TypedNames],
-) -> Result<Fields, Refused>
+) -> Result<Fields, Rejected>
     ensures { Judges (through (spec.next_fields (spec.inner_type modules.now scope.now naming.now nesting)) (spec.no_fields records) list.now) result }
 {
     let mut so_far = Fields {
@@ -441,7 +447,7 @@ fn next_fields(
     so_far: Fields,
     x: &TypedNames,
     span: Span,
-) -> Result<Fields, Refused>
+) -> Result<Fields, Rejected>
     ensures { Judges (spec.next_fields (spec.inner_type modules.now scope.now naming.now nesting) so_far x.now) result }
 {
     let list = x.names.as_slice();
@@ -466,7 +472,7 @@ fn next_fields(
                 records: written.records,
             })
         }
-        None => Err(Refused::Fault(fault(Code::Size, span))),
+        None => Err(Rejected::Rule(broken(RuleCode::Size, span))),
     }
 }
 
@@ -482,7 +488,7 @@ fn inner_type(
     records: u32,
     span: Span,
     t: &TypeExpr,
-) -> Result<Written, Refused>
+) -> Result<Written, Rejected>
     ensures { Judges (spec.inner_type modules.now scope.now naming.now nesting records t.now) result }
 {
     let inside = open(nesting, span)?;

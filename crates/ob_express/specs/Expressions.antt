@@ -2,7 +2,7 @@
 -- Expressions, variables that are written, and actual parameters (Wirth, The Programming Language Oberon, Oberon-07). The
 -- number says how many more constructs may nest. The variables of the module grow by the strings that are passed and compared, from left to right.
 use Rattle.std.specs.Prelude.{ℕ, zero, suc, List, [], ◌∷◌, ◌++◌, Bool, Option, Some, None, is_some}
-use Rattle.ob_base.specs.declared.fault.Code.TheVariants as code
+use Rattle.ob_declare.specs.declared.rule.RuleCode.TheVariants as code
 use Rattle.ob_scan.specs.declared.token.Span.{Span}
 use Rattle.ob_parse.specs.declared.tree.Sign.{Sign}
 use Rattle.ob_parse.specs.declared.tree.Expr.{Expr, out-Expr}

@@ -2,7 +2,7 @@
 -- Signs, sums and products (Wirth, The Programming Language Oberon, Oberon-07). Operands that operators of one kind join
 -- stand in one list: a tree is no deeper for a longer sum.
 use Rattle.std.specs.Prelude.{ℕ, [], ◌∷◌, ◌++◌, Bool, true, false, Option, Some, None, is_some}
-use Rattle.ob_base.specs.declared.fault.Code.TheVariants as code
+use Rattle.ob_declare.specs.declared.rule.RuleCode.TheVariants as code
 use Rattle.ob_scan.specs.declared.token.Span.{Span}
 use Rattle.ob_parse.specs.declared.tree.Sign.{Sign}
 use Rattle.ob_parse.specs.declared.tree.Sign.TheVariants as sign

@@ -2,8 +2,8 @@
 -- What names stand for in expressions, as variables that are written, and in calls (Wirth, The Programming Language Oberon,
 -- Oberon-07; In and Out after the Oakwood Guidelines). Imported variables and structured value parameters are read-only.
 use Rattle.std.specs.Prelude.{ℕ, List, [], ◌∷◌, Bool, true, false, Option, Some, None}
-use Rattle.ob_base.specs.declared.fault.Code.{Code}
-use Rattle.ob_base.specs.declared.fault.Code.TheVariants as code
+use Rattle.ob_declare.specs.declared.rule.RuleCode.{RuleCode}
+use Rattle.ob_declare.specs.declared.rule.RuleCode.TheVariants as code
 use Rattle.ob_parse.specs.declared.tree.Designator.{Designator, out-Designator}
 use Rattle.ob_parse.specs.declared.tree.Selector.{Selector, out-Selector}
 use Rattle.ob_parse.specs.declared.tree.Factor.TheOpen.{Selector-F}
@@ -92,7 +92,7 @@ read_at ms s d =
 -- ---- names that are written
 
 -- what is broken where nothing declares a name that has to stand for a variable
-abbrev pub no_variable : Predeclared → Code
+abbrev pub no_variable : Predeclared → RuleCode
 no_variable predeclared.LeftOut = code.LeftOut
 no_variable predeclared.Unknown = code.UnknownName
 no_variable (predeclared.Basic b) = code.ReadOnly
@@ -100,7 +100,7 @@ no_variable (predeclared.Function f) = code.ReadOnly
 no_variable (predeclared.Procedure p) = code.ReadOnly
 
 -- what is broken where something of another module would be written: that it isn't there, or may not be
-abbrev pub unwritten : Bool → Code
+abbrev pub unwritten : Bool → RuleCode
 unwritten true = code.ReadOnly
 unwritten false = code.NotExported
 
@@ -121,13 +121,13 @@ abbrev pub has_object : Modules → ℕ → SelectorLayer → Bool
 has_object ms place (Selector-F.Field f) = is_object (exported_at ms place f.name)
 has_object ms place (Selector-F.Index es) = true
 
-unfoldable pub input_written : Selector → Code
+unfoldable pub input_written : Selector → RuleCode
 input_written x = unwritten (has_input (out-Selector x))
 
-unfoldable pub output_written : Selector → Code
+unfoldable pub output_written : Selector → RuleCode
 output_written x = unwritten (has_output (out-Selector x))
 
-unfoldable pub object_written : Modules → ℕ → Selector → Code
+unfoldable pub object_written : Modules → ℕ → Selector → RuleCode
 object_written ms place x = unwritten (has_object ms place (out-Selector x))
 
 -- a variable that may be written, whatever the selectors behind it select

@@ -1,7 +1,7 @@
 -- To be believed.
 -- Operands: values of basic type, strings, and structured things (Wirth, The Programming Language Oberon, Oberon-07).
 use Rattle.std.specs.Prelude.{ℕ, ℤ, pos, ◌+◌, List, [], ◌∷◌, ◌++◌, length, Bool, true, false, Option, Some, None}
-use Rattle.ob_base.specs.declared.fault.Code.TheVariants as code
+use Rattle.ob_declare.specs.declared.rule.RuleCode.TheVariants as code
 use Rattle.ob_types.specs.declared.exports.Constant.{Constant}
 use Rattle.ob_types.specs.declared.exports.Constant.TheVariants as constant
 use Rattle.ob_types.specs.declared.structure.Basic.{Basic}

@@ -3,7 +3,7 @@
 -- be written, of the same type; a structured value a variable of the same type or a string; an open array any array of the
 -- same element.
 use Rattle.std.specs.Prelude.{ℕ, ◌+◌, List, length, Bool, false, Option, Some, None, nat_lt, if◌then◌else◌}
-use Rattle.ob_base.specs.declared.fault.Code.TheVariants as code
+use Rattle.ob_declare.specs.declared.rule.RuleCode.TheVariants as code
 use Rattle.ob_types.specs.declared.structure.ObType.{ObType, out-ObType}
 use Rattle.ob_types.specs.declared.structure.ObType.TheOpen.{ObType-F}
 use Rattle.ob_types.specs.Types.{is_char, same}

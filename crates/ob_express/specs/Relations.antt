@@ -2,7 +2,7 @@
 -- Relations (Wirth, The Programming Language Oberon, Oberon-07): of numbers, of characters, of truth values by `=` and `#`,
 -- and of texts, which are strings and arrays of CHAR.
 use Rattle.std.specs.Prelude.{ℕ, [], ◌∷◌, Bool, true, false, ◌&&◌}
-use Rattle.ob_base.specs.declared.fault.Code.TheVariants as code
+use Rattle.ob_declare.specs.declared.rule.RuleCode.TheVariants as code
 use Rattle.ob_parse.specs.declared.tree.Relation.{Relation as Written}
 use Rattle.ob_parse.specs.declared.tree.Relation.TheVariants as written
 use Rattle.ob_types.specs.declared.structure.Basic.{Basic}

@@ -3,8 +3,8 @@
 -- module sees the exported fields alone.
 use Rattle.std.specs.Prelude.{ℕ, ◌+◌, List, [], ◌∷◌, Bool, true, false, ◌||◌, Option, Some, None, if◌then◌else◌}
 use Rattle.std.specs.Str.{bytes_eq}
-use Rattle.ob_base.specs.declared.fault.Code.{Code}
-use Rattle.ob_base.specs.declared.fault.Code.TheVariants as code
+use Rattle.ob_declare.specs.declared.rule.RuleCode.{RuleCode}
+use Rattle.ob_declare.specs.declared.rule.RuleCode.TheVariants as code
 use Rattle.ob_parse.specs.declared.tree.Expr.{Expr}
 use Rattle.ob_parse.specs.declared.tree.Selector.{Selector, out-Selector}
 use Rattle.ob_parse.specs.declared.tree.Factor.TheOpen.{Selector-F}
@@ -29,7 +29,7 @@ field_from n [] name = None
 field_from n (f ∷ fs) name = if bytes_eq f.name name then Some (n, f) else field_from (n + 1) fs name
 
 -- what is broken where a record has no such field: its own module would see it
-abbrev pub no_field : Bool → Code
+abbrev pub no_field : Bool → RuleCode
 no_field true = code.UnknownName
 no_field false = code.NotExported
 

@@ -20,9 +20,10 @@ use crate::operand::{
 use crate::passing::{value_passed, variable_argument};
 use crate::relations::{may_relate, related, relation_of};
 use crate::selecting::{element_of, field_of};
-use ob_base::{Boxed, Code, Items, Refused};
-use ob_declare::fault::{fault, open};
+use ob_base::{Boxed, Items};
 use ob_declare::predeclared::Function;
+use ob_declare::rejected::{Rejected, broken, open};
+use ob_declare::rule::RuleCode;
 use ob_declare::{Imports, Scope};
 use ob_mean::{Argument, Callee, Designator, TypedExpr};
 use ob_parse::tree::{
@@ -99,7 +100,7 @@ pub fn expr(
     levels: u32,
     variables: Variables,
     e: &Expr,
-) -> Result<(Operand, Variables), Refused>
+) -> Result<(Operand, Variables), Rejected>
     ensures { Judges (spec.expr_at imports.now scope.now levels variables e.now) result }
 {
     let (left, variables) = simple(alloc, imports, scope, levels, variables, &e.left)?;
@@ -116,14 +117,14 @@ fn relation(
     left: Operand,
     variables: Variables,
     right: &Option<Related>,
-) -> Result<(Operand, Variables), Refused>
+) -> Result<(Operand, Variables), Rejected>
     ensures { Judges (spec.related_at imports.now scope.now levels (left, variables) right.now) result }
 {
     match right {
         None => Ok((left, variables)),
         Some(right) => {
             if !may_relate(relation_of(right.relation), &left) {
-                return Err(Refused::Fault(fault(Code::Types, right.span)));
+                return Err(Rejected::Rule(broken(RuleCode::Types, right.span)));
             }
             let (other, variables) = simple(
                 alloc,
@@ -154,7 +155,7 @@ fn simple(
     levels: u32,
     variables: Variables,
     x: &Simple,
-) -> Result<(Operand, Variables), Refused>
+) -> Result<(Operand, Variables), Rejected>
     ensures { Judges (spec.simple_at imports.now scope.now levels variables x.now) result }
 {
     let (first, variables) = term(alloc, imports, scope, levels, variables, &x.first)?;
@@ -180,7 +181,7 @@ fn added_terms(
     first: Joined,
     variables: Variables,
     others: &[AddedTerm],
-) -> Result<(Joined, Variables), Refused>
+) -> Result<(Joined, Variables), Rejected>
     ensures { Judges (through (spec.added_term_at imports.now scope.now levels) (first, variables) others.now) (result_map (λ p. (p.0, p.1)) result) }
 {
     let mut so_far = (first, variables);
@@ -201,11 +202,11 @@ fn added_term(
     left: Joined,
     variables: Variables,
     x: &AddedTerm,
-) -> Result<(Joined, Variables), Refused>
+) -> Result<(Joined, Variables), Rejected>
     ensures { Judges (spec.added_term_at imports.now scope.now levels (left, variables) x.now) (result_map (λ p. (p.0, p.1)) result) }
 {
     if !may_join(add_joining(x.operator), &left) {
-        return Err(Refused::Fault(fault(Code::Types, x.span)));
+        return Err(Rejected::Rule(broken(RuleCode::Types, x.span)));
     }
     let (right, variables) = term(alloc, imports, scope, levels, variables, &x.term)?;
     let all = with_operand(alloc, add_joining(x.operator), x.span, left, right)?;
@@ -221,7 +222,7 @@ fn term(
     levels: u32,
     variables: Variables,
     t: &Term,
-) -> Result<(Operand, Variables), Refused>
+) -> Result<(Operand, Variables), Rejected>
     ensures { Judges (spec.term_at imports.now scope.now levels variables t.now) result }
 {
     let (first, variables) = factor(alloc, imports, scope, levels, variables, &t.first)?;
@@ -246,7 +247,7 @@ fn next_factors(
     first: Joined,
     variables: Variables,
     others: &[NextFactor],
-) -> Result<(Joined, Variables), Refused>
+) -> Result<(Joined, Variables), Rejected>
     ensures { Judges (through (spec.next_factor_at imports.now scope.now levels) (first, variables) others.now) (result_map (λ p. (p.0, p.1)) result) }
 {
     let mut so_far = (first, variables);
@@ -267,11 +268,11 @@ fn next_factor(
     left: Joined,
     variables: Variables,
     x: &NextFactor,
-) -> Result<(Joined, Variables), Refused>
+) -> Result<(Joined, Variables), Rejected>
     ensures { Judges (spec.next_factor_at imports.now scope.now levels (left, variables) x.now) (result_map (λ p. (p.0, p.1)) result) }
 {
     if !may_join(mul_joining(x.operator), &left) {
-        return Err(Refused::Fault(fault(Code::Types, x.span)));
+        return Err(Rejected::Rule(broken(RuleCode::Types, x.span)));
     }
     let (right, variables) = factor(alloc, imports, scope, levels, variables, &x.factor)?;
     let all = with_operand(alloc, mul_joining(x.operator), x.span, left, right)?;
@@ -287,7 +288,7 @@ fn factor(
     levels: u32,
     variables: Variables,
     f: &Factor,
-) -> Result<(Operand, Variables), Refused>
+) -> Result<(Operand, Variables), Rejected>
     ensures { Judges (spec.factor_at imports.now scope.now levels variables f.now) result }
 {
     match f {
@@ -343,7 +344,7 @@ fn value_named(
     levels: u32,
     variables: Variables,
     named: Named,
-) -> Result<(Operand, Variables), Refused>
+) -> Result<(Operand, Variables), Rejected>
     ensures { Judges (spec.meant_at imports.now scope.now levels (meant named.entry) variables) result }
 {
     match named {
@@ -373,7 +374,7 @@ fn selected<'a>(
     whole: Designator,
     variables: Variables,
     selectors: &[Selector],
-) -> Result<(&'a ObType, Designator, Variables), Refused>
+) -> Result<(&'a ObType, Designator, Variables), Rejected>
     ensures { Judges (through (spec.selected_at imports.now scope.now levels) (of.now, whole, variables) selectors.now) (result_map (λ p. (p.0.now, p.1, p.2)) result) }
 {
     let mut so_far = (of, whole, variables);
@@ -398,7 +399,7 @@ fn next_selected<'a>(
     place: Designator,
     variables: Variables,
     selector: &Selector,
-) -> Result<(&'a ObType, Designator, Variables), Refused>
+) -> Result<(&'a ObType, Designator, Variables), Rejected>
     ensures { Judges (spec.selected_at imports.now scope.now levels (of.now, place, variables) selector.now) (result_map (λ p. (p.0.now, p.1, p.2)) result) }
 {
     match selector {
@@ -431,7 +432,7 @@ fn elements<'a>(
     place: Designator,
     variables: Variables,
     indexes: &[Expr],
-) -> Result<(&'a ObType, Designator, Variables), Refused>
+) -> Result<(&'a ObType, Designator, Variables), Rejected>
     ensures { Judges (through (spec.indexed_at imports.now scope.now levels) (of.now, place, variables) indexes.now) (result_map (λ p. (p.0.now, p.1, p.2)) result) }
 {
     let mut so_far = (of, place, variables);
@@ -454,13 +455,13 @@ fn element<'a>(
     place: Designator,
     variables: Variables,
     e: &Expr,
-) -> Result<(&'a ObType, Designator, Variables), Refused>
+) -> Result<(&'a ObType, Designator, Variables), Rejected>
     ensures { Judges (spec.indexed_at imports.now scope.now levels (of.now, place, variables) e.now) (result_map (λ p. (p.0.now, p.1, p.2)) result) }
 {
     let span = e.first_token();
     let of = element_of(of, span)?;
     let (operand, variables) = nested(alloc, imports, scope, levels, span, variables, e)?;
-    let index = fitting(number_of(operand), Code::Types, span)?;
+    let index = fitting(number_of(operand), RuleCode::Types, span)?;
     let part = Designator::Element(
         Boxed::new(alloc, place)?,
         span.line,
@@ -481,7 +482,7 @@ fn call(
     function: Called,
     span: Span,
     actuals: &[Expr],
-) -> Result<(Operand, Variables), Refused>
+) -> Result<(Operand, Variables), Rejected>
     ensures { Judges (spec.call_at imports.now scope.now levels (callable function.entry) span.line variables actuals.now) result }
 {
     match function {
@@ -503,7 +504,7 @@ fn call(
             )
         }
         Called::Proper(_) | Called::Input(_) | Called::Output(_) => {
-            Err(Refused::Fault(fault(Code::Parameters, span)))
+            Err(Rejected::Rule(broken(RuleCode::Parameters, span)))
         }
     }
 }
@@ -521,11 +522,11 @@ fn function_call(
     formals: &[Formal],
     span: Span,
     actuals: &[Expr],
-) -> Result<(Operand, Variables), Refused>
+) -> Result<(Operand, Variables), Rejected>
     ensures { Judges (spec.function_at imports.now scope.now levels result_type callee formals.now span.line variables actuals.now) result }
 {
     match result_type {
-        None => Err(Refused::Fault(fault(Code::Parameters, span))),
+        None => Err(Rejected::Rule(broken(RuleCode::Parameters, span))),
         Some(basic) => {
             let (passed, variables) = all_passed(
                 alloc, imports, scope, levels, formals, span, variables, actuals,
@@ -547,16 +548,16 @@ fn predeclared_call(
     function: Function,
     span: Span,
     actuals: &[Expr],
-) -> Result<(Operand, Variables), Refused>
+) -> Result<(Operand, Variables), Rejected>
     ensures { Judges (spec.predeclared_at imports.now scope.now levels function span.line variables actuals.now) result }
 {
     match actuals {
-        [] => Err(Refused::Fault(fault(Code::Parameters, span))),
+        [] => Err(Rejected::Rule(broken(RuleCode::Parameters, span))),
         [one, behind @ ..] => {
             let alone = is_alone(one);
             let (value, variables) = nested(alloc, imports, scope, levels, span, variables, one)?;
             if !takes(function, alone, &value) {
-                return Err(Refused::Fault(fault(Code::Parameters, one.first_token())));
+                return Err(Rejected::Rule(broken(RuleCode::Parameters, one.first_token())));
             }
             one_taken(
                 alloc, imports, scope, levels, variables, function, alone, value, span, behind,
@@ -579,7 +580,7 @@ fn one_taken(
     left: Operand,
     span: Span,
     actuals: &[Expr],
-) -> Result<(Operand, Variables), Refused>
+) -> Result<(Operand, Variables), Rejected>
     ensures { Judges (spec.one_taken_at imports.now scope.now levels function span.line alone (left, variables) actuals.now) result }
 {
     match actuals {
@@ -590,7 +591,7 @@ fn one_taken(
         [two, behind @ ..] => {
             let second = two.first_token();
             if shift_of(function).is_none() {
-                return Err(Refused::Fault(fault(Code::Parameters, second)));
+                return Err(Rejected::Rule(broken(RuleCode::Parameters, second)));
             }
             let (right, variables) = nested(alloc, imports, scope, levels, span, variables, two)?;
             match behind {
@@ -598,7 +599,10 @@ fn one_taken(
                     let value = two_of(alloc, function, span, left, right, second)?;
                     Ok((value, variables))
                 }
-                [three, ..] => Err(Refused::Fault(fault(Code::Parameters, three.first_token()))),
+                [three, ..] => Err(Rejected::Rule(broken(
+                    RuleCode::Parameters,
+                    three.first_token(),
+                ))),
             }
         }
     }
@@ -616,7 +620,7 @@ pub fn all_passed(
     span: Span,
     variables: Variables,
     actuals: &[Expr],
-) -> Result<(Items<Argument>, Variables), Refused>
+) -> Result<(Items<Argument>, Variables), Rejected>
     ensures { Judges (spec.all_passed (spec.passed_at imports.now scope.now levels) variables formals.now actuals.now) result }
 {
     let (passed, variables, left) = passed_in_turn(
@@ -624,7 +628,7 @@ pub fn all_passed(
     )?;
     match left {
         [] => Ok((passed, variables)),
-        [_, ..] => Err(Refused::Fault(fault(Code::Parameters, span))),
+        [_, ..] => Err(Rejected::Rule(broken(RuleCode::Parameters, span))),
     }
 }
 
@@ -639,7 +643,7 @@ fn passed_in_turn<'a>(
     span: Span,
     variables: Variables,
     actuals: &[Expr],
-) -> Result<(Items<Argument>, Variables, &'a [Formal]), Refused>
+) -> Result<(Items<Argument>, Variables, &'a [Formal]), Rejected>
     ensures { Judges (through (spec.next_passed_at imports.now scope.now levels) ([], variables, formals.now) actuals.now) (result_map (λ p. (p.0, p.1, p.2.now)) result) }
 {
     let mut so_far = (Items::new(alloc), variables, formals);
@@ -665,11 +669,11 @@ fn next_passed<'a>(
     formals: &'a [Formal],
     span: Span,
     e: &Expr,
-) -> Result<(Items<Argument>, Variables, &'a [Formal]), Refused>
+) -> Result<(Items<Argument>, Variables, &'a [Formal]), Rejected>
     ensures { Judges (spec.next_passed_at imports.now scope.now levels (so_far, variables, formals.now) e.now) (result_map (λ p. (p.0, p.1, p.2.now)) result) }
 {
     match formals {
-        [] => Err(Refused::Fault(fault(Code::Parameters, e.first_token()))),
+        [] => Err(Rejected::Rule(broken(RuleCode::Parameters, e.first_token()))),
         [formal, left @ ..] => {
             let (argument, variables) = actual(
                 alloc, imports, scope, levels, variables, formal, span, e,
@@ -693,7 +697,7 @@ pub fn actual(
     formal: &Formal,
     span: Span,
     e: &Expr,
-) -> Result<(Argument, Variables), Refused>
+) -> Result<(Argument, Variables), Rejected>
     ensures { Judges (spec.passed_at imports.now scope.now levels formal.now variables e.now) result }
 {
     let inside = open(levels, span)?;
@@ -720,7 +724,7 @@ fn actual_of_kind(
     kind: FormalKind,
     formal: &ObType,
     e: &Expr,
-) -> Result<(Argument, Variables), Refused>
+) -> Result<(Argument, Variables), Rejected>
     ensures { Judges (spec.actual_rule (spec.expr_within imports.now scope.now levels) (spec.target_within imports.now scope.now levels) kind formal.now variables e.now) result }
 {
     match kind {
@@ -744,11 +748,11 @@ fn variable_actual(
     formal: &ObType,
     d: Option<&Written>,
     span: Span,
-) -> Result<(Argument, Variables), Refused>
+) -> Result<(Argument, Variables), Rejected>
     ensures { Judges (spec.variable_actual (spec.target_within imports.now scope.now levels) formal.now variables (option_copied d.entry)) result }
 {
     match d {
-        None => Err(Refused::Fault(fault(Code::ReadOnly, span))),
+        None => Err(Rejected::Rule(broken(RuleCode::ReadOnly, span))),
         Some(d) => {
             let (of, place, variables) = target_part(alloc, imports, scope, levels, variables, d)?;
             variable_argument(variables, formal, of, place, span)
@@ -766,7 +770,7 @@ fn value_actual(
     variables: Variables,
     formal: &ObType,
     e: &Expr,
-) -> Result<(Argument, Variables), Refused>
+) -> Result<(Argument, Variables), Rejected>
     ensures { Judges (spec.value_actual (spec.expr_within imports.now scope.now levels) formal.now variables e.now) result }
 {
     let (operand, variables) = expr(alloc, imports, scope, levels, variables, e)?;
@@ -790,7 +794,7 @@ pub fn target_part<'a>(
     levels: u32,
     variables: Variables,
     d: &'a Written,
-) -> Result<(&'a ObType, Designator, Variables), Refused>
+) -> Result<(&'a ObType, Designator, Variables), Rejected>
     ensures { Judges (spec.target_at imports.now scope.now levels variables d.now) (result_map (λ p. (p.0.now, p.1, p.2)) result) }
 {
     let target = written(imports, scope, d)?;
@@ -817,7 +821,7 @@ fn nested(
     span: Span,
     variables: Variables,
     e: &Expr,
-) -> Result<(Operand, Variables), Refused>
+) -> Result<(Operand, Variables), Rejected>
     ensures { Judges (spec.inner_at imports.now scope.now levels variables e.now) result }
 {
     let inside = open(levels, span)?;
@@ -834,7 +838,7 @@ fn deeper(
     span: Span,
     variables: Variables,
     f: &Factor,
-) -> Result<(Operand, Variables), Refused>
+) -> Result<(Operand, Variables), Rejected>
     ensures { Judges (spec.deeper_at imports.now scope.now levels variables f.now) result }
 {
     let inside = open(levels, span)?;

@@ -1,15 +1,16 @@
 //! The functions that are declared before any module.
 
 ghost use Rattle.std.specs.Prelude.{◌≡◌, is_some};
-ghost use Rattle.ob_base.specs.declared.fault.Code.TheVariants as code;
+ghost use Rattle.ob_declare.specs.declared.rule.RuleCode.TheVariants as code;
 ghost use Rattle.ob_declare.specs.Rule.{Judges, there};
 ghost use Rattle.ob_express.specs.Operands.{only_character};
 ghost use Rattle.ob_express.specs.Functions as spec;
 
 use crate::operand::{Operand, fitting, is_number, number_of, only_character};
-use ob_base::{Boxed, Code, Items, Refused};
-use ob_declare::fault::fault;
+use ob_base::{Boxed, Items};
 use ob_declare::predeclared::Function;
+use ob_declare::rejected::{Rejected, broken};
+use ob_declare::rule::RuleCode;
 use ob_mean::{Operation, Operator, TypedExpr, UnaryOperator};
 use ob_scan::Span;
 use ob_types::{Basic, ObType};
@@ -99,7 +100,7 @@ fn unary(
     operator: UnaryOperator,
     span: Span,
     value: Option<TypedExpr>,
-) -> Result<Operand, Refused>
+) -> Result<Operand, Rejected>
     ensures { Judges (there (spec.unary basic operator span.line value) code.Parameters) result }
 {
     match value {
@@ -107,7 +108,7 @@ fn unary(
             basic,
             TypedExpr::Unary(operator, span.line, Boxed::new(alloc, value)?),
         )),
-        None => Err(Refused::Fault(fault(Code::Parameters, span))),
+        None => Err(Rejected::Rule(broken(RuleCode::Parameters, span))),
     }
 }
 
@@ -119,7 +120,7 @@ pub fn one_of(
     span: Span,
     alone: bool,
     operand: Operand,
-) -> Result<Operand, Refused>
+) -> Result<Operand, Rejected>
     ensures { Judges (there (spec.one_of function span.line alone operand) code.Parameters) result }
 {
     match function {
@@ -139,9 +140,9 @@ pub fn one_of(
             let number = number_of(operand);
             unary(alloc, Basic::Char, UnaryOperator::Character, span, number)
         }
-        Function::Len => fitting(length_of(alone, operand), Code::Parameters, span),
+        Function::Len => fitting(length_of(alone, operand), RuleCode::Parameters, span),
         Function::Lsl | Function::Asr | Function::Ror => {
-            Err(Refused::Fault(fault(Code::Parameters, span)))
+            Err(Rejected::Rule(broken(RuleCode::Parameters, span)))
         }
     }
 }
@@ -167,12 +168,12 @@ pub fn two_of(
     left: Operand,
     right: Operand,
     second: Span,
-) -> Result<Operand, Refused>
+) -> Result<Operand, Rejected>
     ensures { Judges (spec.two_of function span.line left right) result }
 {
-    let operator = fitting(shift_of(function), Code::Parameters, span)?;
-    let left = fitting(number_of(left), Code::Parameters, span)?;
-    let right = fitting(number_of(right), Code::Parameters, second)?;
+    let operator = fitting(shift_of(function), RuleCode::Parameters, span)?;
+    let left = fitting(number_of(left), RuleCode::Parameters, span)?;
+    let right = fitting(number_of(right), RuleCode::Parameters, second)?;
     let mut steps = Items::new(alloc);
     steps.push(Operation {
         operator,

@@ -5,8 +5,9 @@ ghost use Rattle.ob_declare.specs.Rule.{Judges, Given};
 ghost use Rattle.ob_express.specs.Joining as spec;
 
 use crate::operand::{Operand, fitting, is_number, is_truth, number_of, truth_of};
-use ob_base::{Boxed, Code, Items, Refused};
-use ob_declare::fault::fault;
+use ob_base::{Boxed, Items};
+use ob_declare::rejected::{Rejected, broken};
+use ob_declare::rule::RuleCode;
 use ob_mean::{Operation, Operator, TypedExpr, UnaryOperator};
 use ob_parse::tree::{AddOperator, MulOperator, Sign};
 use ob_scan::Span;
@@ -71,7 +72,7 @@ fn with_number(
     span: Span,
     left: Joined,
     right: TypedExpr,
-) -> Result<Joined, Refused>
+) -> Result<Joined, Rejected>
     ensures { Judges (spec.with_number operator span.line left right) result }
 {
     let operation = Operation {
@@ -81,7 +82,7 @@ fn with_number(
     };
     match left {
         Joined::One(operand) => {
-            let first = fitting(number_of(operand), Code::Types, span)?;
+            let first = fitting(number_of(operand), RuleCode::Types, span)?;
             let mut steps = Items::new(alloc);
             steps.push(operation)?;
             Ok(Joined::Numbers(first, steps))
@@ -91,23 +92,23 @@ fn with_number(
             steps.push(operation)?;
             Ok(Joined::Numbers(first, steps))
         }
-        Joined::Truths(_) => Err(Refused::Fault(fault(Code::Types, span))),
+        Joined::Truths(_) => Err(Rejected::Rule(broken(RuleCode::Types, span))),
     }
 }
 
 #[tactic(auto, unfolding(crate::specs::Joining::with_truth))]
-fn with_truth(alloc: Global, span: Span, left: Joined, right: TypedExpr) -> Result<Joined, Refused>
+fn with_truth(alloc: Global, span: Span, left: Joined, right: TypedExpr) -> Result<Joined, Rejected>
     ensures { Judges (spec.with_truth left right) result }
 {
     match left {
         Joined::One(operand) => {
-            let first = fitting(truth_of(operand), Code::Types, span)?;
+            let first = fitting(truth_of(operand), RuleCode::Types, span)?;
             let mut all = Items::new(alloc);
             all.push(first)?;
             all.push(right)?;
             Ok(Joined::Truths(all))
         }
-        Joined::Numbers(_, _) => Err(Refused::Fault(fault(Code::Types, span))),
+        Joined::Numbers(_, _) => Err(Rejected::Rule(broken(RuleCode::Types, span))),
         Joined::Truths(so_far) => {
             let mut all = so_far;
             all.push(right)?;
@@ -124,23 +125,23 @@ pub fn with_operand(
     span: Span,
     left: Joined,
     right: Operand,
-) -> Result<Joined, Refused>
+) -> Result<Joined, Rejected>
     ensures { Judges (spec.with_operand joining span.line left right) result }
 {
     match joining {
         Joining::Numbers(operator) => {
-            let right = fitting(number_of(right), Code::Types, span)?;
+            let right = fitting(number_of(right), RuleCode::Types, span)?;
             with_number(alloc, operator, span, left, right)
         }
         Joining::Truths => {
-            let right = fitting(truth_of(right), Code::Types, span)?;
+            let right = fitting(truth_of(right), RuleCode::Types, span)?;
             with_truth(alloc, span, left, right)
         }
     }
 }
 
 /// The operand that a sum is, or want of memory.
-pub fn sum_of(alloc: Global, joined: Joined) -> Result<Operand, Refused>
+pub fn sum_of(alloc: Global, joined: Joined) -> Result<Operand, Rejected>
     ensures { Judges (Given (spec.sum_of joined)) result }
 {
     match joined {
@@ -154,7 +155,7 @@ pub fn sum_of(alloc: Global, joined: Joined) -> Result<Operand, Refused>
 }
 
 /// The operand that a product is, or want of memory.
-pub fn product_of(alloc: Global, joined: Joined) -> Result<Operand, Refused>
+pub fn product_of(alloc: Global, joined: Joined) -> Result<Operand, Rejected>
     ensures { Judges (Given (spec.product_of joined)) result }
 {
     match joined {
@@ -167,7 +168,7 @@ pub fn product_of(alloc: Global, joined: Joined) -> Result<Operand, Refused>
     }
 }
 
-fn sign_of(alloc: Global, sign: Sign, span: Span, value: TypedExpr) -> Result<TypedExpr, Refused>
+fn sign_of(alloc: Global, sign: Sign, span: Span, value: TypedExpr) -> Result<TypedExpr, Rejected>
     ensures { Judges (Given (spec.sign_of sign span.line value)) result }
 {
     match sign {
@@ -186,13 +187,13 @@ pub fn signed(
     alloc: Global,
     sign: Option<(Sign, Span)>,
     operand: Operand,
-) -> Result<Operand, Refused>
+) -> Result<Operand, Rejected>
     ensures { Judges (spec.signed sign operand) result }
 {
     match sign {
         None => Ok(operand),
         Some((sign, span)) => {
-            let number = fitting(number_of(operand), Code::Types, span)?;
+            let number = fitting(number_of(operand), RuleCode::Types, span)?;
             let value = sign_of(alloc, sign, span, number)?;
             Ok(Operand::Value(Basic::Integer, value))
         }
@@ -201,10 +202,10 @@ pub fn signed(
 
 /// A factor behind `~`.
 #[tactic(auto, unfolding(crate::specs::Joining::negated))]
-pub fn negated(alloc: Global, span: Span, operand: Operand) -> Result<Operand, Refused>
+pub fn negated(alloc: Global, span: Span, operand: Operand) -> Result<Operand, Rejected>
     ensures { Judges (spec.negated span.line operand) result }
 {
-    let value = fitting(truth_of(operand), Code::Types, span)?;
+    let value = fitting(truth_of(operand), RuleCode::Types, span)?;
     Ok(Operand::Value(
         Basic::Boolean,
         TypedExpr::Unary(UnaryOperator::Not, span.line, Boxed::new(alloc, value)?),

@@ -6,12 +6,12 @@ ghost use Rattle.ob_express.specs.Judging.{result_map};
 ghost use Rattle.ob_express.specs.Named.{meant, writable, callable};
 ghost use Rattle.ob_express.specs.Names as spec;
 
-use ob_base::{Code, Refused};
-use ob_declare::fault::fault;
 use ob_declare::predeclared::{
     Function, InputName, OutputName, Predeclared, ProperProcedure, absent, input_named,
     output_named,
 };
+use ob_declare::rejected::{Rejected, broken};
+use ob_declare::rule::RuleCode;
 use ob_declare::{Entry, Imports, Scope, is_writable};
 use ob_mean::{Callee, Variable};
 use ob_parse::tree::{Designator, Selector};
@@ -53,13 +53,13 @@ pub enum Called<'a> {
 }
 
 #[tactic(auto, unfolding(crate::specs::Names::input_read))]
-fn input_read<'a>(name: InputName, behind: &[Selector], span: Span) -> Result<Named<'a>, Refused>
+fn input_read<'a>(name: InputName, behind: &[Selector], span: Span) -> Result<Named<'a>, Rejected>
     ensures { Judges (spec.input_read name behind.now) (result_map meant result) }
 {
     match (name, behind) {
-        (InputName::Unknown, _) => Err(Refused::Fault(fault(Code::NotExported, span))),
+        (InputName::Unknown, _) => Err(Rejected::Rule(broken(RuleCode::NotExported, span))),
         (InputName::Done, []) => Ok(Named::InputDone),
-        _ => Err(Refused::Fault(fault(Code::Types, span))),
+        _ => Err(Rejected::Rule(broken(RuleCode::Types, span))),
     }
 }
 
@@ -68,32 +68,32 @@ fn input_member<'a>(
     selector: &Selector,
     behind: &[Selector],
     span: Span,
-) -> Result<Named<'a>, Refused>
+) -> Result<Named<'a>, Rejected>
     ensures { Judges (spec.input_member selector.now behind.now) (result_map meant result) }
 {
     match selector {
         Selector::Field(field) => input_read(input_named(&field.name), behind, field.span),
-        Selector::Index(_) => Err(Refused::Fault(fault(Code::Types, span))),
+        Selector::Index(_) => Err(Rejected::Rule(broken(RuleCode::Types, span))),
     }
 }
 
 #[tactic(auto, unfolding(crate::specs::Names::output_read))]
-fn output_read<'a>(name: OutputName, span: Span) -> Result<Named<'a>, Refused>
+fn output_read<'a>(name: OutputName, span: Span) -> Result<Named<'a>, Rejected>
     ensures { Judges (spec.output_read name) (result_map meant result) }
 {
     match name {
-        OutputName::Unknown => Err(Refused::Fault(fault(Code::NotExported, span))),
-        _ => Err(Refused::Fault(fault(Code::Types, span))),
+        OutputName::Unknown => Err(Rejected::Rule(broken(RuleCode::NotExported, span))),
+        _ => Err(Rejected::Rule(broken(RuleCode::Types, span))),
     }
 }
 
 #[tactic(auto, unfolding(crate::specs::Names::output_member))]
-fn output_member<'a>(selector: &Selector, span: Span) -> Result<Named<'a>, Refused>
+fn output_member<'a>(selector: &Selector, span: Span) -> Result<Named<'a>, Rejected>
     ensures { Judges (spec.output_member selector.now) (result_map meant result) }
 {
     match selector {
         Selector::Field(field) => output_read(output_named(&field.name), field.span),
-        Selector::Index(_) => Err(Refused::Fault(fault(Code::Types, span))),
+        Selector::Index(_) => Err(Rejected::Rule(broken(RuleCode::Types, span))),
     }
 }
 
@@ -105,7 +105,7 @@ fn object_read<'a>(
     object: &'a Object,
     behind: &'a [Selector],
     span: Span,
-) -> Result<Named<'a>, Refused>
+) -> Result<Named<'a>, Rejected>
     ensures { Judges (spec.object_read import number object.now behind.now) (result_map meant result) }
 {
     match (object, behind) {
@@ -114,7 +114,7 @@ fn object_read<'a>(
             Ok(Named::Variable(of, Variable::OfImport(import, number), behind))
         }
         (Object::Constant(_), [_, ..]) | (Object::TypeName(_), _) | (Object::Procedure(_), _) =>
-            Err(Refused::Fault(fault(Code::Types, span))),
+            Err(Rejected::Rule(broken(RuleCode::Types, span))),
     }
 }
 
@@ -126,7 +126,7 @@ fn member_read<'a>(
     selector: &Selector,
     behind: &'a [Selector],
     span: Span,
-) -> Result<Named<'a>, Refused>
+) -> Result<Named<'a>, Rejected>
     ensures { Judges (spec.member_read imports.now import place selector.now behind.now) (result_map meant result) }
 {
     match selector {
@@ -135,9 +135,9 @@ fn member_read<'a>(
                 let number = imports.variable_number(place, &field.name);
                 object_read(import, number, object, behind, field.span)
             }
-            None => Err(Refused::Fault(fault(Code::NotExported, field.span))),
+            None => Err(Rejected::Rule(broken(RuleCode::NotExported, field.span))),
         },
-        Selector::Index(_) => Err(Refused::Fault(fault(Code::Types, span))),
+        Selector::Index(_) => Err(Rejected::Rule(broken(RuleCode::Types, span))),
     }
 }
 
@@ -148,7 +148,7 @@ fn entry_read<'a>(
     entry: &'a Entry,
     selectors: &'a [Selector],
     span: Span,
-) -> Result<Named<'a>, Refused>
+) -> Result<Named<'a>, Rejected>
     ensures { Judges (spec.entry_read imports.now scope.now entry.now selectors.now) (result_map meant result) }
 {
     match (entry, selectors) {
@@ -166,7 +166,7 @@ fn entry_read<'a>(
         | (Entry::Procedure(_, _), _)
         | (Entry::In, [])
         | (Entry::Out, [])
-        | (Entry::Module(_, _), []) => Err(Refused::Fault(fault(Code::Types, span))),
+        | (Entry::Module(_, _), []) => Err(Rejected::Rule(broken(RuleCode::Types, span))),
     }
 }
 
@@ -176,78 +176,82 @@ pub fn read<'a>(
     imports: &'a Imports,
     scope: &'a Scope,
     d: &'a Designator,
-) -> Result<Named<'a>, Refused>
+) -> Result<Named<'a>, Rejected>
     ensures { Judges (spec.read_at imports.now scope.now d.now) (result_map meant result) }
 {
     match scope.seen(&d.name.name) {
         Some(entry) => entry_read(imports, scope, entry, d.selectors.as_slice(), d.name.span),
-        None => Err(Refused::Fault(fault(absent(scope.outer(&d.name.name)), d.name.span))),
+        None => Err(Rejected::Rule(broken(absent(scope.outer(&d.name.name)), d.name.span))),
     }
 }
 
-fn no_variable(predeclared: Predeclared) -> Code
+fn no_variable(predeclared: Predeclared) -> RuleCode
     ensures { result ≡ spec.no_variable predeclared }
 {
     match predeclared {
-        Predeclared::LeftOut => Code::LeftOut,
-        Predeclared::Unknown => Code::UnknownName,
+        Predeclared::LeftOut => RuleCode::LeftOut,
+        Predeclared::Unknown => RuleCode::UnknownName,
         Predeclared::Basic(_) | Predeclared::Function(_) | Predeclared::Procedure(_) => {
-            Code::ReadOnly
+            RuleCode::ReadOnly
         }
     }
 }
 
 #[tactic(auto, unfolding(crate::specs::Names::input_written))]
-fn input_written(selector: &Selector) -> Code
+fn input_written(selector: &Selector) -> RuleCode
     ensures { result ≡ spec.input_written selector.now }
 {
     match selector {
         Selector::Field(field) => match input_named(&field.name) {
-            InputName::Unknown => Code::NotExported,
-            _ => Code::ReadOnly,
+            InputName::Unknown => RuleCode::NotExported,
+            _ => RuleCode::ReadOnly,
         },
-        Selector::Index(_) => Code::ReadOnly,
+        Selector::Index(_) => RuleCode::ReadOnly,
     }
 }
 
 #[tactic(auto, unfolding(crate::specs::Names::output_written))]
-fn output_written(selector: &Selector) -> Code
+fn output_written(selector: &Selector) -> RuleCode
     ensures { result ≡ spec.output_written selector.now }
 {
     match selector {
         Selector::Field(field) => match output_named(&field.name) {
-            OutputName::Unknown => Code::NotExported,
-            _ => Code::ReadOnly,
+            OutputName::Unknown => RuleCode::NotExported,
+            _ => RuleCode::ReadOnly,
         },
-        Selector::Index(_) => Code::ReadOnly,
+        Selector::Index(_) => RuleCode::ReadOnly,
     }
 }
 
 #[tactic(auto, unfolding(crate::specs::Names::object_written))]
-fn object_written(imports: &Imports, place: usize, selector: &Selector) -> Code
+fn object_written(imports: &Imports, place: usize, selector: &Selector) -> RuleCode
     ensures { result ≡ spec.object_written imports.now place selector.now }
 {
     match selector {
         Selector::Field(field) => match imports.exported_at(place, &field.name) {
-            Some(_) => Code::ReadOnly,
-            None => Code::NotExported,
+            Some(_) => RuleCode::ReadOnly,
+            None => RuleCode::NotExported,
         },
-        Selector::Index(_) => Code::ReadOnly,
+        Selector::Index(_) => RuleCode::ReadOnly,
     }
 }
 
-fn refuse<'a>(code: Code, span: Span) -> Result<Target<'a>, Refused>
+fn refuse<'a>(code: RuleCode, span: Span) -> Result<Target<'a>, Rejected>
     ensures { Judges (Breaks code) (result_map writable result) }
 {
-    Err(Refused::Fault(fault(code, span)))
+    Err(Rejected::Rule(broken(code, span)))
 }
 
 /// A name of another module: the fault stands at the name that it lacks, or else at the first token.
-fn refuse_member<'a>(code: Code, selector: &Selector, span: Span) -> Result<Target<'a>, Refused>
+fn refuse_member<'a>(
+    code: RuleCode,
+    selector: &Selector,
+    span: Span,
+) -> Result<Target<'a>, Rejected>
     ensures { Judges (Breaks code) (result_map writable result) }
 {
     match (code, selector) {
-        (Code::NotExported, Selector::Field(field)) => refuse(code, field.span),
+        (RuleCode::NotExported, Selector::Field(field)) => refuse(code, field.span),
         _ => refuse(code, span),
     }
 }
@@ -259,13 +263,13 @@ fn entry_written<'a>(
     entry: &'a Entry,
     selectors: &'a [Selector],
     span: Span,
-) -> Result<Target<'a>, Refused>
+) -> Result<Target<'a>, Rejected>
     ensures { Judges (spec.entry_written imports.now scope.now entry.now selectors.now) (result_map writable result) }
 {
     match (entry, selectors) {
         (Entry::Variable(of, standing), _) => {
             if !is_writable(*standing) {
-                return Err(Refused::Fault(fault(Code::ReadOnly, span)));
+                return Err(Rejected::Rule(broken(RuleCode::ReadOnly, span)));
             }
             Ok(Target {
                 of,
@@ -283,7 +287,7 @@ fn entry_written<'a>(
         | (Entry::Procedure(_, _), _)
         | (Entry::In, [])
         | (Entry::Out, [])
-        | (Entry::Module(_, _), []) => refuse(Code::ReadOnly, span),
+        | (Entry::Module(_, _), []) => refuse(RuleCode::ReadOnly, span),
     }
 }
 
@@ -293,12 +297,12 @@ pub fn written<'a>(
     imports: &'a Imports,
     scope: &'a Scope,
     d: &'a Designator,
-) -> Result<Target<'a>, Refused>
+) -> Result<Target<'a>, Rejected>
     ensures { Judges (spec.written_at imports.now scope.now d.now) (result_map writable result) }
 {
     match scope.seen(&d.name.name) {
         Some(entry) => entry_written(imports, scope, entry, d.selectors.as_slice(), d.name.span),
-        None => Err(Refused::Fault(fault(no_variable(scope.outer(&d.name.name)), d.name.span))),
+        None => Err(Rejected::Rule(broken(no_variable(scope.outer(&d.name.name)), d.name.span))),
     }
 }
 
@@ -307,13 +311,13 @@ fn predeclared_called<'a>(
     predeclared: Predeclared,
     selectors: &[Selector],
     span: Span,
-) -> Result<Called<'a>, Refused>
+) -> Result<Called<'a>, Rejected>
     ensures { Judges (spec.predeclared_called predeclared selectors.now) (result_map callable result) }
 {
     match (predeclared, selectors) {
         (Predeclared::Function(function), []) => Ok(Called::Function(function)),
         (Predeclared::Procedure(procedure), []) => Ok(Called::Proper(procedure)),
-        _ => Err(Refused::Fault(fault(absent(predeclared), span))),
+        _ => Err(Rejected::Rule(broken(absent(predeclared), span))),
     }
 }
 
@@ -322,17 +326,20 @@ fn input_call<'a>(
     selector: &Selector,
     behind: &[Selector],
     span: Span,
-) -> Result<Called<'a>, Refused>
+) -> Result<Called<'a>, Rejected>
     ensures { Judges (spec.input_call selector.now behind.now) (result_map callable result) }
 {
     match selector {
         Selector::Field(field) => match (input_named(&field.name), behind) {
-            (InputName::Unknown, _) => Err(Refused::Fault(fault(Code::NotExported, field.span))),
-            (InputName::Done, _) => Err(Refused::Fault(fault(Code::Types, field.span))),
+            (InputName::Unknown, _) => Err(Rejected::Rule(broken(
+                RuleCode::NotExported,
+                field.span,
+            ))),
+            (InputName::Done, _) => Err(Rejected::Rule(broken(RuleCode::Types, field.span))),
             (name, []) => Ok(Called::Input(name)),
-            (_, [_, ..]) => Err(Refused::Fault(fault(Code::Types, field.span))),
+            (_, [_, ..]) => Err(Rejected::Rule(broken(RuleCode::Types, field.span))),
         },
-        Selector::Index(_) => Err(Refused::Fault(fault(Code::Types, span))),
+        Selector::Index(_) => Err(Rejected::Rule(broken(RuleCode::Types, span))),
     }
 }
 
@@ -341,16 +348,19 @@ fn output_call<'a>(
     selector: &Selector,
     behind: &[Selector],
     span: Span,
-) -> Result<Called<'a>, Refused>
+) -> Result<Called<'a>, Rejected>
     ensures { Judges (spec.output_call selector.now behind.now) (result_map callable result) }
 {
     match selector {
         Selector::Field(field) => match (output_named(&field.name), behind) {
-            (OutputName::Unknown, _) => Err(Refused::Fault(fault(Code::NotExported, field.span))),
+            (OutputName::Unknown, _) => Err(Rejected::Rule(broken(
+                RuleCode::NotExported,
+                field.span,
+            ))),
             (name, []) => Ok(Called::Output(name)),
-            (_, [_, ..]) => Err(Refused::Fault(fault(Code::Types, field.span))),
+            (_, [_, ..]) => Err(Rejected::Rule(broken(RuleCode::Types, field.span))),
         },
-        Selector::Index(_) => Err(Refused::Fault(fault(Code::Types, span))),
+        Selector::Index(_) => Err(Rejected::Rule(broken(RuleCode::Types, span))),
     }
 }
 
@@ -361,7 +371,7 @@ fn object_called<'a>(
     object: &'a Object,
     behind: &[Selector],
     span: Span,
-) -> Result<Called<'a>, Refused>
+) -> Result<Called<'a>, Rejected>
     ensures { Judges (spec.object_called import number object.now behind.now) (result_map callable result) }
 {
     match (object, behind) {
@@ -371,7 +381,7 @@ fn object_called<'a>(
         (Object::Procedure(_), [_, ..])
         | (Object::Constant(_), _)
         | (Object::Variable(_), _)
-        | (Object::TypeName(_), _) => Err(Refused::Fault(fault(Code::Types, span))),
+        | (Object::TypeName(_), _) => Err(Rejected::Rule(broken(RuleCode::Types, span))),
     }
 }
 
@@ -383,7 +393,7 @@ fn member_called<'a>(
     selector: &Selector,
     behind: &[Selector],
     span: Span,
-) -> Result<Called<'a>, Refused>
+) -> Result<Called<'a>, Rejected>
     ensures { Judges (spec.member_called imports.now import place selector.now behind.now) (result_map callable result) }
 {
     match selector {
@@ -392,9 +402,9 @@ fn member_called<'a>(
                 let number = imports.procedure_number(place, &field.name);
                 object_called(import, number, object, behind, field.span)
             }
-            None => Err(Refused::Fault(fault(Code::NotExported, field.span))),
+            None => Err(Rejected::Rule(broken(RuleCode::NotExported, field.span))),
         },
-        Selector::Index(_) => Err(Refused::Fault(fault(Code::Types, span))),
+        Selector::Index(_) => Err(Rejected::Rule(broken(RuleCode::Types, span))),
     }
 }
 
@@ -404,7 +414,7 @@ fn entry_called<'a>(
     entry: &'a Entry,
     selectors: &[Selector],
     span: Span,
-) -> Result<Called<'a>, Refused>
+) -> Result<Called<'a>, Rejected>
     ensures { Judges (spec.entry_called imports.now entry.now selectors.now) (result_map callable result) }
 {
     match (entry, selectors) {
@@ -416,7 +426,7 @@ fn entry_called<'a>(
         }
         (Entry::In, [selector, behind @ ..]) => input_call(selector, behind, span),
         (Entry::Out, [selector, behind @ ..]) => output_call(selector, behind, span),
-        _ => Err(Refused::Fault(fault(Code::Types, span))),
+        _ => Err(Rejected::Rule(broken(RuleCode::Types, span))),
     }
 }
 
@@ -426,7 +436,7 @@ pub fn procedure<'a>(
     imports: &'a Imports,
     scope: &'a Scope,
     d: &Designator,
-) -> Result<Called<'a>, Refused>
+) -> Result<Called<'a>, Rejected>
     ensures { Judges (spec.called_at imports.now scope.now d.now) (result_map callable result) }
 {
     match scope.seen(&d.name.name) {

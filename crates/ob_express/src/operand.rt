@@ -1,13 +1,14 @@
 //! Operands.
 
 ghost use Rattle.std.specs.Prelude.{◌≡◌, ◌+◌, length, is_some};
-ghost use Rattle.ob_base.specs.declared.fault.Code.TheVariants as code;
+ghost use Rattle.ob_declare.specs.declared.rule.RuleCode.TheVariants as code;
 ghost use Rattle.ob_types.specs.Types.{is_char};
 ghost use Rattle.ob_declare.specs.Rule.{Judges, Given, there};
 ghost use Rattle.ob_express.specs.Operands as spec;
 
-use ob_base::{Boxed, Code, Items, Refused, Text};
-use ob_declare::fault::fault;
+use ob_base::{Boxed, Items, Text};
+use ob_declare::rejected::{Rejected, broken};
+use ob_declare::rule::RuleCode;
 use ob_mean::{Designator, ModuleVariable, TypedExpr, UnaryOperator, Variable};
 use ob_scan::Span;
 use ob_types::{Basic, Constant, ObType};
@@ -89,16 +90,16 @@ pub fn character_of(operand: Operand) -> Option<TypedExpr>
 }
 
 /// What a rule gave, or the fault of this code.
-pub fn fitting<T>(value: Option<T>, code: Code, span: Span) -> Result<T, Refused>
+pub fn fitting<T>(value: Option<T>, code: RuleCode, span: Span) -> Result<T, Rejected>
     ensures { Judges (there value code) result }
 {
     match value {
         Some(value) => Ok(value),
-        None => Err(Refused::Fault(fault(code, span))),
+        None => Err(Rejected::Rule(broken(code, span))),
     }
 }
 
-fn byte_for(alloc: Global, operand: Operand, span: Span) -> Result<TypedExpr, Refused>
+fn byte_for(alloc: Global, operand: Operand, span: Span) -> Result<TypedExpr, Rejected>
     ensures { Judges (there (spec.byte_of span.line operand) code.Types) result }
 {
     match operand {
@@ -108,7 +109,7 @@ fn byte_for(alloc: Global, operand: Operand, span: Span) -> Result<TypedExpr, Re
             span.line,
             Boxed::new(alloc, value)?,
         )),
-        _ => Err(Refused::Fault(fault(Code::Types, span))),
+        _ => Err(Rejected::Rule(broken(RuleCode::Types, span))),
     }
 }
 
@@ -118,13 +119,13 @@ pub fn value_for(
     basic: Basic,
     operand: Operand,
     span: Span,
-) -> Result<TypedExpr, Refused>
+) -> Result<TypedExpr, Rejected>
     ensures { Judges (there (spec.value_for basic span.line operand) code.Types) result }
 {
     match basic {
-        Basic::Integer => fitting(number_of(operand), Code::Types, span),
-        Basic::Boolean => fitting(truth_of(operand), Code::Types, span),
-        Basic::Char => fitting(character_of(operand), Code::Types, span),
+        Basic::Integer => fitting(number_of(operand), RuleCode::Types, span),
+        Basic::Boolean => fitting(truth_of(operand), RuleCode::Types, span),
+        Basic::Char => fitting(character_of(operand), RuleCode::Types, span),
         Basic::Byte => byte_for(alloc, operand, span),
     }
 }
@@ -136,7 +137,7 @@ pub fn truth_number(truth: bool) -> i32
 }
 
 /// What a declared constant is.
-pub fn operand_of_constant(alloc: Global, constant: &Constant) -> Result<Operand, Refused>
+pub fn operand_of_constant(alloc: Global, constant: &Constant) -> Result<Operand, Rejected>
     ensures { Judges (Given (spec.operand_of_constant constant.now)) result }
 {
     match constant {
@@ -157,7 +158,7 @@ pub fn operand_of_constant(alloc: Global, constant: &Constant) -> Result<Operand
 
 /// What a variable or a part of one is: its value where it has a basic type, else where it stands.
 #[tactic(auto, unfolding(crate::specs::Operands::operand_of_variable))]
-pub fn operand_of_variable(of: &ObType, place: Designator) -> Result<Operand, Refused>
+pub fn operand_of_variable(of: &ObType, place: Designator) -> Result<Operand, Rejected>
     ensures { Judges (Given (spec.operand_of_variable of.now place)) result }
 {
     match of {
@@ -192,7 +193,7 @@ pub fn hidden(
     text: Text,
     elements: u32,
     variables: Variables,
-) -> Result<(Designator, Variables), Refused>
+) -> Result<(Designator, Variables), Rejected>
     ensures { Judges (Given (spec.next_text variables, spec.with_text variables text elements)) result }
 {
     let mut all = variables;
@@ -203,15 +204,18 @@ pub fn hidden(
 
 /// A string as the next variable of the module, with an element more than it has characters. One that no variable could hold
 /// is want of memory.
-pub fn hidden_with_end(text: Text, variables: Variables) -> Result<(Designator, Variables), Refused>
+pub fn hidden_with_end(
+    text: Text,
+    variables: Variables,
+) -> Result<(Designator, Variables), Rejected>
     ensures { Judges (Given (spec.next_text variables, spec.with_text variables text (length text + 1))) result }
 {
     match u32::try_from(text.as_slice().len()) {
         Ok(length) => match length.checked_add(1) {
             Some(elements) => hidden(text, elements, variables),
-            None => Err(Refused::Memory),
+            None => Err(Rejected::Memory),
         },
-        Err(_) => Err(Refused::Memory),
+        Err(_) => Err(Rejected::Memory),
     }
 }
 
@@ -221,7 +225,7 @@ pub fn text_place(
     operand: Operand,
     span: Span,
     variables: Variables,
-) -> Result<(Designator, Variables), Refused>
+) -> Result<(Designator, Variables), Rejected>
     ensures { Judges (spec.text_place variables operand) result }
 {
     match operand {
@@ -230,9 +234,9 @@ pub fn text_place(
             if is_text(&of) {
                 Ok((place, variables))
             } else {
-                Err(Refused::Fault(fault(Code::Types, span)))
+                Err(Rejected::Rule(broken(RuleCode::Types, span)))
             }
         }
-        Operand::Value(_, _) => Err(Refused::Fault(fault(Code::Types, span))),
+        Operand::Value(_, _) => Err(Rejected::Rule(broken(RuleCode::Types, span))),
     }
 }

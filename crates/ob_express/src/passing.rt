@@ -1,15 +1,16 @@
 //! What is passed to parameters.
 
 ghost use Rattle.std.specs.Prelude.{◌≡◌, ◌+◌, length};
-ghost use Rattle.ob_base.specs.declared.fault.Code.TheVariants as code;
+ghost use Rattle.ob_declare.specs.declared.rule.RuleCode.TheVariants as code;
 ghost use Rattle.ob_declare.specs.Rule.{Judges, Given, there};
 ghost use Rattle.ob_mean.specs.declared.expression.Argument.TheVariants as argument;
 ghost use Rattle.ob_express.specs.Operands.{next_text, with_text};
 ghost use Rattle.ob_express.specs.Passing as spec;
 
 use crate::operand::{Operand, Variables, fitting, hidden, hidden_with_end, is_char, value_for};
-use ob_base::{Code, Refused, Text};
-use ob_declare::fault::fault;
+use ob_base::Text;
+use ob_declare::rejected::{Rejected, broken};
+use ob_declare::rule::RuleCode;
 use ob_mean::{Argument, Designator};
 use ob_scan::Span;
 use ob_types::{ObType, same};
@@ -55,10 +56,14 @@ pub fn variable_argument(
     of: &ObType,
     place: Designator,
     span: Span,
-) -> Result<(Argument, Variables), Refused>
+) -> Result<(Argument, Variables), Rejected>
     ensures { Judges (spec.variable_argument variables formal.now of.now place) result }
 {
-    let argument = fitting(variable_passed(formal, of, place), Code::Parameters, span)?;
+    let argument = fitting(
+        variable_passed(formal, of, place),
+        RuleCode::Parameters,
+        span,
+    )?;
     Ok((argument, variables))
 }
 
@@ -66,14 +71,14 @@ fn hidden_place(
     variables: Variables,
     text: Text,
     elements: u32,
-) -> Result<(Argument, Variables), Refused>
+) -> Result<(Argument, Variables), Rejected>
     ensures { Judges (Given (argument.Place (next_text variables), with_text variables text elements)) result }
 {
     let (place, variables) = hidden(text, elements, variables)?;
     Ok((Argument::Place(place), variables))
 }
 
-fn hidden_open(variables: Variables, text: Text) -> Result<(Argument, Variables), Refused>
+fn hidden_open(variables: Variables, text: Text) -> Result<(Argument, Variables), Rejected>
     ensures { Judges (Given (argument.Open (next_text variables), with_text variables text (length text + 1))) result }
 {
     let (place, variables) = hidden_with_end(text, variables)?;
@@ -86,13 +91,13 @@ fn fixed_text(
     text: Text,
     elements: u32,
     span: Span,
-) -> Result<(Argument, Variables), Refused>
+) -> Result<(Argument, Variables), Rejected>
     ensures { Judges (spec.fixed_text variables text elements) result }
 {
     if text.as_slice().len() < elements as usize {
         hidden_place(variables, text, elements)
     } else {
-        Err(Refused::Fault(fault(Code::Types, span)))
+        Err(Rejected::Rule(broken(RuleCode::Types, span)))
     }
 }
 
@@ -103,7 +108,7 @@ fn text_passed(
     formal: &ObType,
     text: Text,
     span: Span,
-) -> Result<(Argument, Variables), Refused>
+) -> Result<(Argument, Variables), Rejected>
     ensures { Judges (spec.text_passed variables formal.now text) result }
 {
     match formal {
@@ -111,17 +116,20 @@ fn text_passed(
             if is_char(element.get()) {
                 fixed_text(variables, text, *length, span)
             } else {
-                Err(Refused::Fault(fault(Code::Parameters, span)))
+                Err(Rejected::Rule(broken(RuleCode::Parameters, span)))
             }
         }
         ObType::Open(element) => {
             if is_char(element.get()) {
                 hidden_open(variables, text)
             } else {
-                Err(Refused::Fault(fault(Code::Parameters, span)))
+                Err(Rejected::Rule(broken(RuleCode::Parameters, span)))
             }
         }
-        ObType::Basic(_) | ObType::Record(_) => Err(Refused::Fault(fault(Code::Parameters, span))),
+        ObType::Basic(_) | ObType::Record(_) => Err(Rejected::Rule(broken(
+            RuleCode::Parameters,
+            span,
+        ))),
     }
 }
 
@@ -133,17 +141,17 @@ fn structure_passed(
     alone: bool,
     operand: Operand,
     span: Span,
-) -> Result<(Argument, Variables), Refused>
+) -> Result<(Argument, Variables), Rejected>
     ensures { Judges (spec.structure_passed variables formal.now alone operand) result }
 {
     match operand {
-        Operand::Value(_, _) => Err(Refused::Fault(fault(Code::Parameters, span))),
+        Operand::Value(_, _) => Err(Rejected::Rule(broken(RuleCode::Parameters, span))),
         Operand::Text(text) => text_passed(variables, formal, text, span),
         Operand::Place(of, place) => {
             if alone {
                 variable_argument(variables, formal, &of, place, span)
             } else {
-                Err(Refused::Fault(fault(Code::Parameters, span)))
+                Err(Rejected::Rule(broken(RuleCode::Parameters, span)))
             }
         }
     }
@@ -158,7 +166,7 @@ pub fn value_passed(
     alone: bool,
     operand: Operand,
     span: Span,
-) -> Result<(Argument, Variables), Refused>
+) -> Result<(Argument, Variables), Rejected>
     ensures { Judges (spec.value_passed variables formal.now span.line alone operand) result }
 {
     match formal {

@@ -5,8 +5,9 @@ ghost use Rattle.ob_declare.specs.Rule.{Judges, Given};
 ghost use Rattle.ob_express.specs.Relations as spec;
 
 use crate::operand::{Operand, Variables, character_of, fitting, is_text, text_place};
-use ob_base::{Boxed, Code, Items, Refused};
-use ob_declare::fault::fault;
+use ob_base::{Boxed, Items};
+use ob_declare::rejected::{Rejected, broken};
+use ob_declare::rule::RuleCode;
 use ob_mean::{Operation, Operator, Relation, TypedExpr};
 use ob_parse::tree::Relation as Written;
 use ob_scan::Span;
@@ -98,7 +99,7 @@ fn compared(
     span: Span,
     left: TypedExpr,
     right: TypedExpr,
-) -> Result<Operand, Refused>
+) -> Result<Operand, Rejected>
     ensures { Judges (Given (spec.compared relation span.line left right)) result }
 {
     let mut steps = Items::new(alloc);
@@ -120,7 +121,7 @@ fn texts_related(
     variables: Variables,
     left: Operand,
     right: Operand,
-) -> Result<(Operand, Variables), Refused>
+) -> Result<(Operand, Variables), Rejected>
     ensures { Judges (spec.texts_related relation variables left right) result }
 {
     let (first, variables) = text_place(left, span, variables)?;
@@ -138,13 +139,13 @@ fn values_related(
     left: TypedExpr,
     other: Basic,
     right: TypedExpr,
-) -> Result<Operand, Refused>
+) -> Result<Operand, Rejected>
     ensures { Judges (spec.values_related relation span.line one left other right) result }
 {
     if are_related(relation, one, other) {
         compared(alloc, relation, span, left, right)
     } else {
-        Err(Refused::Fault(fault(Code::Types, span)))
+        Err(Rejected::Rule(broken(RuleCode::Types, span)))
     }
 }
 
@@ -155,11 +156,11 @@ fn characters_related(
     span: Span,
     left: Operand,
     right: Operand,
-) -> Result<Operand, Refused>
+) -> Result<Operand, Rejected>
     ensures { Judges (spec.characters_related relation span.line left right) result }
 {
-    let left = fitting(character_of(left), Code::Types, span)?;
-    let right = fitting(character_of(right), Code::Types, span)?;
+    let left = fitting(character_of(left), RuleCode::Types, span)?;
+    let right = fitting(character_of(right), RuleCode::Types, span)?;
     compared(alloc, relation, span, left, right)
 }
 
@@ -172,7 +173,7 @@ pub fn related(
     variables: Variables,
     left: Operand,
     right: Operand,
-) -> Result<(Operand, Variables), Refused>
+) -> Result<(Operand, Variables), Rejected>
     ensures { Judges (spec.related relation span.line variables left right) result }
 {
     match (left, right) {
@@ -191,10 +192,10 @@ pub fn related(
             Ok((value, variables))
         }
         (Operand::Value(_, _), Operand::Place(_, _)) => {
-            Err(Refused::Fault(fault(Code::Types, span)))
+            Err(Rejected::Rule(broken(RuleCode::Types, span)))
         }
         (Operand::Place(_, _), Operand::Value(_, _)) => {
-            Err(Refused::Fault(fault(Code::Types, span)))
+            Err(Rejected::Rule(broken(RuleCode::Types, span)))
         }
         (Operand::Text(t), Operand::Text(u)) => {
             texts_related(

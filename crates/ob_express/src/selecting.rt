@@ -1,14 +1,15 @@
 //! Fields of records and elements of arrays.
 
 ghost use Rattle.std.specs.Prelude.{◌≡◌, IfSome, option_map, option_copied};
-ghost use Rattle.ob_base.specs.declared.fault.Code.TheVariants as code;
+ghost use Rattle.ob_declare.specs.declared.rule.RuleCode.TheVariants as code;
 ghost use Rattle.ob_declare.specs.Rule.{Judges, there};
 ghost use Rattle.ob_express.specs.Judging.{result_map};
 ghost use Rattle.ob_express.specs.Selecting as spec;
 
-use ob_base::{Code, Refused, Text};
+use ob_base::Text;
 use ob_declare::Scope;
-use ob_declare::fault::fault;
+use ob_declare::rejected::{Rejected, broken};
+use ob_declare::rule::RuleCode;
 use ob_parse::tree::Ident;
 use ob_scan::Span;
 use ob_types::{Field, ObType, RecordType};
@@ -24,13 +25,13 @@ fn field_in<'a>(fields: &'a [Field], name: &Text) -> Option<(usize, &'a Field)>
     None
 }
 
-fn no_field(own: bool) -> Code
+fn no_field(own: bool) -> RuleCode
     ensures { result ≡ spec.no_field own }
 {
     if own {
-        Code::UnknownName
+        RuleCode::UnknownName
     } else {
-        Code::NotExported
+        RuleCode::NotExported
     }
 }
 
@@ -39,16 +40,16 @@ fn seen_field<'a>(
     own: bool,
     field: Option<(usize, &'a Field)>,
     span: Span,
-) -> Result<(usize, &'a ObType), Refused>
+) -> Result<(usize, &'a ObType), Rejected>
     ensures { Judges (spec.seen_field own (option_map (λ p. (p.0, p.1.now)) field.entry)) (result_map (λ p. (p.0, p.1.now)) result) }
 {
     match field {
-        None => Err(Refused::Fault(fault(no_field(own), span))),
+        None => Err(Rejected::Rule(broken(no_field(own), span))),
         Some((number, field)) => {
             if own || field.exported {
                 Ok((number, &field.of))
             } else {
-                Err(Refused::Fault(fault(Code::NotExported, span)))
+                Err(Rejected::Rule(broken(RuleCode::NotExported, span)))
             }
         }
     }
@@ -58,7 +59,7 @@ fn record_field<'a>(
     scope: &Scope,
     structure: &'a RecordType,
     name: &Ident,
-) -> Result<(usize, &'a ObType), Refused>
+) -> Result<(usize, &'a ObType), Rejected>
     ensures { Judges (spec.record_field scope.now structure.now name.now.name) (result_map (λ p. (p.0, p.1.now)) result) }
 {
     let own = structure.name.get().module_name.same(&scope.module_name);
@@ -72,23 +73,23 @@ pub fn field_of<'a>(
     scope: &Scope,
     of: &'a ObType,
     name: &Ident,
-) -> Result<(usize, &'a ObType), Refused>
+) -> Result<(usize, &'a ObType), Rejected>
     ensures { Judges (spec.field_of scope.now of.now name.now.name) (result_map (λ p. (p.0, p.1.now)) result) }
 {
     match of {
         ObType::Record(record) => record_field(scope, record, name),
         ObType::Basic(_) | ObType::Array(_, _) | ObType::Open(_) => {
-            Err(Refused::Fault(fault(Code::Types, name.span)))
+            Err(Rejected::Rule(broken(RuleCode::Types, name.span)))
         }
     }
 }
 
 /// The type of the elements of an array.
-pub fn element_of<'a>(of: &'a ObType, span: Span) -> Result<&'a ObType, Refused>
+pub fn element_of<'a>(of: &'a ObType, span: Span) -> Result<&'a ObType, Rejected>
     ensures { Judges (there (spec.element_of of.now) code.Types) (result_map (λ t. t.now) result) }
 {
     match of {
         ObType::Array(_, element) | ObType::Open(element) => Ok(element.get()),
-        ObType::Basic(_) | ObType::Record(_) => Err(Refused::Fault(fault(Code::Types, span))),
+        ObType::Basic(_) | ObType::Record(_) => Err(Rejected::Rule(broken(RuleCode::Types, span))),
     }
 }

@@ -6,7 +6,9 @@ ghost use Rattle.ob_express.specs.Expressions as spec;
 
 use crate::expression::{all_passed, expr, target_part};
 use crate::operand::{Operand, Variables, fitting, number_of, truth_of, value_for};
-use ob_base::{Code, Items, Refused};
+use ob_base::Items;
+use ob_declare::rejected::Rejected;
+use ob_declare::rule::RuleCode;
 use ob_declare::{Imports, Scope};
 use ob_mean::{Argument, Designator, TypedExpr};
 use ob_parse::tree::{Designator as Written, Expr};
@@ -22,7 +24,7 @@ pub fn target(
     levels: u32,
     variables: Variables,
     d: &Written,
-) -> Result<(ObType, Designator, Variables), Refused>
+) -> Result<(ObType, Designator, Variables), Rejected>
     ensures { Judges (spec.target_at imports.now scope.now levels variables d.now) result }
 {
     let (of, place, variables) = target_part(alloc, imports, scope, levels, variables, d)?;
@@ -40,7 +42,7 @@ pub fn actuals(
     span: Span,
     variables: Variables,
     es: &[Expr],
-) -> Result<(Items<Argument>, Variables), Refused>
+) -> Result<(Items<Argument>, Variables), Rejected>
     ensures { Judges (spec.actuals_at imports.now scope.now levels formals.now variables es.now) result }
 {
     all_passed(alloc, imports, scope, levels, formals, span, variables, es)
@@ -64,11 +66,11 @@ pub fn basic_value(
     levels: u32,
     variables: Variables,
     e: &Expr,
-) -> Result<(Basic, TypedExpr, Variables), Refused>
+) -> Result<(Basic, TypedExpr, Variables), Rejected>
     ensures { Judges (spec.value_at imports.now scope.now levels variables e.now) result }
 {
     let (operand, variables) = expr(alloc, imports, scope, levels, variables, e)?;
-    let (basic, value) = fitting(is_value(operand), Code::Types, e.first_token())?;
+    let (basic, value) = fitting(is_value(operand), RuleCode::Types, e.first_token())?;
     Ok((basic, value, variables))
 }
 
@@ -82,7 +84,7 @@ pub fn assigned_value(
     basic: Basic,
     variables: Variables,
     e: &Expr,
-) -> Result<(TypedExpr, Variables), Refused>
+) -> Result<(TypedExpr, Variables), Rejected>
     ensures { Judges (spec.value_for_at imports.now scope.now levels basic variables e.now) result }
 {
     let (operand, variables) = expr(alloc, imports, scope, levels, variables, e)?;
@@ -99,11 +101,11 @@ pub fn guard(
     levels: u32,
     variables: Variables,
     e: &Expr,
-) -> Result<(TypedExpr, Variables), Refused>
+) -> Result<(TypedExpr, Variables), Rejected>
     ensures { Judges (spec.guard_at imports.now scope.now levels variables e.now) result }
 {
     let (operand, variables) = expr(alloc, imports, scope, levels, variables, e)?;
-    let value = fitting(truth_of(operand), Code::Types, e.first_token())?;
+    let value = fitting(truth_of(operand), RuleCode::Types, e.first_token())?;
     Ok((value, variables))
 }
 
@@ -116,11 +118,11 @@ pub fn number(
     levels: u32,
     variables: Variables,
     e: &Expr,
-) -> Result<(TypedExpr, Variables), Refused>
+) -> Result<(TypedExpr, Variables), Rejected>
     ensures { Judges (spec.number_at imports.now scope.now levels variables e.now) result }
 {
     let (operand, variables) = expr(alloc, imports, scope, levels, variables, e)?;
-    let value = fitting(number_of(operand), Code::Parameters, e.first_token())?;
+    let value = fitting(number_of(operand), RuleCode::Parameters, e.first_token())?;
     Ok((value, variables))
 }
 
@@ -133,10 +135,10 @@ pub fn truth(
     levels: u32,
     variables: Variables,
     e: &Expr,
-) -> Result<(TypedExpr, Variables), Refused>
+) -> Result<(TypedExpr, Variables), Rejected>
     ensures { Judges (spec.truth_at imports.now scope.now levels variables e.now) result }
 {
     let (operand, variables) = expr(alloc, imports, scope, levels, variables, e)?;
-    let value = fitting(truth_of(operand), Code::Parameters, e.first_token())?;
+    let value = fitting(truth_of(operand), RuleCode::Parameters, e.first_token())?;
     Ok((value, variables))
 }

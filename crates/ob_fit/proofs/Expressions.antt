@@ -1,6 +1,6 @@
 -- What the rules of expressions, designators and actual parameters give fits.
 use Rattle.std.proofs.Common.{◌≡◌, inl, ℕ, zero, suc, ◌++◌, Bool, List, [], ◌∷◌, Option, Some, None, is_some, refl, sym, ap, ◌∙◌, subst}
-use Rattle.ob_base.specs.declared.fault.Code.TheVariants as code
+use Rattle.ob_declare.specs.declared.rule.RuleCode.TheVariants as code
 use Rattle.ob_parse.specs.declared.tree.Expr.{Expr, out-Expr}
 use Rattle.ob_parse.specs.declared.tree.Related.{Related, out-Related}
 use Rattle.ob_parse.specs.declared.tree.Simple.{Simple, out-Simple}

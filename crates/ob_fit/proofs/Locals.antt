@@ -1,7 +1,7 @@
 -- The declarations of a procedure fit.
 use Rattle.std.proofs.Common.{◌≡◌, inl, ℕ, ◌+◌, nat_le, nat_lt, ◌++◌, length, Bool, true, false, ◌&&◌, cond, List, [], ◌∷◌, refl, sym, ap, ◌∙◌, subst, arith}
 use Rattle.std.proofs.lemmas.Bool.Decides.{nat_tests}
-use Rattle.ob_base.specs.declared.fault.Code.TheVariants as code
+use Rattle.ob_declare.specs.declared.rule.RuleCode.TheVariants as code
 use Rattle.ob_parse.specs.declared.tree.Declarations.{Declarations, out-Declarations}
 use Rattle.ob_parse.specs.declared.tree.ConstDeclaration.{ConstDeclaration}
 use Rattle.ob_parse.specs.declared.tree.TypeDeclaration.{TypeDeclaration}

@@ -3,7 +3,7 @@ use Rattle.std.proofs.Common.{◌≡◌, inl, ◌<◌, ℕ, zero, suc, ◌+◌, 
 use Rattle.std.proofs.lemmas.Option.{slice_get_within}
 use Rattle.std.proofs.lemmas.Slice.Eq.{bytes_eq-Decides}
 use Rattle.std.specs.Str.{bytes_eq}
-use Rattle.ob_base.specs.declared.fault.Code.TheVariants as code
+use Rattle.ob_declare.specs.declared.rule.RuleCode.TheVariants as code
 use Rattle.ob_parse.specs.declared.tree.Declarations.{Declarations, out-Declarations}
 use Rattle.ob_parse.specs.declared.tree.ConstDeclaration.{ConstDeclaration}
 use Rattle.ob_parse.specs.declared.tree.TypeDeclaration.{TypeDeclaration}

@@ -31,7 +31,7 @@ use Rattle.ob_mean.specs.WellFormed.{Names, Of, ExprFits, IndexesFit, IsPassed, 
 use Rattle.ob_declare.specs.declared.predeclared.Function.{Function}
 use Rattle.ob_declare.specs.declared.predeclared.Function.TheVariants as function
 use Rattle.ob_declare.specs.Rule.{gives}
-use Rattle.ob_base.specs.declared.fault.Code.TheVariants as code
+use Rattle.ob_declare.specs.declared.rule.RuleCode.TheVariants as code
 use Rattle.ob_express.specs.declared.joining.Joined.{Joined}
 use Rattle.ob_express.specs.declared.joining.Joined.TheVariants as joined
 use Rattle.ob_express.specs.declared.joining.Joining.{Joining}

@@ -1,7 +1,7 @@
 -- What names stand for fits, where the scope does.
 use Rattle.std.proofs.Common.{◌≡◌, inl, ℕ, suc, Bool, true, false, cond, List, [], ◌∷◌, Option, Some, None, slice_get, option_map, refl, ap, ◌∙◌, subst}
 use Rattle.std.specs.Str.{bytes_eq}
-use Rattle.ob_base.specs.declared.fault.Code.TheVariants as code
+use Rattle.ob_declare.specs.declared.rule.RuleCode.TheVariants as code
 use Rattle.ob_parse.specs.declared.tree.Designator.{Designator as Written, out-Designator}
 use Rattle.ob_parse.specs.declared.tree.Selector.{Selector, out-Selector}
 use Rattle.ob_parse.specs.declared.tree.Factor.TheOpen.{Selector-F}

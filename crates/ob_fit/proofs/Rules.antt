@@ -1,6 +1,6 @@
 -- What rules give.
 use Rattle.std.proofs.Common.{◌≡◌, List, [], ◌∷◌, ◌++◌, length, Bool, true, false, cond, Option, Some, None, slice_get, refl, ap, ◌∙◌, subst}
-use Rattle.ob_base.specs.declared.fault.Code.{Code}
+use Rattle.ob_declare.specs.declared.rule.RuleCode.{RuleCode}
 use Rattle.ob_declare.specs.Rule.{Rule, gives, there, through}
 use Rattle.ob_fit.specs.Fitting.{StartsWith}
 
@@ -8,7 +8,7 @@ pub through_keeps : {S A : Type 0} (P : S → Type 0) (r : S → A → Rule S) �
 through_keeps P r step s [] t h p = subst P h p
 through_keeps P r step s (x ∷ xs) t h p = through_keeps P r step h.0 xs t h.2 (step s x h.0 h.1 p)
 
-pub there_is : {A : Type 0} (o : Option A) (code : Code) (a : A) → gives (there o code) a → o ≡ Some a
+pub there_is : {A : Type 0} (o : Option A) (code : RuleCode) (a : A) → gives (there o code) a → o ≡ Some a
 there_is None code a h = absurd h
 there_is (Some x) code a h = ap Some h
 

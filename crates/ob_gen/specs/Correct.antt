@@ -1,18 +1,21 @@
 -- What it means that code does what trees mean.
-use Rattle.std.specs.Prelude.{◌≡◌, ℕ, suc, ◌+◌, List, [], ◌∷◌, Option, Some, None, Bool, true, slice_get, take}
+use Rattle.std.specs.Prelude.{◌≡◌, ℕ, suc, ◌+◌, List, [], ◌∷◌, ◌++◌, Option, Some, None, Bool, true, slice_get, take}
 use Rattle.ob_mean.specs.declared.expression.TypedExpr.{TypedExpr}
 use Rattle.ob_mean.specs.declared.statement.TypedStatement.{TypedStatement}
 use Rattle.ob_mean.specs.declared.face.Face.{Face}
 use Rattle.ob_mean.specs.declared.module.Parameter.{Parameter}
+use Rattle.ob_mean.specs.declared.module.Parameter.TheVariants as parameter
 use Rattle.ob_mean.specs.declared.module.TypedProcedure.{TypedProcedure}
 use Rattle.ob_mean.specs.declared.module.TypedModule.{TypedModule}
 use Rattle.ob_mean.specs.declared.module.Loaded.{Loaded}
 use Rattle.ob_mean.specs.declared.outcome.Outcome.{Outcome}
 use Rattle.ob_mean.specs.Values.{Value, before, size, shape, image}
-use Rattle.ob_mean.specs.Shapes.{opening_row}
+use Rattle.ob_mean.specs.Shapes.{zero_of, opening_row}
 use Rattle.ob_mean.specs.Runs.{World, Supply, Run, Stands, Done}
 use Rattle.ob_mean.specs.Programs.{Program, body_meaning, opening_store, kept_store}
 use Rattle.ob_mean.specs.WellFormed.{Names, names_in, names_of, is_there, IsLinked}
+use Rattle.ob_code.specs.declared.instr.NameKind.{NameKind}
+use Rattle.ob_code.specs.declared.instr.NameKind.TheVariants.{Cells, ArrayOf}
 use Rattle.ob_code.specs.declared.instr.Procedure.{Procedure}
 use Rattle.ob_code.specs.declared.instr.LinkedModule.{LinkedModule}
 use Rattle.ob_code.specs.Machine.{Code, Config, Going, Standing, Lost, Comes, start, picture}
@@ -24,6 +27,16 @@ abbrev pub named_count : List Parameter → ℕ
 named_count [] = 0
 named_count (p ∷ ps) = named_one p + named_count ps
 
+-- what a parameter's name stands for: a variable of this shape, or an array of such elements
+abbrev pub name_kind : Parameter → List NameKind
+name_kind parameter.Value = []
+name_kind (parameter.Place shape) = Cells (size (zero_of shape)) ∷ []
+name_kind (parameter.Open shape) = ArrayOf (size (zero_of shape)) ∷ []
+
+abbrev pub name_kinds : List Parameter → List NameKind
+name_kinds [] = []
+name_kinds (p ∷ ps) = name_kind p ++ name_kinds ps
+
 abbrev pub parameter_count : List Parameter → ℕ
 parameter_count [] = 0
 parameter_count (p ∷ ps) = suc (parameter_count ps)
@@ -33,6 +46,7 @@ pub record IsCodeOf (names : Names) (body : List TypedStatement) (result : Optio
   pub lines : g.lines.items ≡ procedure_code names body result
   pub cells : g.cells ≡ size (own_row names)
   pub names_taken : g.entry.names ≡ named_count names.parameters
+  pub stand_for : g.entry.kinds ≡ name_kinds names.parameters
   pub all_taken : g.entry.operands + g.entry.names ≡ parameter_count names.parameters
   pub gives : g.entry.is_function ≡ is_there result
 

@@ -12,7 +12,7 @@ use Rattle.ob_code.specs.declared.instr.Line.{Line}
 use Rattle.ob_code.specs.declared.instr.Procedure.{Procedure}
 use Rattle.ob_code.specs.declared.instr.CodeModule.{CodeModule}
 use Rattle.ob_gen.specs.Code.{parameter_value}
-use Rattle.ob_gen.specs.Correct.{AreCompiled, named_count}
+use Rattle.ob_gen.specs.Correct.{AreCompiled, named_count, name_kinds}
 
 -- ---- what calls take and leave
 
@@ -22,7 +22,7 @@ valued_count [] = 0
 valued_count (p ∷ ps) = size (parameter_value p) + valued_count ps
 
 abbrev pub entry_for : List Parameter → Bool → Entry
-entry_for ps gives = record { operands = valued_count ps; names = named_count ps; is_function = gives }
+entry_for ps gives = record { operands = valued_count ps; names = named_count ps; kinds = name_kinds ps; is_function = gives }
 
 abbrev pub heading_entry : Heading → Entry
 heading_entry h = entry_for h.parameters h.is_function

@@ -8,7 +8,7 @@ use Rattle.ob_code.specs.Kinds.{IsMeasured}
 use Rattle.ob_code.specs.Astray.{StaysInObjects}
 use Rattle.ob_gen.specs.Generated.{IsGenerated}
 
--- Of the operands of a well-formed module's code enough is known, so that the code stays in its objects wherever it is linked
+-- Of the operands and names of a well-formed module's code enough is known, so that the code stays in its objects wherever it is linked
 -- among such modules.
 abbrev pub EachStaysInObjects : Type 0
 EachStaysInObjects = (faces : List Face) (m : TypedModule) (code : CodeModule) → IsWellFormed faces m → IsGenerated faces m code → IsMeasured code × StaysInObjects code

@@ -4,7 +4,7 @@ ghost use Rattle.std.specs.Prelude.{◌≡◌, ◌+◌, ◌++◌, map, IfOk, OnO
 ghost use Rattle.ob_mean.specs.Values.{append, size};
 ghost use Rattle.ob_mean.specs.Shapes.{opening_row, opening_value, zeros};
 ghost use Rattle.ob_gen.specs.Code as spec;
-ghost use Rattle.ob_gen.specs.Correct.{IsCodeOf};
+ghost use Rattle.ob_gen.specs.Correct.{name_kind, name_kinds, IsCodeOf};
 ghost use Rattle.ob_gen.specs.Generated.{entry_for, most_names, most_operands, AreOfFaces, HasRoom, IsOfFace};
 ghost use Rattle.ob_gen.specs.Known.{face_sizes, names_in, IsPlaced};
 ghost use Rattle.ob_gen.specs.Tables.{row_sizes};
@@ -13,7 +13,8 @@ use crate::emit::emit_expr;
 use crate::known::Known;
 use crate::statement::emit_statements;
 use crate::table::{Table, shape_cells};
-use ob_code::instr::{Entries, Entry, Line, Procedure};
+use ob_base::Items;
+use ob_code::instr::{Entries, Entry, Line, NameKind, Procedure};
 use ob_mean::{Face, ModuleVariable, Parameter, Shape, TypedExpr, TypedStatement};
 use std::alloc::{AllocError, Global};
 
@@ -109,8 +110,30 @@ pub fn name_table(alloc: Global, parameters: &[Parameter]) -> Result<Table, Allo
 
 // ---- what calls take and leave
 
-fn entry_of(parameters: &[Parameter], is_function: bool) -> Entry
-    ensures { result ≡ entry_for parameters.now is_function }
+// One more parameter, which makes a name or none.
+fn add_kind(kinds: &mut Items<NameKind>, parameter: &Parameter) -> Result<(), AllocError>
+    ensures { OnOk result (kinds.new ≡ kinds.old ++ name_kind parameter.now) }
+{
+    match parameter {
+        Parameter::Value => Ok(()),
+        Parameter::Place(shape) => kinds.push(NameKind::Cells(shape_cells(shape)?)),
+        Parameter::Open(shape) => kinds.push(NameKind::ArrayOf(shape_cells(shape)?)),
+    }
+}
+
+// What the parameters' names stand for.
+fn name_kinds(alloc: Global, parameters: &[Parameter]) -> Result<Items<NameKind>, AllocError>
+    ensures { IfOk result (λ kinds. kinds ≡ name_kinds parameters.now) }
+{
+    let mut kinds = Items::new(alloc);
+    for parameter in parameters {
+        add_kind(&mut kinds, parameter)?;
+    }
+    Ok(kinds)
+}
+
+fn entry_of(alloc: Global, parameters: &[Parameter], is_function: bool) -> Result<Entry, AllocError>
+    ensures { IfOk result (λ entry. entry ≡ entry_for parameters.now is_function) }
 {
     let mut operands = 0;
     let mut names = 0;
@@ -118,11 +141,13 @@ fn entry_of(parameters: &[Parameter], is_function: bool) -> Entry
         operands += parameter_cells(parameter);
         names += parameter_names(parameter);
     }
-    Entry {
+    let kinds = name_kinds(alloc, parameters)?;
+    Ok(Entry {
         operands,
         names,
+        kinds,
         is_function,
-    }
+    })
 }
 
 fn entries_of(alloc: Global, face: &Face) -> Result<Entries, AllocError>
@@ -132,7 +157,8 @@ fn entries_of(alloc: Global, face: &Face) -> Result<Entries, AllocError>
     let mut exported = Vec::new(alloc);
     let headings = face.procedures.as_slice();
     for heading in headings {
-        exported.push(entry_of(heading.parameters.as_slice(), heading.is_function))?;
+        let parameters = heading.parameters.as_slice();
+        exported.push(entry_of(alloc, parameters, heading.is_function)?)?;
     }
     Ok(Entries {
         cells: variables.cells(),
@@ -207,7 +233,7 @@ pub fn emit_procedure(
     emit_result(alloc, &mut lines, known, value)?;
     let room = room_of(&lines)?;
     Ok(Procedure {
-        entry: entry_of(known.parameters, value.is_some()),
+        entry: entry_of(alloc, known.parameters, value.is_some())?,
         cells: known.own_table.cells(),
         operand_room: room.operands,
         name_room: room.names,

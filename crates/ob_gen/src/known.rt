@@ -237,7 +237,7 @@ pub fn length_of(object: Object, root: Root) -> Length
         Object::Nothing | Object::Basic => Length::Elements(0),
         Object::Of(Shape::Basic) => Length::Elements(0),
         Object::Of(Shape::Array(length, _)) => Length::Elements(*length as usize),
-        Object::Of(Shape::Record(fields)) => Length::Elements(fields.len().max(1)),
+        Object::Of(Shape::Record(fields)) => Length::Elements(fields.as_slice().len().max(1)),
         Object::Characters(length) => Length::Elements(length as usize),
         Object::Open(_) => Length::OfName(name_number(root)),
     }

@@ -17,9 +17,9 @@ pub fn commands_law()
 {}
 
 /// The code that `generate` makes of a well-formed module takes no cell out of an object: wherever it is linked among
-/// modules of whose operands as much is known, each instruction that a run of a body comes to finds the cells that it takes
-/// in the object that it names, where that is an object of a module, of an import or of the running call. As much is known
-/// of the operands of all such code.
+/// modules of whose operands and names as much is known, each instruction that a run of a body comes to finds the cells that
+/// it takes in the object that it names: of a module, of an import, of the running call, or what one of its names stands for.
+/// As much is known of the operands and names of all such code.
 pub fn objects_law()
     ensures { EachStaysInObjects }
 {}

@@ -1,4 +1,3 @@
 pub mod Begins
 pub mod Laid
-pub mod Faces
 pub mod Counted

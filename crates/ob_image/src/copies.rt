@@ -1,43 +1,28 @@
-//! Copies of what is known of a module, which are equal values.
+//! Copies of what is known of a module, which are equal values. Shapes have one more owner.
 
 ghost use Rattle.std.specs.Prelude.{◌≡◌, IfOk};
 
-use ob_base::{Boxed, Items};
+use ob_base::Items;
 use ob_mean::{Face, Heading, Parameter, Shape};
 use std::alloc::{AllocError, Global};
 
-#[cycle(copy)]
-fn copy_shape(alloc: Global, shape: &Shape) -> Result<Shape, AllocError>
-    ensures { IfOk result (λ c. c ≡ shape.now) }
-{
-    match shape {
-        Shape::Basic => Ok(Shape::Basic),
-        Shape::Array(length, element) => {
-            let element = copy_shape(alloc, element.get())?;
-            Ok(Shape::Array(*length, Boxed::new(alloc, element)?))
-        }
-        Shape::Record(fields) => Ok(Shape::Record(copy_shapes(alloc, fields.as_slice())?)),
-    }
-}
-
-#[cycle(copy)]
 fn copy_shapes(alloc: Global, shapes: &[Shape]) -> Result<Items<Shape>, AllocError>
     ensures { IfOk result (λ c. c ≡ shapes.now) }
 {
     let mut copies = Items::new(alloc);
     for shape in shapes {
-        copies.push(copy_shape(alloc, shape)?)?;
+        copies.push(shape.another()?)?;
     }
     Ok(copies)
 }
 
-fn copy_parameter(alloc: Global, parameter: &Parameter) -> Result<Parameter, AllocError>
+fn another_parameter(parameter: &Parameter) -> Result<Parameter, AllocError>
     ensures { IfOk result (λ c. c ≡ parameter.now) }
 {
     match parameter {
         Parameter::Value => Ok(Parameter::Value),
-        Parameter::Place(shape) => Ok(Parameter::Place(copy_shape(alloc, shape)?)),
-        Parameter::Open(element) => Ok(Parameter::Open(copy_shape(alloc, element)?)),
+        Parameter::Place(shape) => Ok(Parameter::Place(shape.another()?)),
+        Parameter::Open(element) => Ok(Parameter::Open(element.another()?)),
     }
 }
 
@@ -46,7 +31,7 @@ fn copy_parameters(alloc: Global, parameters: &[Parameter]) -> Result<Items<Para
 {
     let mut copies = Items::new(alloc);
     for parameter in parameters {
-        copies.push(copy_parameter(alloc, parameter)?)?;
+        copies.push(another_parameter(parameter)?)?;
     }
     Ok(copies)
 }

@@ -2,18 +2,14 @@
 //! what is known of them, and where each module's cells lie.
 #![tactic(auto)]
 
-mod agreement;
 mod copies;
 mod known;
 mod laying;
 mod module_cells;
 mod opening;
-mod same;
 
-pub use agreement::agree;
 pub use copies::copy_face;
 pub use known::KnownFaces;
 pub use laying::{lay, put_at};
 pub use module_cells::bounds;
 pub use opening::{loaded_cells, push_opening};
-pub use same::same_face;

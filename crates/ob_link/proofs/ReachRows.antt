@@ -1,5 +1,5 @@
 -- The rows of what reaches a name are those of the definition.
-use Rattle.std.proofs.Common.{◌≡◌, ℕ, zero, suc, ◌+◌, ◌-◌, ◌≤◌, Bool, true, false, ◌||◌, List, [], length, map, Option, Some, None, refl, sym, ◌∙◌, ap, arith}
+use Rattle.std.proofs.Common.{◌≡◌, ◌∷◌, ℕ, zero, suc, ◌+◌, ◌-◌, ◌≤◌, Bool, true, false, ◌||◌, List, [], length, map, Option, Some, None, refl, sym, ◌∙◌, ap, arith}
 use Rattle.std.specs.Prelude.{slice_index_or}
 use Rattle.std.specs.List.{list_any}
 use Rattle.std.specs.Str.{bytes_eq}
@@ -50,3 +50,25 @@ reach_settled modules row next k name e n same le =
     let there : next ≡ reach_row modules (suc k) name = n ∙ ap (λ (r : List Bool). next_reach_row modules r name) e ∙ reach_next modules k name in
     let m : k + (length modules - k) ≡ length modules = omega (arith, le) in
     sym same ∙ e ∙ sym (reach_stays modules k (length modules - k) name (sym e ∙ same ∙ there)) ∙ ap (λ j. reach_row modules j name) m
+
+-- ---- where no module imports the name
+
+either_false : (a b : Bool) → (a || b) ≡ false → (a ≡ false) × (b ≡ false)
+either_false true b e = absurd (let k : true ≡ false = e in cc)
+either_false false b e = (refl, e)
+
+none_at : (row : List Bool) (k : ℕ) → list_any (λ b. b) row ≡ false → slice_index_or row k false ≡ false
+none_at [] k e = refl
+none_at (b ∷ bs) zero e = (either_false b (list_any (λ b. b) bs) e).0
+none_at (b ∷ bs) (suc k) e = none_at bs k (either_false b (list_any (λ b. b) bs) e).1
+
+none_behind : (modules : List Module) (row : List Bool) (name : List ℕ) (i : Import) → list_any (λ b. b) row ≡ false → reaches_in modules row name i ≡ reaches_in modules [] name i
+none_behind modules row name i e = ap (λ (b : Bool). bytes_eq i.name name || b) (none_at row (place_of modules i.name) e)
+
+pub reach_none : (modules : List Module) (row : List Bool) (name : List ℕ) → row ≡ reach_row modules 0 name → list_any (λ b. b) row ≡ false → row ≡ reaching modules name
+reach_none modules row name e none =
+    let again : next_reach_row modules row name ≡ row =
+    ap (λ (t : Import → Bool). map (λ (m : Module). list_any t m.imports) modules) (λ x i. none_behind modules row name i none x)
+    ∙ reach_zero modules name ∙ sym e in
+    let few : 0 ≤ length modules = omega arith in
+    reach_settled modules row row 0 name e (sym again) refl few

@@ -1,9 +1,10 @@
 -- What imports that link name links too, and so it may run.
-use Rattle.std.proofs.Common.{◌≡◌, ℕ, zero, suc, Bool, true, false, List, [], ◌∷◌, map, Option, Some, None, is_none, slice_get, refl, sym, ◌∙◌, ap, subst}
+use Rattle.std.proofs.Common.{◌≡◌, ℕ, zero, suc, Bool, false, List, [], ◌∷◌, map, Option, Some, None, is_none, slice_get, refl, sym, ◌∙◌, ap, subst}
 use Rattle.ob_session.specs.Session.{Import, Module, find_module, link_fault}
 use Rattle.ob_session.specs.Links.{Reached, First, Behind, Through}
 use Rattle.ob_session.proofs.Links.{each_links}
 use Rattle.ob_link.specs.Runs.{EachImportRuns, EachRunsLinked}
+use Rattle.ob_link.proofs.Faults.{no_fault}
 use Rattle.ob_link.proofs.Rows.{at_number, at_place, found_at}
 
 some_import : (j i : Import) → Some j ≡ Some i → j ≡ i
@@ -34,10 +35,6 @@ each_import_runs modules imports links k i e =
       links = deeper;
       runs = at_place (λ (m : Module). is_none (link_fault modules m.imports)) false modules i.name there.0 there.1 ∙ ap is_none deeper;
     }
-
-no_fault : (fault : Option (List ℕ)) → is_none fault ≡ true → fault ≡ None
-no_fault None e = refl
-no_fault (Some name) e = absurd (let k : false ≡ true = e in cc)
 
 pub each_runs_linked : EachRunsLinked
 each_runs_linked modules number m e =

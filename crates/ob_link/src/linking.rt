@@ -1,6 +1,6 @@
 //! What links.
 
-ghost use Rattle.std.specs.Prelude.{◌≡◌, ◌↔◌, IfOk, IsTrue, None, length, map, slice_index_or};
+ghost use Rattle.std.specs.Prelude.{◌≡◌, ◌↔◌, [], IfOk, IsTrue, None, length, map, slice_index_or, true};
 ghost use Rattle.ob_session.specs.Session.{Module};
 ghost use Rattle.ob_session.specs.Session as session;
 ghost use Rattle.ob_link.specs.Faults as spec;
@@ -52,7 +52,29 @@ fn same_faults(row: &[Option<Text>], other: &[Option<Text>]) -> bool
     true
 }
 
+// Whether none of these is a fault.
+fn no_fault(row: &[Option<Text>]) -> bool
+    ensures { result ≡ spec.all_none row.now }
+{
+    for fault in row {
+        if fault.is_some() {
+            return false;
+        }
+    }
+    true
+}
+
 impl Table {
+    // What is behind the module of this name.
+    fn fault_behind(&self, behind: &[Option<Text>], name: &Text) -> Result<Option<Text>, AllocError>
+        ensures { IfOk result (λ f. f ≡ slice_index_or behind.now (session.place_of self.now name.now) None) }
+    {
+        if behind.is_empty() {
+            return Ok(None);
+        }
+        fault_at(self.alloc(), behind, self.place_of(name))
+    }
+
     // The fault of an import, where these are the faults behind each module.
     fn fault_of(
         &self,
@@ -64,7 +86,7 @@ impl Table {
         match self.find(import.name()) {
             Some(found) => {
                 if found.interface().key().as_bytes() == import.key().as_slice() {
-                    fault_at(self.alloc(), behind, self.place_of(import.name()))
+                    self.fault_behind(behind, import.name())
                 } else {
                     Ok(Some(import.name().copy(self.alloc())?))
                 }
@@ -114,9 +136,28 @@ impl Table {
         Ok(so_far)
     }
 
-    // The faults behind each module, through chains of as many imports as there are modules. A row that gives itself gives no
-    // other.
+    // The same where nothing is known behind any module.
+    fn first_faults(&self) -> Result<Vec<Option<Text>>, AllocError>
+        ensures { IfOk result (λ row. row.items ≡ spec.next_row self.now []) }
+    {
+        let none = Vec::new(self.alloc());
+        self.next_faults(none.as_slice())
+    }
+
+    // The faults behind each module, through chains of as many imports as there are modules. Where no import has a fault of
+    // its own, there is none.
     pub(crate) fn last_faults(&self) -> Result<Vec<Option<Text>>, AllocError>
+        ensures { IfOk result (λ row. row.items ≡ spec.fault_row self.now (length self.now)) }
+    {
+        let first = self.first_faults()?;
+        if no_fault(first.as_slice()) {
+            return Ok(first);
+        }
+        self.faults_in_rows()
+    }
+
+    // The same, row by row. A row that gives itself gives no other.
+    fn faults_in_rows(&self) -> Result<Vec<Option<Text>>, AllocError>
         ensures { IfOk result (λ row. row.items ≡ spec.fault_row self.now (length self.now)) }
     {
         let mut behind = self.no_faults()?;
@@ -161,6 +202,26 @@ impl Modules {
     ///
     /// Want of memory.
     pub fn may_run(&self) -> Result<Vec<bool>, AllocError>
+        ensures { IfOk result (λ row. row.items ≡ may_run self.now) }
+    {
+        if no_fault(self.faults.as_slice()) {
+            return self.all_run();
+        }
+        self.runs_by_faults()
+    }
+
+    // That each module may run.
+    fn all_run(&self) -> Result<Vec<bool>, AllocError>
+        ensures { IfOk result (λ row. row.items ≡ map (λ (m : Module). true) self.now) }
+    {
+        let mut so_far = Vec::new(self.alloc());
+        for _module in self.as_slice() {
+            so_far.push(true)?;
+        }
+        Ok(so_far)
+    }
+
+    fn runs_by_faults(&self) -> Result<Vec<bool>, AllocError>
         ensures { IfOk result (λ row. row.items ≡ may_run self.now) }
     {
         let faults = self.faults()?;

@@ -2,6 +2,7 @@
 
 ghost use Rattle.std.specs.Prelude.{◌≡◌, IfOk, IsTrue, length, slice_index_or, false};
 ghost use Rattle.std.specs.List.{list_any};
+ghost use Rattle.ob_session.specs.Session.{place_of};
 ghost use Rattle.ob_link.specs.Reaching as spec;
 
 use crate::module::KeyedImport;
@@ -34,12 +35,34 @@ fn same_flags(row: &[bool], other: &[bool]) -> bool
     true
 }
 
+// Whether one of these is up.
+fn has_flag(flags: &[bool]) -> bool
+    ensures { result ≡ list_any (λ b. b) flags.now }
+{
+    for flag in flags {
+        if *flag {
+            return true;
+        }
+    }
+    false
+}
+
 impl Modules {
+    // The flag of the module of this name.
+    fn flag_behind(&self, behind: &[bool], name: &Text) -> bool
+        ensures { result ≡ slice_index_or behind.now (place_of self.now name.now) false }
+    {
+        if behind.is_empty() {
+            return false;
+        }
+        flag_at(behind, self.place_of(name))
+    }
+
     // Whether an import reaches a module of this name, where these are the modules that do.
     fn reaches(&self, behind: &[bool], name: &Text, import: &KeyedImport) -> bool
         ensures { result ≡ spec.reaches_in self.now behind.now name.now import.now }
     {
-        import.name().same(name) || flag_at(behind, self.place_of(import.name()))
+        import.name().same(name) || self.flag_behind(behind, import.name())
     }
 
     // Whether one of these imports does.
@@ -74,7 +97,7 @@ impl Modules {
     }
 
     /// Whether each module, by its number, reaches a module of this name by its imports and theirs. The module of that name
-    /// need not be loaded.
+    /// need not be loaded. Where none imports it, that is seen by one pass over the modules.
     ///
     /// # Errors
     ///
@@ -82,7 +105,19 @@ impl Modules {
     pub fn reaching(&self, name: &Text) -> Result<Vec<bool>, AllocError>
         ensures { IfOk result (λ row. row.items ≡ spec.reaching self.now name.now) }
     {
-        let mut row = self.first_reaching(name)?;
+        let row = self.first_reaching(name)?;
+        if has_flag(row.as_slice()) {
+            return self.reaching_in_rows(row, name);
+        }
+        Ok(row)
+    }
+
+    // The same, row by row from the first.
+    fn reaching_in_rows(&self, first: Vec<bool>, name: &Text) -> Result<Vec<bool>, AllocError>
+        requires { first.items ≡ spec.reach_row self.now 0 name.now }
+        ensures { IfOk result (λ row. row.items ≡ spec.reaching self.now name.now) }
+    {
+        let mut row = first;
         for _length in 0..self.as_slice().len() {
             let next = self.next_reaching(row.as_slice(), name)?;
             if same_flags(row.as_slice(), next.as_slice()) {

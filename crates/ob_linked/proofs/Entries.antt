@@ -19,6 +19,7 @@ use Rattle.ob_code.specs.declared.instr.Entries.{Entries}
 use Rattle.ob_code.specs.declared.instr.Procedure.{Procedure}
 use Rattle.ob_code.specs.declared.instr.LinkedModule.{LinkedModule}
 use Rattle.ob_code.specs.Linked.{Exports}
+use Rattle.ob_code.proofs.machine.Laid.{entry_same}
 use Rattle.ob_gen.specs.Correct.{named_count, parameter_count, IsCodeOf}
 use Rattle.ob_gen.specs.Generated.{valued_count, heading_entry, IsOfFace, IsGenerated}
 use Rattle.ob_gen.proofs.machine.Places.{some_same}
@@ -45,18 +46,11 @@ valued (parameter.Value ∷ ps) = let h = valued ps in omega (arith, h)
 valued (parameter.Place t ∷ ps) = let h = valued ps in omega (arith, h)
 valued (parameter.Open t ∷ ps) = let h = valued ps in omega (arith, h)
 
-entry_same : (a b : Entry) → a.operands ≡ b.operands → a.names ≡ b.names → a.is_function ≡ b.is_function → a ≡ b
-entry_same a b e f g =
-    let x : a ≡ record { operands = b.operands; names = a.names; is_function = a.is_function } = ap (λ x. record { operands = x; names = a.names; is_function = a.is_function }) e in
-    let y : record { operands = b.operands; names = a.names; is_function = a.is_function } ≡ record { operands = b.operands; names = b.names; is_function = a.is_function } = ap (λ x. record { operands = b.operands; names = x; is_function = a.is_function }) f in
-    let z : record { operands = b.operands; names = b.names; is_function = a.is_function } ≡ b = ap (λ x. record { operands = b.operands; names = b.names; is_function = x }) g in
-    x ∙ y ∙ z
-
 -- what a procedure of the code takes and leaves is what its heading says
 entry_is : (faces : List Face) (m : TypedModule) (tree : TypedProcedure) (g : Procedure) → IsCodeOf (names_of faces m tree) tree.body tree.result g → g.entry ≡ heading_entry (heading_of tree)
 entry_is faces m tree g code =
     let all = valued tree.parameters in
-    entry_same g.entry (heading_entry (heading_of tree)) (omega (arith, all, code.all_taken, code.names_taken)) code.names_taken code.gives
+    entry_same g.entry (heading_entry (heading_of tree)) (omega (arith, all, code.all_taken, code.names_taken)) code.names_taken code.stand_for code.gives
 
 -- the number of an exported procedure
 pub record Numbered (fs : List TypedProcedure) (ps : List ℕ) (x : ℕ) (h : Heading) : Type 0 where

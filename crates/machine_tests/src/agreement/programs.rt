@@ -79,6 +79,14 @@ pub(crate) const CALLS: [&str; 18] = [
     "MODULE A; IMPORT Out; PROCEDURE Gcd(a, b: INTEGER): INTEGER; VAR r: INTEGER; BEGIN IF b = 0 THEN r := a ELSE r := Gcd(b, a MOD b) END RETURN r END Gcd; BEGIN Out.Int(Gcd(Gcd(60, 48), Gcd(36, 90)), 0) END A.",
 ];
 
+/// Loops on what VAR and structured parameters stand for.
+pub(crate) const NAMES: [&str; 4] = [
+    "MODULE A; IMPORT Out; VAR s, t: ARRAY 8 OF CHAR; PROCEDURE Length(VAR s: ARRAY OF CHAR): INTEGER; VAR i: INTEGER; BEGIN i := 0; WHILE (i < LEN(s)) & (s[i] # 0X) DO i := i + 1 END RETURN i END Length; PROCEDURE Up(VAR s: ARRAY OF CHAR); VAR i: INTEGER; BEGIN FOR i := 0 TO LEN(s) - 1 DO IF (s[i] >= \"a\") & (s[i] <= \"z\") THEN s[i] := CHR(ORD(s[i]) - 32) END END END Up; BEGIN s := \"abcXyz\"; Up(s); Out.String(s); Out.Int(Length(s), 2); t := \"\"; Out.Int(Length(t), 2); t[7] := \"q\"; Up(t); Out.Int(ORD(t[7]), 4) END A.",
+    "MODULE A; IMPORT Out; TYPE P = RECORD x, y, z: INTEGER END; VAR ps: ARRAY 3 OF P; i, j: INTEGER; PROCEDURE Move(VAR p: P; d: INTEGER); BEGIN p.x := p.x + d; p.y := p.y - d; p.z := p.z + p.x END Move; BEGIN FOR j := 1 TO 4 DO FOR i := 0 TO 2 DO Move(ps[i], i) END END; FOR i := 0 TO 2 DO Out.Int(ps[i].x, 4); Out.Int(ps[i].y, 4); Out.Int(ps[i].z, 4) END END A.",
+    "MODULE A; IMPORT Out; VAR n: INTEGER; PROCEDURE Add(VAR a: ARRAY OF INTEGER; VAR sum: INTEGER); VAR i: INTEGER; BEGIN i := 0; WHILE i < LEN(a) DO sum := sum + a[i]; a[i] := sum; i := i + 1 END END Add; PROCEDURE Both(VAR a: ARRAY OF INTEGER); VAR s: INTEGER; b: ARRAY 3 OF INTEGER; BEGIN Add(a, s); b[1] := s; Add(b, s); Add(a, a[1]); n := s END Both; PROCEDURE Own; VAR c: ARRAY 4 OF INTEGER; i: INTEGER; BEGIN FOR i := 0 TO 3 DO c[i] := i END; Both(c); FOR i := 0 TO 3 DO Out.Int(c[i], 4) END END Own; BEGIN Own; Own; Out.Int(n, 4) END A.",
+    "MODULE T; VAR a: ARRAY 3 OF INTEGER; PROCEDURE Fill(VAR r: ARRAY OF INTEGER; n: INTEGER); VAR i: INTEGER; BEGIN i := 0; WHILE i < n DO\nr[i] := i; i := i + 1 END END Fill; BEGIN Fill(a, 3);\nFill(a, 5) END T.",
+];
+
 /// Programs that trap.
 pub(crate) const TRAPS: [&str; 22] = [
     "MODULE F; VAR a: ARRAY 3 OF INTEGER; i: INTEGER; BEGIN i := 3; a[i] := 1 END F.",

@@ -1,114 +1,231 @@
--- Numbers of the kinds that are known of them.
-use Rattle.std.proofs.Common.{◌≡◌, ℕ, zero, suc, ◌+◌, ◌-◌, ◌*◌, ◌<◌, ◌≤◌, ℤ, pos, negsuc, ◌+ℤ◌, List, [], ◌∷◌, ◌++◌, length, drop, Bool, true, false, refl, sym, subst, arith}
-use Rattle.std.specs.Prelude.{nat_lt, if◌then◌else◌}
+-- Numbers and names of the kinds that are known of them.
+use Rattle.std.proofs.Common.{◌≡◌, ℕ, zero, suc, ◌+◌, ◌*◌, ◌<◌, ◌≤◌, ℤ, pos, negsuc, ◌+ℤ◌, List, [], ◌∷◌, ◌++◌, length, take, drop, Some, None, Bool, true, false, refl, sym, ap, ◌∙◌, subst, arith}
+use Rattle.std.specs.Prelude.{nat_lt, nat_le, if◌then◌else◌, slice_get, slice_index_or}
 use Rattle.std.specs.Int.{w32, int_wrap}
 use Rattle.std.proofs.lemmas.Int.{int_wrap_fits}
 use Rattle.std.proofs.lemmas.Nat.{mul-le}
 use Rattle.std.proofs.lemmas.Bool.Decides.{nat_tests}
 use Rattle.ob_mean.specs.Arithmetic.{wrap}
 use Rattle.ob_code.specs.declared.kinds.Kind.{Kind}
-use Rattle.ob_code.specs.declared.kinds.Kind.TheVariants.{Number, UpTo, Absent}
+use Rattle.ob_code.specs.declared.kinds.Kind.TheVariants.{Number, UpTo, Inside, Absent}
+use Rattle.ob_code.specs.declared.instr.NameKind.{NameKind}
+use Rattle.ob_code.specs.declared.instr.Name.{Name}
 use Rattle.ob_code.specs.declared.instr.Length.{Length}
 use Rattle.ob_code.specs.declared.instr.Length.TheVariants.{Elements, OfName}
-use Rattle.ob_code.specs.Machine.{Config, elements}
-use Rattle.ob_code.specs.Kinds.{Kinds, Is, Covers, CoverAll, first, second, literal, low, moved, one_of, element, results_kinds}
+use Rattle.ob_code.specs.Machine.{Config, no_name, elements}
+use Rattle.ob_code.specs.Kinds.{Kinds, NameKinds, Is, IsOf, Covers, CoverAll, first, second, literal, low, inside, moved, one_of, one_inside, element, results_kinds}
+
+-- what is known of an operand, where the names of its call have these lengths
+abbrev pub Held : Type 0
+Held = (ℕ → ℕ) × Kind
+
+abbrev pub held : (ℕ → ℕ) → Kinds → List Held
+held lengths [] = []
+held lengths (k ∷ ks) = (lengths, k) ∷ held lengths ks
 
 -- the numbers on top of the operands are of these kinds
-abbrev pub Match : Kinds → List ℤ → Type 0
+abbrev pub Match : List Held → List ℤ → Type 0
 Match [] vs = Unit {0}
-Match (k ∷ ks) [] = ⊥
-Match (k ∷ ks) (v ∷ vs) = Is k v × Match ks vs
+Match (h ∷ hs) [] = ⊥
+Match (h ∷ hs) (v ∷ vs) = Is h.0 h.1 v × Match hs vs
 
--- ---- one kind and another
+module _ (lengths : ℕ → ℕ) where
+  -- ---- one kind and another
 
-covered_one : (e k : Kind) (v : ℤ) → Covers e k → Is k v → Is e v
-covered_one Number k v c h = tt
-covered_one (UpTo most) Number v c h = absurd c
-covered_one (UpTo most) (UpTo k) (pos n) c h = omega (arith, c, h)
-covered_one (UpTo most) (UpTo k) (negsuc n) c h = absurd h
-covered_one (UpTo most) Absent v c h = absurd h
-covered_one Absent Number v c h = absurd c
-covered_one Absent (UpTo k) v c h = absurd c
-covered_one Absent Absent v c h = h
+  covered_one : (e k : Kind) (v : ℤ) → Covers e k → Is lengths k v → Is lengths e v
+  covered_one Number k v c h = tt
+  covered_one (UpTo most) Number v c h = absurd c
+  covered_one (UpTo most) (UpTo k) (pos n) c h = omega (arith, c, h)
+  covered_one (UpTo most) (UpTo k) (negsuc n) c h = absurd h
+  covered_one (UpTo most) (Inside y by k) v c h = absurd c
+  covered_one (UpTo most) Absent v c h = absurd h
+  covered_one (Inside x size most) Number v c h = absurd c
+  covered_one (Inside x size most) (UpTo k) v c h = absurd c
+  covered_one (Inside x size most) (Inside y by k) v c h =
+      subst (λ z. Is lengths (Inside z size most) v) c.0
+      (subst (λ z. Is lengths (Inside y z most) v) c.1 (farther v h))
+    where
+      farther : (v : ℤ) → Is lengths (Inside y by k) v → Is lengths (Inside y by most) v
+      farther (pos n) h = (omega (arith, c.2, h.0), h.1)
+      farther (negsuc n) h = absurd h
+  covered_one (Inside x size most) Absent v c h = absurd h
+  covered_one Absent Number v c h = absurd c
+  covered_one Absent (UpTo k) v c h = absurd c
+  covered_one Absent (Inside y by k) v c h = absurd c
+  covered_one Absent Absent v c h = h
 
-pub covered : (es ks below : Kinds) (vs : List ℤ) → CoverAll es ks → Match (ks ++ below) vs → Match (es ++ below) vs
-covered [] [] below vs c h = h
-covered [] (k ∷ ks) below vs c h = absurd c
-covered (e ∷ es) [] below vs c h = absurd c
-covered (e ∷ es) (k ∷ ks) below [] c h = absurd h
-covered (e ∷ es) (k ∷ ks) below (v ∷ vs) c h = (covered_one e k v c.0 h.0, covered es ks below vs c.1 h.1)
+  pub covered : (es ks : Kinds) (below : List Held) (vs : List ℤ) → CoverAll es ks → Match (held lengths ks ++ below) vs → Match (held lengths es ++ below) vs
+  covered [] [] below vs c h = h
+  covered [] (k ∷ ks) below vs c h = absurd c
+  covered (e ∷ es) [] below vs c h = absurd c
+  covered (e ∷ es) (k ∷ ks) below [] c h = absurd h
+  covered (e ∷ es) (k ∷ ks) below (v ∷ vs) c h = (covered_one e k v c.0 h.0, covered es ks below vs c.1 h.1)
 
--- ---- operands that are taken
+  -- ---- operands that are taken
 
-pub dropped : (d : ℕ) (ks below : Kinds) (vs : List ℤ) → d ≤ length ks → Match (ks ++ below) vs → Match (drop d ks ++ below) (drop d vs)
-dropped zero ks below vs le h = h
-dropped (suc d) [] below vs le h = absurd (omega (arith, le))
-dropped (suc d) (k ∷ ks) below [] le h = absurd h
-dropped (suc d) (k ∷ ks) below (v ∷ vs) le h = dropped d ks below vs (omega (arith, le)) h.1
+  pub dropped : (d : ℕ) (ks : Kinds) (below : List Held) (vs : List ℤ) → d ≤ length ks → Match (held lengths ks ++ below) vs → Match (held lengths (drop d ks) ++ below) (drop d vs)
+  dropped zero ks below vs le h = h
+  dropped (suc d) [] below vs le h = absurd (omega (arith, le))
+  dropped (suc d) (k ∷ ks) below [] le h = absurd h
+  dropped (suc d) (k ∷ ks) below (v ∷ vs) le h = dropped d ks below vs (omega (arith, le)) h.1
 
-top_is : (ks below : Kinds) (v : ℤ) (vs : List ℤ) → 1 ≤ length ks → Match (ks ++ below) (v ∷ vs) → Is (first ks) v
-top_is [] below v vs le h = absurd (omega (arith, le))
-top_is (k ∷ ks) below v vs le h = h.0
+  top_is : (ks : Kinds) (below : List Held) (v : ℤ) (vs : List ℤ) → 1 ≤ length ks → Match (held lengths ks ++ below) (v ∷ vs) → Is lengths (first ks) v
+  top_is [] below v vs le h = absurd (omega (arith, le))
+  top_is (k ∷ ks) below v vs le h = h.0
 
-second_is : (ks below : Kinds) (w v : ℤ) (vs : List ℤ) → 2 ≤ length ks → Match (ks ++ below) (w ∷ (v ∷ vs)) → Is (second ks) v
-second_is [] below w v vs le h = absurd (omega (arith, le))
-second_is (k ∷ ks) below w v vs le h = top_is ks below v vs (omega (arith, le)) h.1
+  second_is : (ks : Kinds) (below : List Held) (w v : ℤ) (vs : List ℤ) → 2 ≤ length ks → Match (held lengths ks ++ below) (w ∷ (v ∷ vs)) → Is lengths (second ks) v
+  second_is [] below w v vs le h = absurd (omega (arith, le))
+  second_is (k ∷ ks) below w v vs le h = top_is ks below v vs (omega (arith, le)) h.1
 
--- the same of a stack that is known
-pub of_top : (ks below : Kinds) (stack : List ℤ) (v : ℤ) (rest : List ℤ) → Match (ks ++ below) stack → stack ≡ v ∷ rest → 1 ≤ length ks → Is (first ks) v
-of_top ks below stack v rest h e le = top_is ks below v rest le (subst (Match (ks ++ below)) e h)
+  -- the same of a stack that is known
+  pub of_top : (ks : Kinds) (below : List Held) (stack : List ℤ) (v : ℤ) (rest : List ℤ) → Match (held lengths ks ++ below) stack → stack ≡ v ∷ rest → 1 ≤ length ks → Is lengths (first ks) v
+  of_top ks below stack v rest h e le = top_is ks below v rest le (subst (Match (held lengths ks ++ below)) e h)
 
-pub of_second : (ks below : Kinds) (stack : List ℤ) (v w : ℤ) (rest : List ℤ) → Match (ks ++ below) stack → stack ≡ w ∷ (v ∷ rest) → 2 ≤ length ks → Is (second ks) v
-of_second ks below stack v w rest h e le = second_is ks below w v rest le (subst (Match (ks ++ below)) e h)
+  pub of_second : (ks : Kinds) (below : List Held) (stack : List ℤ) (v w : ℤ) (rest : List ℤ) → Match (held lengths ks ++ below) stack → stack ≡ w ∷ (v ∷ rest) → 2 ≤ length ks → Is lengths (second ks) v
+  of_second ks below stack v w rest h e le = second_is ks below w v rest le (subst (Match (held lengths ks ++ below)) e h)
 
-pub rest_one : (ks below : Kinds) (stack : List ℤ) (v : ℤ) (rest : List ℤ) → Match (ks ++ below) stack → stack ≡ v ∷ rest → 1 ≤ length ks → Match (drop 1 ks ++ below) rest
-rest_one ks below stack v rest h e le = subst (λ s. Match (drop 1 ks ++ below) (drop 1 s)) e (dropped 1 ks below stack le h)
+  pub rest_one : (ks : Kinds) (below : List Held) (stack : List ℤ) (v : ℤ) (rest : List ℤ) → Match (held lengths ks ++ below) stack → stack ≡ v ∷ rest → 1 ≤ length ks → Match (held lengths (drop 1 ks) ++ below) rest
+  rest_one ks below stack v rest h e le = subst (λ s. Match (held lengths (drop 1 ks) ++ below) (drop 1 s)) e (dropped 1 ks below stack le h)
 
-pub rest_two : (ks below : Kinds) (stack : List ℤ) (v w : ℤ) (rest : List ℤ) → Match (ks ++ below) stack → stack ≡ w ∷ (v ∷ rest) → 2 ≤ length ks → Match (drop 2 ks ++ below) rest
-rest_two ks below stack v w rest h e le = subst (λ s. Match (drop 2 ks ++ below) (drop 2 s)) e (dropped 2 ks below stack le h)
+  pub rest_two : (ks : Kinds) (below : List Held) (stack : List ℤ) (v w : ℤ) (rest : List ℤ) → Match (held lengths ks ++ below) stack → stack ≡ w ∷ (v ∷ rest) → 2 ≤ length ks → Match (held lengths (drop 2 ks) ++ below) rest
+  rest_two ks below stack v w rest h e le = subst (λ s. Match (held lengths (drop 2 ks) ++ below) (drop 2 s)) e (dropped 2 ks below stack le h)
 
--- a result on top of what a caller has
-pub result_joined : (gives : Bool) (own rest : Kinds) (vs : List ℤ) → Match (results_kinds gives ++ (own ++ rest)) vs → Match ((results_kinds gives ++ own) ++ rest) vs
-result_joined true own rest vs h = h
-result_joined false own rest vs h = h
+  -- a result of a call on top of what its caller has
+  pub result_joined : (gives : Bool) (others : ℕ → ℕ) (own : Kinds) (rest : List Held) (vs : List ℤ) → Match (held others (results_kinds gives) ++ (held lengths own ++ rest)) vs → Match (held lengths (results_kinds gives ++ own) ++ rest) vs
+  result_joined true others own rest [] h = absurd h
+  result_joined true others own rest (v ∷ vs) h = h
+  result_joined false others own rest vs h = h
 
--- ---- places
+  -- ---- places
 
-pub literal_is : (v : ℤ) → Is (literal v) v
-literal_is (pos k) = omega arith
-literal_is (negsuc k) = tt
+  pub literal_is : (v : ℤ) → Is lengths (literal v) v
+  literal_is (pos k) = omega arith
+  literal_is (negsuc k) = tt
 
-wraps_low : (n : ℕ) → n < 2147483648 → int_wrap w32 (pos n) ≡ pos n
-wraps_low n lt = int_wrap_fits w32 (pos n) (omega arith)
+  wraps_low : (n : ℕ) → n < 2147483648 → int_wrap w32 (pos n) ≡ pos n
+  wraps_low n lt = int_wrap_fits w32 (pos n) (omega arith)
 
--- a low number doesn't wrap, and of another nothing is known
-low_is : (most n : ℕ) → n ≤ most → Is (low most) (wrap (pos n))
-low_is most n le = of (nat_lt most 2147483648) refl
-  where
-    few : nat_lt most 2147483648 ≡ true → n < 2147483648
-    few t = grind (arith, nat_tests, le)
+  -- a low number doesn't wrap, and of another nothing is known
+  low_is : (most n : ℕ) → n ≤ most → Is lengths (low most) (wrap (pos n))
+  low_is most n le = of (nat_lt most 2147483648) refl
+    where
+      few : nat_lt most 2147483648 ≡ true → n < 2147483648
+      few t = grind (arith, nat_tests, le)
 
-    of : (b : Bool) → nat_lt most 2147483648 ≡ b → Is (if b then UpTo most else Number) (wrap (pos n))
-    of true t = subst (Is (UpTo most)) (sym (wraps_low n (few t))) le
-    of false t = tt
+      of : (b : Bool) → nat_lt most 2147483648 ≡ b → Is lengths (if b then UpTo most else Number) (wrap (pos n))
+      of true t = subst (Is lengths (UpTo most)) (sym (wraps_low n (few t))) le
+      of false t = tt
 
-pub moved_is : (n : ℕ) (k : Kind) (v : ℤ) → Is k v → Is (moved n k) (wrap (v +ℤ pos n))
-moved_is n Number v h = tt
-moved_is n (UpTo most) (pos k) h = low_is (most + n) (k + n) (omega (arith, h))
-moved_is n (UpTo most) (negsuc k) h = absurd h
-moved_is n Absent v h = absurd h
+  -- nor does one in an element
+  inside_is : (x size most n : ℕ) → n + size ≤ lengths x * size + most → lengths x * size < 2147483648 → Is lengths (inside x size most) (wrap (pos n))
+  inside_is x size most n le bound = of (nat_le most size) refl
+    where
+      few : nat_le most size ≡ true → n < 2147483648
+      few t = let lies : most ≤ size = grind (arith, nat_tests) in omega (arith, le, bound, lies)
 
-one_is : (n size most k i : ℕ) → i < n → k ≤ most → Is (one_of n size most) (wrap (pos (k + i * size)))
-one_is zero size most k i lt le = absurd (omega (arith, lt))
-one_is (suc n) size most k i lt le =
-    let far = mul-le i size n size (omega (arith, lt)) (omega arith) in
-    low_is (most + n * size) (k + i * size) (omega (arith, le, far))
+      of : (b : Bool) → nat_le most size ≡ b → Is lengths (if b then Inside x size most else Number) (wrap (pos n))
+      of true t = subst (Is lengths (Inside x size most)) (sym (wraps_low n (few t))) (le, bound)
+      of false t = tt
 
-pub element_is : (c : Config) (n : Length) (size : ℕ) (k : Kind) (v : ℤ) (i : ℕ) → i < elements c n → Is k v → Is (element n size k) (wrap (v +ℤ pos (i * size)))
-element_is c (Elements n) size Number v i lt h = tt
-element_is c (Elements n) size Absent v i lt h = absurd h
-element_is c (Elements n) size (UpTo most) (pos k) i lt h = one_is n size most k i lt h
-element_is c (Elements n) size (UpTo most) (negsuc k) i lt h = absurd h
-element_is c (OfName x) size Number v i lt h = tt
-element_is c (OfName x) size Absent v i lt h = absurd h
-element_is c (OfName x) size (UpTo most) v i lt h = tt
+  pub moved_is : (n : ℕ) (k : Kind) (v : ℤ) → Is lengths k v → Is lengths (moved n k) (wrap (v +ℤ pos n))
+  moved_is n Number v h = tt
+  moved_is n (UpTo most) (pos k) h = low_is (most + n) (k + n) (omega (arith, h))
+  moved_is n (UpTo most) (negsuc k) h = absurd h
+  moved_is n (Inside x size most) (pos k) h = inside_is x size (most + n) (k + n) (omega (arith, h.0)) h.1
+  moved_is n (Inside x size most) (negsuc k) h = absurd h
+  moved_is n Absent v h = absurd h
+
+  one_is : (n size most k i : ℕ) → i < n → k ≤ most → Is lengths (one_of n size most) (wrap (pos (k + i * size)))
+  one_is zero size most k i lt le = absurd (omega (arith, lt))
+  one_is (suc n) size most k i lt le =
+      let far = mul-le i size n size (omega (arith, lt)) (omega arith) in
+      low_is (most + n * size) (k + i * size) (omega (arith, le, far))
+
+  one_inside_is : (n by x size most k i : ℕ) → i < n → k + size ≤ lengths x * size + most → lengths x * size < 2147483648 → Is lengths (one_inside n by x size most) (wrap (pos (k + i * by)))
+  one_inside_is zero by x size most k i lt le bound = absurd (omega (arith, lt))
+  one_inside_is (suc n) by x size most k i lt le bound =
+      let far = mul-le i by n by (omega (arith, lt)) (omega arith) in
+      inside_is x size (most + n * by) (k + i * by) (omega (arith, le, far)) bound
+
+  -- an element of a name's array
+  first_inside : (x size most k i : ℕ) → i < lengths x → k ≤ most → lengths x * size < 2147483648 → Is lengths (inside x size most) (wrap (pos (k + i * size)))
+  first_inside x size most k i lt le bound =
+      let far = mul-le (suc i) size (lengths x) size (omega (arith, lt)) (omega arith) in
+      let sum : suc i * size ≡ size + i * size = grind arith in
+      inside_is x size most (k + i * size) (omega (arith, le, far, sum)) bound
+
+  -- the arrays that names stand for have the lengths and elements that were known
+  abbrev pub IsLengthOf : Config → Length → ℕ → Type 0
+  IsLengthOf c (Elements n) size = Unit {0}
+  IsLengthOf c (OfName x) size = (elements c (OfName x) ≡ lengths x) × (lengths x * size < 2147483648)
+
+  pub element_is : (c : Config) (n : Length) (size : ℕ) (k : Kind) (v : ℤ) (i : ℕ) → IsLengthOf c n size → i < elements c n → Is lengths k v → Is lengths (element n size k) (wrap (v +ℤ pos (i * size)))
+  element_is c (Elements n) size Number v i is lt h = tt
+  element_is c (Elements n) size Absent v i is lt h = absurd h
+  element_is c (Elements n) size (UpTo most) (pos k) i is lt h = one_is n size most k i lt h
+  element_is c (Elements n) size (UpTo most) (negsuc k) i is lt h = absurd h
+  element_is c (Elements n) size (Inside x whole most) (pos k) i is lt h = one_inside_is n size x whole most k i lt h.0 h.1
+  element_is c (Elements n) size (Inside x whole most) (negsuc k) i is lt h = absurd h
+  element_is c (OfName x) size Number v i is lt h = tt
+  element_is c (OfName x) size Absent v i is lt h = absurd h
+  element_is c (OfName x) size (UpTo most) (pos k) i is lt h = first_inside x size most k i (let same = is.0 in omega (arith, same, lt)) h is.1
+  element_is c (OfName x) size (UpTo most) (negsuc k) i is lt h = absurd h
+  element_is c (OfName x) size (Inside y whole most) v i is lt h = tt
+
+-- ---- names
+
+-- names of these kinds, one by one
+abbrev pub AreOf : NameKinds → List Name → Type 0
+AreOf [] [] = Unit {0}
+AreOf [] (n ∷ ns) = ⊥
+AreOf (k ∷ ks) [] = ⊥
+AreOf (k ∷ ks) (n ∷ ns) = IsOf k n × AreOf ks ns
+
+pub of_length : (ks : NameKinds) (ns : List Name) → AreOf ks ns → length ns ≡ length ks
+of_length [] [] h = refl
+of_length [] (n ∷ ns) h = absurd h
+of_length (k ∷ ks) [] h = absurd h
+of_length (k ∷ ks) (n ∷ ns) h = ap suc (of_length ks ns h.1)
+
+pub of_more : (ks : NameKinds) (ns : List Name) (k : NameKind) (n : Name) → AreOf ks ns → IsOf k n → AreOf (ks ++ k ∷ []) (ns ++ n ∷ [])
+of_more [] [] k n h is = (is, tt)
+of_more [] (m ∷ ns) k n h is = absurd h
+of_more (j ∷ ks) [] k n h is = absurd h
+of_more (j ∷ ks) (m ∷ ns) k n h is = (h.0, of_more ks ns k n h.1 is)
+
+pub of_front : (d : ℕ) (ks : NameKinds) (ns : List Name) → AreOf ks ns → AreOf (take d ks) (take d ns)
+of_front zero ks ns h = tt
+of_front (suc d) [] [] h = tt
+of_front (suc d) [] (n ∷ ns) h = absurd h
+of_front (suc d) (k ∷ ks) [] h = absurd h
+of_front (suc d) (k ∷ ks) (n ∷ ns) h = (h.0, of_front d ks ns h.1)
+
+pub of_back : (d : ℕ) (ks : NameKinds) (ns : List Name) → AreOf ks ns → AreOf (drop d ks) (drop d ns)
+of_back zero ks ns h = h
+of_back (suc d) [] [] h = tt
+of_back (suc d) [] (n ∷ ns) h = absurd h
+of_back (suc d) (k ∷ ks) [] h = absurd h
+of_back (suc d) (k ∷ ks) (n ∷ ns) h = of_back d ks ns h.1
+
+-- the one at a place
+pub of_at : (ks : NameKinds) (ns : List Name) (x : ℕ) (k : NameKind) → AreOf ks ns → slice_get ks x ≡ Some k → (x < length ns) × IsOf k (slice_index_or ns x no_name)
+of_at [] ns x k h e = absurd (let none : None ≡ Some k = e in cc)
+of_at (j ∷ ks) [] x k h e = absurd h
+of_at (j ∷ ks) (n ∷ ns) zero k h e = let same : j ≡ k = cc in (omega arith, subst (λ i. IsOf i n) same h.0)
+of_at (j ∷ ks) (n ∷ ns) (suc x) k h e = let r = of_at ks ns x k h.1 e in (omega (arith, r.0), r.1)
+
+pub at_behind : (outer own : List Name) (x : ℕ) → slice_index_or (outer ++ own) (length outer + x) no_name ≡ slice_index_or own x no_name
+at_behind [] own x = let e : 0 + x ≡ x = omega arith in ap (λ y. slice_index_or own y no_name) e
+at_behind (n ∷ outer) own x =
+    let e : suc (length outer) + x ≡ suc (length outer + x) = omega arith in
+    ap (λ y. slice_index_or (n ∷ (outer ++ own)) y no_name) e ∙ at_behind outer own x
+
+pub at_front : (own pending : List Name) (x : ℕ) → x < length own → slice_index_or (own ++ pending) x no_name ≡ slice_index_or own x no_name
+at_front [] pending x lt = absurd (omega (arith, lt))
+at_front (n ∷ own) pending zero lt = refl
+at_front (n ∷ own) pending (suc x) lt = at_front own pending x (omega (arith, lt))
+
+pub parted : {A : Type 0} (d : ℕ) (xs : List A) → xs ≡ take d xs ++ drop d xs
+parted zero xs = refl
+parted (suc d) [] = refl
+parted (suc d) (x ∷ xs) = ap (λ l. x ∷ l) (parted d xs)

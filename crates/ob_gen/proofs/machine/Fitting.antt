@@ -41,13 +41,13 @@ use Rattle.ob_code.specs.declared.instr.Instr.{Instr}
 use Rattle.ob_code.specs.declared.instr.Instr.TheVariants as instr
 use Rattle.ob_code.specs.declared.instr.Line.{Line}
 use Rattle.ob_code.specs.declared.instr.Height.{Height}
-use Rattle.ob_code.specs.declared.instr.Entry.{Entry}
 use Rattle.ob_code.specs.declared.instr.Entries.{Entries}
 use Rattle.ob_code.specs.declared.instr.Procedure.{Procedure}
 use Rattle.ob_code.specs.declared.instr.CodeModule.{CodeModule}
 use Rattle.ob_code.specs.Valid.{height, results, asks, RootFits, LengthFits, SpanFits, TargetFits, own_entry, known_entry, entry_of, Calls, Fits, ProcedureFits, IsBody, IsValid}
+use Rattle.ob_code.proofs.machine.Laid.{entry_same}
 use Rattle.ob_gen.specs.Code.{line, parameter_row, own_row, face_row, named_one, named_before, root_of, root_in, name_number, length_in, length_of, span_of, element_cells, and_code, or_code, value_one, name_one, row_values, row_names, read_code, expr_code, offset_code, operations_code, every_code, either_code, argument_code, arguments_code, list_values, list_names, passed_code, target_of, input_code, output_code, assign_code, action_code, Guarded, loop_code, for_relation, for_guard, for_step, for_code, stat_code, stats_code, branches, arms_code, list_code, result_code, procedure_code}
-use Rattle.ob_gen.specs.Correct.{named_count, parameter_count, IsCodeOf, AreCompiled}
+use Rattle.ob_gen.specs.Correct.{named_count, name_kinds, parameter_count, IsCodeOf, AreCompiled}
 use Rattle.ob_gen.specs.Generated.{valued_count, heading_entry, IsOfFace, AreOfFaces, most_operands, most_names, HasRoom, AllHaveRoom, IsGenerated}
 use Rattle.ob_gen.proofs.machine.Store.{IsRow, size-append, before-within}
 use Rattle.ob_gen.proofs.machine.Places.{some_same, shape_some, elements_some, field_some, open_named}
@@ -142,6 +142,7 @@ pub record IsNamed (names : Names) (m : CodeModule) (f : Procedure) : Type 0 whe
   pub variables : size (opening_row names.variables) ≤ m.cells
   pub own : size (own_row names) ≤ f.cells
   pub parameters : f.entry.names ≡ named_count names.parameters
+  pub kinds : f.entry.kinds ≡ name_kinds names.parameters
   pub imports : (i : ℕ) (face : Face) → slice_get names.faces i ≡ Some face → (known : Entries) × (slice_get m.imports.items i ≡ Some known) × IsOfFace face known
   pub procedures : (p : ℕ) (g : TypedProcedure) → slice_get names.procedures p ≡ Some g → own_entry (slice_get m.procedures.items p) ≡ Some (heading_entry (heading_of g))
   pub rooms : IsRoomy f
@@ -535,29 +536,23 @@ compiled_length faces m [] (g ∷ (k ∷ gs)) h = absurd h
 compiled_length faces m (f ∷ fs) [] h = absurd h
 compiled_length faces m (f ∷ fs) (g ∷ gs) h = let e = compiled_length faces m fs gs h.1 in omega (arith, e)
 
-entry_same : (a b : Entry) → a.operands ≡ b.operands → a.names ≡ b.names → a.is_function ≡ b.is_function → a ≡ b
-entry_same a b e f g =
-    let x : a ≡ record { operands = b.operands; names = a.names; is_function = a.is_function } = ap (λ x. record { operands = x; names = a.names; is_function = a.is_function }) e in
-    let y : record { operands = b.operands; names = a.names; is_function = a.is_function } ≡ record { operands = b.operands; names = b.names; is_function = a.is_function } = ap (λ x. record { operands = b.operands; names = x; is_function = a.is_function }) f in
-    let z : record { operands = b.operands; names = b.names; is_function = a.is_function } ≡ b = ap (λ x. record { operands = b.operands; names = b.names; is_function = x }) g in
-    x ∙ y ∙ z
-
 -- what a procedure of the code takes and leaves is what its heading says
 entry_is : (names : Names) (tree : TypedProcedure) (g : Procedure) → names.parameters ≡ tree.parameters → IsCodeOf names tree.body tree.result g → g.entry ≡ heading_entry (heading_of tree)
 entry_is names tree g same code =
     let counted : named_count names.parameters ≡ named_count tree.parameters = ap named_count same in
     let all : parameter_count names.parameters ≡ parameter_count tree.parameters = ap parameter_count same in
-    entry_same g.entry (heading_entry (heading_of tree)) (omega (arith, counted, all, code.all_taken, code.names_taken, valued tree.parameters)) (code.names_taken ∙ counted) code.gives
+    entry_same g.entry (heading_entry (heading_of tree)) (omega (arith, counted, all, code.all_taken, code.names_taken, valued tree.parameters)) (code.names_taken ∙ counted) (code.stand_for ∙ ap name_kinds same) code.gives
 
 module _ (faces : List Face) (m : TypedModule) (code : CodeModule) (formed : IsWellFormed faces m) (made : IsGenerated faces m code) where
   abbrev names_with : List Parameter → List Shape → Names
   names_with ps ts = record { faces = faces; variables = m.variables; procedures = m.procedures; parameters = ps; own = ts }
 
-  pub named_in : (ps : List Parameter) (ts : List Shape) (g : Procedure) → g.cells ≡ size (own_row (names_with ps ts)) → g.entry.names ≡ named_count ps → IsRoomy g → IsNamed (names_with ps ts) code g
-  named_in ps ts g cells counted room = record {
+  pub named_in : (ps : List Parameter) (ts : List Shape) (g : Procedure) → g.cells ≡ size (own_row (names_with ps ts)) → g.entry.names ≡ named_count ps → g.entry.kinds ≡ name_kinds ps → IsRoomy g → IsNamed (names_with ps ts) code g
+  named_in ps ts g cells counted kinds room = record {
     variables = omega (arith, made.cells);
     own = omega (arith, cells);
     parameters = counted;
+    kinds = kinds;
     imports = λ i face e. known_at faces code.imports.items i face made.imports e;
     procedures = λ p tree e.
         let c = compiled_at faces m m.procedures code.procedures.items p tree made.procedures e in
@@ -566,7 +561,7 @@ module _ (faces : List Face) (m : TypedModule) (code : CodeModule) (formed : IsW
   }
 
   one_fits : (ps : List Parameter) (ts : List Shape) (body : List TypedStatement) (result : Option TypedExpr) (g : Procedure) → IsCodeOf (names_with ps ts) body result g → ListFits (names_with ps ts) body → ResultFits (names_with ps ts) result → IsRoomy g → ProcedureFits code g
-  one_fits ps ts body result g is fit gives room = procedure_fits (names_with ps ts) code g (named_in ps ts g is.cells is.names_taken room) body result is fit gives
+  one_fits ps ts body result g is fit gives room = procedure_fits (names_with ps ts) code g (named_in ps ts g is.cells is.names_taken is.stand_for room) body result is fit gives
 
   each_fits : (fs : List TypedProcedure) (gs : List Procedure) → AreCompiled faces m fs gs → ProceduresFit faces m fs → (p : ℕ) (g : Procedure) → slice_get gs p ≡ Some g → IsRoomy g → ProcedureFits code g
   each_fits [] [] h fit p g e room = absurd h

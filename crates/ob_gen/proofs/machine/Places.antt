@@ -151,19 +151,19 @@ part_fits s name o p i t f lt e = record {
 
 -- ---- only a parameter is an array of a length that its caller knows
 
-not_open : (t u : Shape) → Of t ≡ OpenOf u → ⊥
+pub not_open : (t u : Shape) → Of t ≡ OpenOf u → ⊥
 not_open t u e = cc
 
-closed_module : (x : Option ModuleVariable) (t : Shape) → module_object x ≡ Some (OpenOf t) → ⊥
+pub closed_module : (x : Option ModuleVariable) (t : Shape) → module_object x ≡ Some (OpenOf t) → ⊥
 closed_module None t e = let n : None ≡ Some (OpenOf t) = e in cc
 closed_module (Some (Declared u)) t e = not_open u t (some_same _ _ e)
 closed_module (Some (Text cs n)) t e = not_open _ t (some_same _ _ e)
 
-closed_shape : (x : Option Shape) (t : Shape) → shape_object x ≡ Some (OpenOf t) → ⊥
+pub closed_shape : (x : Option Shape) (t : Shape) → shape_object x ≡ Some (OpenOf t) → ⊥
 closed_shape None t e = let n : None ≡ Some (OpenOf t) = e in cc
 closed_shape (Some u) t e = not_open u t (some_same _ _ e)
 
-closed_face : (x : Option Face) (i : ℕ) (t : Shape) → face_object x i ≡ Some (OpenOf t) → ⊥
+pub closed_face : (x : Option Face) (i : ℕ) (t : Shape) → face_object x i ≡ Some (OpenOf t) → ⊥
 closed_face None i t e = let n : None ≡ Some (OpenOf t) = e in cc
 closed_face (Some f) i t e = closed_shape (slice_get f.variables i) t e
 
@@ -172,7 +172,7 @@ closed_value parameter.Value t e = not_open Basic t (some_same _ _ e)
 closed_value (parameter.Place u) t e = let n : None ≡ Some (OpenOf t) = e in cc
 closed_value (parameter.Open u) t e = let n : None ≡ Some (OpenOf t) = e in cc
 
-closed_own : (ps : List Parameter) (ts : List Shape) (x : ℕ) (t : Shape) → own_object ps ts x ≡ Some (OpenOf t) → ⊥
+pub closed_own : (ps : List Parameter) (ts : List Shape) (x : ℕ) (t : Shape) → own_object ps ts x ≡ Some (OpenOf t) → ⊥
 closed_own [] ts x t e = closed_shape (slice_get ts x) t e
 closed_own (p ∷ ps) ts zero t e = closed_value p t e
 closed_own (p ∷ ps) ts (suc x) t e = closed_own ps ts x t e

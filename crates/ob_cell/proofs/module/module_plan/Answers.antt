@@ -25,7 +25,7 @@ returns-in_err-checked-clause-found c = err_found _ _ c.from_residual-in_err-che
 pub returns-in_err-checked-clause-faults : goal.returns-in_err-checked-clause-faults
 returns-in_err-checked-clause-faults c =
     same_faults c.args.modules.now c.args.tree.now c.in_err-checked.field-0.0 c.from_residual-in_err-checked.result c.from_residual-in_err-checked.ensures.1
-    (λ store. rules_faults c.args.modules.now c.in_ok-loaded.loaded c.args.tree.now c.in_err-checked.field-0.0 store c.in_ok-loaded.ensures c.in_err-checked.ensures.faults)
+    (λ store. rules_faults c.args.modules.now c.in_ok-loaded.loaded c.args.tree.now c.in_err-checked.field-0.0 store c.in_ok-loaded.ensures c.in_err-checked.ensures.answer)
 
 pub returns-in_err-imports-clause-found : goal.returns-in_err-imports-clause-found
 returns-in_err-imports-clause-found c = memory_found _ c.from_residual-in_err-imports.result c.from_residual-in_err-imports.ensures.1

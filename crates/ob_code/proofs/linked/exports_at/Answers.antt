@@ -14,5 +14,5 @@ returns-in-Some-get c = λ yes.
       f = c.in-Some-get.procedure.now;
       exported = subst (λ l. slice_get l c.args.place ≡ Some c.in-Some.number.now) c.deref.ensures.value number;
       found = subst (λ l. slice_get l c.in-Some.number.now ≡ Some c.in-Some-get.procedure.now) c.deref-in-Some.ensures.value procedure;
-      same = c.are_same.ensures yes;
+      same = c.takes_the_same.ensures yes;
     }

@@ -1,5 +1,5 @@
 use Rattle.std.proofs.Common.{rules, ◌≡◌, None, ap}
-use Rattle.ob_base.specs.declared.fault.Code.TheVariants as code
+use Rattle.ob_declare.specs.declared.rule.RuleCode.TheVariants as code
 use Rattle.ob_declare.specs.Block.{find}
 use Rattle.ob_declare.specs.Declarations as spec
 use Rattle.ob_declare.proofs.Exact.{judged_needs}

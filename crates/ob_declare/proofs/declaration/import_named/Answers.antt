@@ -1,6 +1,6 @@
 use Rattle.std.proofs.Common.{rules, ◌≡◌, false, not, subst, ap}
 use Rattle.std.specs.Str.{bytes_eq}
-use Rattle.ob_base.specs.declared.fault.Code.TheVariants as code
+use Rattle.ob_declare.specs.declared.rule.RuleCode.TheVariants as code
 use Rattle.ob_declare.specs.declared.imports.StandardName.{StandardName}
 use Rattle.ob_declare.specs.Imports.{standard_named}
 use Rattle.ob_declare.specs.Rule.{Judges}

@@ -1,5 +1,5 @@
 use Rattle.std.proofs.Common.{rules, ◌≡◌, None, ap}
-use Rattle.ob_base.specs.declared.fault.Code.TheVariants as code
+use Rattle.ob_declare.specs.declared.rule.RuleCode.TheVariants as code
 use Rattle.ob_parse.specs.declared.tree.Procedure.{out-Procedure}
 use Rattle.ob_declare.specs.Block.{find}
 use Rattle.ob_declare.specs.Declarations.{is_new}

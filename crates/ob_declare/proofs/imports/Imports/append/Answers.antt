@@ -1,26 +1,16 @@
-use Rattle.std.proofs.Common.{rules, ◌≡◌, List, ℕ, [], ◌∷◌, ◌++◌, None, sym, ◌∙◌, ap}
+use Rattle.std.proofs.Common.{rules, ◌≡◌, List, [], ◌∷◌, ◌++◌, None, sym, ◌∙◌, ap}
 use Rattle.ob_declare.specs.LoadedTree.{LoadedTree}
 use Rattle.ob_declare.specs.Names.{place_in}
 use Rattle.ob_declare.specs.Exports.{module_names}
 use Rattle.ob_declare.specs.Imports.{module_place, added}
-use Rattle.ob_declare.proofs.Places.{names_more, added_new}
+use Rattle.ob_declare.proofs.Places.{added_new}
 use Rattle.ob_declare.proofs.imports.Imports.append.Goals as goal
-
-pub invariant_of-self-2 : goal.invariant_of-self-2
-invariant_of-self-2 c =
-    let old : List LoadedTree = c.self.inside.modules.items in
-    let pushed : c.push-2.new.self.items ≡ old ++ c.args.loaded ∷ [] = search rules in
-    let named : c.push.new.self ≡ c.self.inside.names ++ c.args.loaded.interface.name ∷ [] = search rules in
-    named
-    ∙ ap (λ (ns : List (List ℕ)). ns ++ c.args.loaded.interface.name ∷ []) c.self.invariant
-    ∙ sym (names_more old c.args.loaded)
-    ∙ ap (λ (ms : List LoadedTree). module_names ms) (sym pushed)
 
 pub returns-clause-ok : goal.returns-clause-ok
 unfolding module_place
 returns-clause-ok c =
     let old : List LoadedTree = c.self.inside.modules.items in
-    let pushed : c.push-2.new.self.items ≡ old ++ c.args.loaded ∷ [] = search rules in
+    let pushed : c.push.new.self.items ≡ old ++ c.args.loaded ∷ [] = search rules in
     let absent : place_in (module_names old) c.args.loaded.interface.name ≡ None =
     ap (λ (ms : List LoadedTree). place_in (module_names ms) c.args.loaded.interface.name) c.self.view_is ∙ c.requires in
     pushed ∙ sym (added_new old c.args.loaded absent) ∙ ap (λ (ms : List LoadedTree). added ms c.args.loaded) c.self.view_is

@@ -3,7 +3,7 @@ use Rattle.ob_declare.specs.LoadedTree.{LoadedTree}
 use Rattle.ob_declare.specs.Names.{place_in}
 use Rattle.ob_declare.specs.Exports.{module_names}
 use Rattle.ob_declare.specs.Imports.{module_place, added}
-use Rattle.ob_declare.proofs.Places.{module_inside, names_again, added_again}
+use Rattle.ob_declare.proofs.Places.{module_inside, added_again}
 use Rattle.ob_declare.proofs.imports.Imports.replace.Goals as goal
 
 pub index_mut-requires : goal.index_mut-requires
@@ -13,13 +13,6 @@ index_mut-requires c =
     ap (λ (ms : List LoadedTree). place_in (module_names ms) c.args.loaded.interface.name) c.self.view_is ∙ c.requires in
     let inside : c.args.place < length c.self.inside.modules.items = module_inside c.self.inside.modules.items c.args.loaded.interface.name c.args.place placed in
     search rules
-
-pub invariant_of-self : goal.invariant_of-self
-unfolding module_place
-invariant_of-self c =
-    let placed : place_in (module_names c.self.inside.modules.items) c.args.loaded.interface.name ≡ Some c.args.place =
-    ap (λ (ms : List LoadedTree). place_in (module_names ms) c.args.loaded.interface.name) c.self.view_is ∙ c.requires in
-    c.self.invariant ∙ sym (names_again c.self.inside.modules.items c.args.loaded c.args.place placed)
 
 pub returns : goal.returns
 unfolding module_place

@@ -1,13 +1,15 @@
-use Rattle.std.proofs.Common.{rules, ◌≤◌, ℕ, List, Option, is_none, length, map, ◌∙◌, ap}
-use Rattle.std.proofs.lemmas.List.{take_all}
-use Rattle.ob_session.specs.Session.{Module, link_fault}
-use Rattle.ob_link.proofs.Runs.{flags_of}
+use Rattle.std.proofs.Common.{◌≡◌, true, List, map, sym, ◌∙◌, ap, subst}
+use Rattle.std.specs.Prelude.{IfOk}
+use Rattle.ob_session.specs.Session.{Module}
+use Rattle.ob_link.specs.Faults.{all_none}
+use Rattle.ob_link.specs.Runs.{may_run}
+use Rattle.ob_link.proofs.Faults.{all_link}
 use Rattle.ob_link.proofs.modules.Modules.may_run.Goals as goal
 
-pub returns : goal.returns
-returns c =
-    let items = c.as_slice-fault-items.result.now in
-    let ended : length items ≤ c.loop-fault.fault-index = search rules in
-    c.loop-fault.invariant
-    ∙ ap (map (λ (f : Option (List ℕ)). is_none f)) (take_all c.loop-fault.fault-index items ended ∙ c.as_slice-fault-items.ensures.value ∙ c.in_ok-faults.ensures)
-    ∙ flags_of (λ (m : Module). link_fault c.args.self.now m.imports) c.args.self.now
+pub returns-then-no_fault : goal.returns-then-no_fault
+returns-then-no_fault c =
+    let ms = c.self.inside.table in
+    let none = sym (c.no_fault.ensures ∙ ap all_none (c.as_slice.ensures.value ∙ c.self.invariant)) ∙ c.if-no_fault.true in
+    subst (λ x. IfOk c.all_run.result (λ row. row.items ≡ x))
+    (ap (map (λ (m : Module). true)) (sym c.self.view_is) ∙ sym (all_link ms none) ∙ ap (λ (xs : List Module). may_run xs) c.self.view_is)
+    c.all_run.ensures

@@ -1,5 +1,0 @@
-use Rattle.std.proofs.Common.{◌≡◌, take}
-use Rattle.ob_image.proofs.same.+same.Given as goal
-
-abbrev pub invariant-same_shapes-loop-i : goal.invariant-same_shapes-loop-i
-invariant-same_shapes-loop-i l = take l.i l.left ≡ take l.i l.right

@@ -1,6 +1,0 @@
-use Rattle.std.proofs.Common.{◌≡◌}
-use Rattle.ob_link.specs.Reaching.{reach_row}
-use Rattle.ob_link.proofs.modules.Modules.reaching.Given as goal
-
-abbrev pub invariant-loop-length : goal.invariant-loop-length
-invariant-loop-length l = l.row.items ≡ reach_row l.self l._length l.name
