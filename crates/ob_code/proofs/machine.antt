@@ -1,8 +1,9 @@
 pub mod Runs
 pub mod Measures
 pub mod Rows
-pub mod Never
+pub mod Laid
 pub mod Marks
 pub mod Course
+pub mod Steps
+pub mod Never
 pub mod Histories
-pub mod Laid

@@ -4,7 +4,6 @@ ghost use Rattle.std.specs.Prelude.{◌≡◌, ℕ, ◌+◌, ◌-◌, ◌<◌, �
 ghost use Rattle.ob_code.specs.Valid.{height, results, height_at, RootFits, LengthFits, SpanFits, TargetFits, Calls, entry_of, is_ask, asks, Fits, LinesFit, ProcedureFits, IsBody, IsValid};
 ghost use Rattle.ob_code.specs.Kinds.{HasKinds, IsMeasured};
 ghost use Rattle.ob_code.specs.Stuck.{RunsSafely};
-ghost use Rattle.ob_code.specs.Astray.{StaysInObjects};
 
 use crate::found::find;
 use crate::instr::{
@@ -15,28 +14,28 @@ use ob_mean::Callee;
 use std::alloc::{AllocError, Global};
 use std::marker::Model;
 
-/// Code that never misses an operand or a name, never leads out of its lines, and reaches no cells but those of objects that
-/// are there, wherever it is linked among such modules.
+/// Code that never misses an operand or a name, never leads out of its lines, and takes no cells but those of the objects that
+/// it names, wherever it is linked among such modules.
 #[derive(Drop)]
 pub struct Checked {
     code: CodeModule,
 }
 
 impl Model for Checked {
-    ghost use Rattle.ob_code.specs.Valid.{IsValid};
+    ghost use Rattle.ob_code.specs.Kinds.{IsMeasured};
     ghost use Rattle.ob_code.specs.declared.instr.CodeModule.{CodeModule};
 
     ghost Value = { CodeModule };
 
     ghost view = { λ c. c.code };
 
-    ghost invariant = { λ c. IsValid c.code };
+    ghost invariant = { λ c. IsMeasured c.code };
 }
 
 impl Checked {
-    /// Code that is valid by its making.
+    /// Code of whose operands and names enough is known by its making.
     pub fn new(code: CodeModule) -> Checked
-        requires { IsValid code }
+        requires { IsMeasured code }
         ensures { result ≡ code }
     {
         Checked { code }
@@ -46,7 +45,7 @@ impl Checked {
     #[tactic(auto, using(crate::proofs::machine::Never::runs_safely))]
     pub fn code(&self) -> &CodeModule
         ensures value { result.now ≡ self.now }
-        ensures valid { IsValid result.now }
+        ensures measured { IsMeasured result.now }
         ensures runs { RunsSafely result.now }
     {
         &self.code
@@ -56,7 +55,7 @@ impl Checked {
     #[tactic(auto, using(crate::proofs::machine::Never::runs_safely))]
     pub fn into_code(self) -> CodeModule
         ensures value { result ≡ self }
-        ensures valid { IsValid result }
+        ensures measured { IsMeasured result }
         ensures runs { RunsSafely result }
     {
         self.code
@@ -64,15 +63,13 @@ impl Checked {
 }
 
 /// Tests code that somebody made. What is answered is that code. Wherever it is linked among such modules, no run leaves the
-/// code, misses an operand or a name, reaches cells that are not there, or goes on for ever without a turn or a line; and
-/// none takes cells out of an object: of a module, of an import, of the running call, or of what one of its names stands for.
+/// code, misses an operand or a name, takes a cell out of an object, or goes on for ever without a turn or a line. An object
+/// is of a module, of an import, of the running call, or what one of its names stands for.
 #[tactic(auto, using(crate::proofs::machine::Never::runs_safely))]
 pub fn validate(alloc: Global, code: CodeModule) -> Result<Option<Checked>, AllocError>
     ensures value { IfOk result (λ o. IfSome o (λ c. c ≡ code)) }
-    ensures valid { IfOk result (λ o. IfSome o (λ _. IsValid code)) }
     ensures measured { IfOk result (λ o. IfSome o (λ _. IsMeasured code)) }
     ensures runs { IfOk result (λ o. IfSome o (λ _. RunsSafely code)) }
-    ensures stays { IfOk result (λ o. IfSome o (λ _. StaysInObjects code)) }
 {
     if is_measured(alloc, &code)? {
         Ok(Some(Checked::new(code)))

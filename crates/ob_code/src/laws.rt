@@ -1,10 +1,10 @@
 //! What code promises of whose operands and names enough is known.
 
-ghost use Rattle.ob_code.specs.Astray.{MeasuredStays};
+ghost use Rattle.ob_code.specs.Stuck.{MeasuredRunsSafely};
 
-/// Code before each line of which so much is known of the operands and names takes no cell out of an object: wherever it is
-/// linked among such modules, each instruction that a run of a body comes to finds the cells that it takes in the object that
-/// it names: of a module, of an import, of the running call, or what one of the call's names stands for.
-pub fn offsets_law()
-    ensures { MeasuredStays }
+/// Code before each line of which so much is known of the operands and names is never stuck: wherever it is linked among such
+/// modules, no run leaves it, misses an operand or a name, takes a cell out of an object, or goes on for ever without a turn or
+/// a line.
+pub fn measured_law()
+    ensures { MeasuredRunsSafely }
 {}

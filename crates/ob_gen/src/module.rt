@@ -62,7 +62,7 @@ fn part_code(
 /// # Errors
 ///
 /// Want of memory; and where something has 2^64 cells or more, for which there is no room either.
-#[tactic(auto, using(crate::proofs::machine::Fitting::generated_valid))]
+#[tactic(auto, using(crate::proofs::machine::Told::generated_measured))]
 pub fn generate(alloc: Global, faces: &[Face], tree: &TypedModule) -> Result<Checked, AllocError>
     requires { IsWellFormed faces.now tree.now }
     ensures { IfOk result (IsGenerated faces.now tree.now) }

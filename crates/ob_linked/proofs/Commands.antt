@@ -15,12 +15,12 @@ use Rattle.ob_code.specs.declared.instr.Entries.{Entries}
 use Rattle.ob_code.specs.declared.instr.LinkedModule.{LinkedModule}
 use Rattle.ob_code.specs.Linked.{Imports, IsLinked}
 use Rattle.ob_code.specs.Machine.{Code, imports_in, import_number, exported_number}
-use Rattle.ob_code.specs.Valid.{IsValid}
+use Rattle.ob_code.specs.Kinds.{IsMeasured}
 use Rattle.ob_gen.specs.Code.{list_code}
 use Rattle.ob_gen.specs.Commands.{commands_code, LeadsTo, AllLead, IsCodeOfCommands}
 use Rattle.ob_gen.specs.Correct.{AllRun}
 use Rattle.ob_gen.proofs.machine.Commands.{commands_behave}
-use Rattle.ob_gen.proofs.machine.Fitting.{generated_valid}
+use Rattle.ob_gen.proofs.machine.Told.{generated_measured}
 use Rattle.ob_gen.proofs.machine.Linked.{body_compiled}
 use Rattle.ob_gen.proofs.machine.Places.{some_same}
 use Rattle.ob_session.specs.Session.{Module, program_of}
@@ -152,12 +152,12 @@ module _ (modules : List Module) (known : List Known) (code : Code) (all : AreCo
           as_known = as_known_alike code longer (runs_in modules) (runs_with modules) n.number e (kept_at code (l ∷ [])) alike (as_known modules known code all n.number n.k e n.may_run n.at n.of_face);
         }
 
-    valid : (home : ℕ) (x : LinkedModule) → slice_get longer home ≡ Some x → runs_with modules home ≡ true → IsValid x.code
-    valid home x at ok = by (kept_or_last code l x home at)
+    measured : (home : ℕ) (x : LinkedModule) → slice_get longer home ≡ Some x → runs_with modules home ≡ true → IsMeasured x.code
+    measured home x at ok = by (kept_or_last code l x home at)
       where
-        by : (slice_get code home ≡ Some x) ⊎ ((home ≡ length code) × (l ≡ x)) → IsValid x.code
-        by (inl h) = may_run.valid home x h (alike home (slice_get_within code home x h) ∙ ok)
-        by (inr h) = subst (λ (y : LinkedModule). IsValid y.code) h.1 (generated_valid faces (commands_tree calls) l.code (formed cs homes calls faces callable) is_behind.generated)
+        by : (slice_get code home ≡ Some x) ⊎ ((home ≡ length code) × (l ≡ x)) → IsMeasured x.code
+        by (inl h) = may_run.measured home x h (alike home (slice_get_within code home x h) ∙ ok)
+        by (inr h) = subst (λ (y : LinkedModule). IsMeasured y.code) h.1 (generated_measured faces (commands_tree calls) l.code (formed cs homes calls faces callable) is_behind.generated)
 
     linked : IsLinked longer (runs_with modules)
     linked = linked_behind code l (runs_in modules) (runs_with modules) alike may_run.linked is_behind.cells import_of
@@ -210,7 +210,7 @@ commands_run modules known code cs homes calls faces l all callable is_behind =
     let is_code = commands_mean modules known code all cs homes calls faces l callable is_behind in
     record {
       linked = linked modules known code all cs homes calls faces l callable is_behind;
-      valid = valid modules known code all cs homes calls faces l callable is_behind;
+      measured = measured modules known code all cs homes calls faces l callable is_behind;
       modules_mean = means;
       commands_mean = is_code;
       does = commands_behave (program_of modules) (code ++ l ∷ []) (faces_at known) (runs_in modules) means (length modules) cs is_code;

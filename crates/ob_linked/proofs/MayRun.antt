@@ -1,4 +1,5 @@
--- Modules compiled over what is so of their imports may run: they are linked, their code is valid, and it is that of their trees.
+-- Modules compiled over what is so of their imports may run: they are linked, enough is known of their operands and names, and their
+-- code is that of their trees.
 use Rattle.std.proofs.Common.{◌≡◌, ℕ, ◌+◌, true, List, [], ◌∷◌, Some, sym, ap, ◌∙◌, subst, arith}
 use Rattle.std.specs.Prelude.{slice_get, option_map}
 use Rattle.std.proofs.lemmas.Option.{slice_get-map}
@@ -10,11 +11,11 @@ use Rattle.ob_code.specs.declared.instr.Entries.{Entries}
 use Rattle.ob_code.specs.declared.instr.LinkedModule.{LinkedModule}
 use Rattle.ob_code.specs.Linked.{IsAsKnown, Imports, IsLinked}
 use Rattle.ob_code.specs.Machine.{Code}
-use Rattle.ob_code.specs.Valid.{IsValid}
+use Rattle.ob_code.specs.Kinds.{IsMeasured}
 use Rattle.ob_gen.specs.Correct.{AllRun, IsCompiled, MayRun}
 use Rattle.ob_gen.specs.Generated.{IsOfFace}
 use Rattle.ob_gen.proofs.machine.Behaves.{body_behaves}
-use Rattle.ob_gen.proofs.machine.Fitting.{generated_valid}
+use Rattle.ob_gen.proofs.machine.Told.{generated_measured}
 use Rattle.ob_gen.proofs.machine.Places.{some_same}
 use Rattle.ob_session.specs.Session.{Module, import_places, loaded, program_of}
 use Rattle.ob_linked.specs.Compiled.{Known, runs_in, IsCompiledAt, face_in, AreKnown, AreCompiled, faces_in, faces_at, EachMayRun}
@@ -88,12 +89,12 @@ module _ (modules : List Module) (known : List Known) (code : Code) (all : AreCo
         subst (λ y. Imports code (runs_in modules) y x e) same (import_of home w x e (ap (λ (y : LinkedModule). slice_get y.code.imports.items x) same ∙ import));
   }
 
-  -- ---- valid
+  -- ---- measured
 
-  valid : (home : ℕ) (l : LinkedModule) → slice_get code home ≡ Some l → runs_in modules home ≡ true → IsValid l.code
-  valid home l at ok =
+  measured : (home : ℕ) (l : LinkedModule) → slice_get code home ≡ Some l → runs_in modules home ≡ true → IsMeasured l.code
+  measured home l at ok =
       let w = whole_at home ok in
-      subst (λ (y : LinkedModule). IsValid y.code) (some_same w.l l (sym w.found ∙ at)) (generated_valid w.k.faces w.m.tree w.l.code w.compiled.ready.formed w.compiled.ready.generated)
+      subst (λ (y : LinkedModule). IsMeasured y.code) (some_same w.l l (sym w.found ∙ at)) (generated_measured w.k.faces w.m.tree w.l.code w.compiled.ready.formed w.compiled.ready.generated)
 
   -- ---- code of the program
 
@@ -131,7 +132,7 @@ module _ (modules : List Module) (known : List Known) (code : Code) (all : AreCo
 pub each_may_run : EachMayRun
 each_may_run modules known code all = record {
   linked = linked modules known code all;
-  valid = valid modules known code all;
+  measured = measured modules known code all;
   means = runs_at modules known code all;
   does = body_behaves (program_of modules) code (faces_at known) (runs_in modules) (runs_at modules known code all);
 }

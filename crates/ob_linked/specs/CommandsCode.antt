@@ -11,7 +11,7 @@ use Rattle.ob_mean.specs.WellFormed.{IsWellFormed, own_heading}
 use Rattle.ob_code.specs.declared.instr.LinkedModule.{LinkedModule}
 use Rattle.ob_code.specs.Linked.{IsLinked, all_cells}
 use Rattle.ob_code.specs.Machine.{Code}
-use Rattle.ob_code.specs.Valid.{IsValid}
+use Rattle.ob_code.specs.Kinds.{IsMeasured}
 use Rattle.ob_gen.specs.Commands.{IsCodeOfCommands, CommandsBehave}
 use Rattle.ob_gen.specs.Correct.{AllRun, IsCodeOfProgram}
 use Rattle.ob_gen.specs.Generated.{IsGenerated}
@@ -71,11 +71,11 @@ EachCommandsForm =
 abbrev pub runs_with : List Module → ℕ → Bool
 runs_with modules i = nat_eq i (length modules) || runs_in modules i
 
--- behind the modules' code: all is linked, valid where it may run, that of the modules is still the program's, and this does what
--- the commands mean
+-- behind the modules' code: all is linked, enough is known of its operands and names where it may run, that of the modules is
+-- still the program's, and this does what the commands mean
 pub record CommandsMayRun (modules : List Module) (known : List Known) (code : Code) (cs : List Command) (l : LinkedModule) : Type 0 where
   pub linked : IsLinked (code ++ l ∷ []) (runs_with modules)
-  pub valid : (home : ℕ) (x : LinkedModule) → slice_get (code ++ l ∷ []) home ≡ Some x → runs_with modules home ≡ true → IsValid x.code
+  pub measured : (home : ℕ) (x : LinkedModule) → slice_get (code ++ l ∷ []) home ≡ Some x → runs_with modules home ≡ true → IsMeasured x.code
   pub modules_mean : IsCodeOfProgram (program_of modules) (code ++ l ∷ []) (faces_at known) (runs_in modules)
   pub commands_mean : IsCodeOfCommands (program_of modules) (code ++ l ∷ []) (runs_in modules) (length modules) cs
   pub does : CommandsBehave (program_of modules) (code ++ l ∷ []) (length modules) cs

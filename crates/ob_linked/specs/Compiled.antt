@@ -5,7 +5,7 @@ use Rattle.ob_mean.specs.WellFormed.{IsFaceOf, IsWellFormed}
 use Rattle.ob_code.specs.declared.instr.LinkedModule.{LinkedModule}
 use Rattle.ob_code.specs.Linked.{IsLinked}
 use Rattle.ob_code.specs.Machine.{Code}
-use Rattle.ob_code.specs.Valid.{IsValid}
+use Rattle.ob_code.specs.Kinds.{IsMeasured}
 use Rattle.ob_gen.specs.Correct.{IsCodeOfProgram, BodyBehaves}
 use Rattle.ob_gen.specs.Generated.{IsGenerated}
 use Rattle.ob_session.specs.Session.{Import, Module, name_of, find_module, place_of, import_places, link_fault, program_of, with_module}
@@ -89,10 +89,11 @@ faces_in (Some k) = k.faces
 abbrev pub faces_at : List Known → ℕ → List Face
 faces_at known i = faces_in (slice_get known i)
 
--- it is linked, valid where it may run, and the program's, and the code of each body does what the body means
+-- it is linked, enough is known of its operands and names where it may run, it is the program's, and the code of each body does
+-- what the body means
 pub record MayRunAll (modules : List Module) (known : List Known) (code : Code) : Type 0 where
   pub linked : IsLinked code (runs_in modules)
-  pub valid : (home : ℕ) (l : LinkedModule) → slice_get code home ≡ Some l → runs_in modules home ≡ true → IsValid l.code
+  pub measured : (home : ℕ) (l : LinkedModule) → slice_get code home ≡ Some l → runs_in modules home ≡ true → IsMeasured l.code
   pub means : IsCodeOfProgram (program_of modules) code (faces_at known) (runs_in modules)
   pub does : (home : ℕ) → runs_in modules home ≡ true → BodyBehaves (program_of modules) code home
 

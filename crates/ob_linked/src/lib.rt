@@ -7,8 +7,8 @@ ghost use Rattle.ob_linked.specs.Compiled.{EachLoads, EachMayRun};
 ghost use Rattle.ob_linked.specs.Loading.{EachAgrees, EachLoadedRuns, EachStaysAgreeing};
 
 /// The code of a session's modules, where each was compiled over what was known of its imports, and that is so of the modules
-/// that are loaded: those whose imports link are linked as their code knows them, their code is valid, it is the code of the
-/// session's program, and that of each body does what the body means.
+/// that are loaded: those whose imports link are linked as their code knows them, enough is known of the operands and names of
+/// their code, it is the code of the session's program, and that of each body does what the body means.
 pub fn may_run_law()
     ensures { EachMayRun }
 {}
@@ -41,8 +41,8 @@ pub fn commands_form_law()
     ensures { EachCommandsForm }
 {}
 
-/// The code of that module, behind that of the session's modules: all are linked as their code knows them, it is valid, the
-/// modules' code stays that of the session's program, and it does what the commands mean.
+/// The code of that module, behind that of the session's modules: all are linked as their code knows them, enough is known of its
+/// operands and names, the modules' code stays that of the session's program, and it does what the commands mean.
 pub fn commands_law()
     ensures { EachCommandsMayRun }
 {}

@@ -85,8 +85,8 @@ module _ (modules : List Module) (known : List Known) (i : vm.ImageState) (h : I
   pub linked_now : IsLinked longer (runs_of (i.may_run ++ true ∷ []))
   linked_now = subst (λ (f : ℕ → Bool). IsLinked longer f) (sym (fun_ext runs_say)) law.linked
 
-  pub valid_now : vm.AreValid longer (runs_of (i.may_run ++ true ∷ []))
-  valid_now = subst (λ (f : ℕ → Bool). vm.AreValid longer f) (sym (fun_ext runs_say)) law.valid
+  pub measured_now : vm.AreMeasured longer (runs_of (i.may_run ++ true ∷ []))
+  measured_now = subst (λ (f : ℕ → Bool). vm.AreMeasured longer f) (sym (fun_ext runs_say)) law.measured
 
   as_many : all_cells longer ≡ all_cells i.code
   as_many = let more = cells_behind i.code l in let none : l.code.cells ≡ 0 = behind_is.generated.cells in omega (arith, more, none)

@@ -68,8 +68,8 @@ sized_as modules known code h = (each_counts_cells modules code (have_cells modu
 pub linked_by : (modules : List Module) (known : List Known) (code : Code) (flags : List Bool) → AreCompiled modules known code → ((k : ℕ) → runs_of flags k ≡ runs_in modules k) → IsLinked code (runs_of flags)
 linked_by modules known code flags h e = subst (λ (f : ℕ → Bool). IsLinked code f) (sym (fun_ext e)) (each_may_run modules known code h).linked
 
-pub valid_by : (modules : List Module) (known : List Known) (code : Code) (flags : List Bool) → AreCompiled modules known code → ((k : ℕ) → runs_of flags k ≡ runs_in modules k) → vm.AreValid code (runs_of flags)
-valid_by modules known code flags h e = subst (λ (f : ℕ → Bool). vm.AreValid code f) (sym (fun_ext e)) (each_may_run modules known code h).valid
+pub measured_by : (modules : List Module) (known : List Known) (code : Code) (flags : List Bool) → AreCompiled modules known code → ((k : ℕ) → runs_of flags k ≡ runs_in modules k) → vm.AreMeasured code (runs_of flags)
+measured_by modules known code flags h e = subst (λ (f : ℕ → Bool). vm.AreMeasured code f) (sym (fun_ext e)) (each_may_run modules known code h).measured
 
 -- ---- the variables that stay
 

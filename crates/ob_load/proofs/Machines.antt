@@ -142,7 +142,7 @@ module _ (modules : List Module) (store : Value) (task : Task) (lines : List Lin
   -- output that is taken
   pub taken_now : (m' : vm.MachineState) → m' ≡ record m { written = [] } → (asks ≡ true → vm.AsksFor i m') → IsRunning modules store task lines i m' asks
   taken_now m' e asking = record {
-    fits = subst (λ (x : vm.MachineState). vm.IsOf i x) (sym e) (record { runs = r.fits.runs; linked = r.fits.linked; valid = r.fits.valid; stands = r.fits.stands; room = r.fits.room });
+    fits = subst (λ (x : vm.MachineState). vm.IsOf i x) (sym e) (record { runs = r.fits.runs; linked = r.fits.linked; measured = r.fits.measured; stands = record { sound = r.fits.stands.sound; marked = r.fits.stands.marked }; room = r.fits.room });
     follows = r.follows;
     begins = r.begins;
     taken = r.taken ++ m.written;

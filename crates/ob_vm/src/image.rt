@@ -1,7 +1,7 @@
 ghost use Rattle.std.specs.Prelude.{◌≡◌, ◌≤◌, length, take, Some, slice_get};
 ghost use Rattle.ob_code.specs.Linked.{all_cells, IsLinked, runs_of};
-ghost use Rattle.ob_code.specs.Valid.{IsValid};
-ghost use Rattle.ob_vm.specs.Images.{AreValid, CanRun};
+ghost use Rattle.ob_code.specs.Kinds.{IsMeasured};
+ghost use Rattle.ob_vm.specs.Images.{AreMeasured, CanRun};
 
 use crate::objects;
 use crate::quick::QuickProcedure;
@@ -23,7 +23,7 @@ pub struct Image {
 impl Model for Image {
     ghost use Rattle.std.specs.Prelude.{◌≡◌, ◌≤◌, length};
     ghost use Rattle.ob_code.specs.Linked.{all_cells, IsLinked, runs_of};
-    ghost use Rattle.ob_vm.specs.Images.{ImageState, AreValid};
+    ghost use Rattle.ob_vm.specs.Images.{ImageState, AreMeasured};
     ghost use Rattle.ob_vm.specs.Quick.{AreQuick};
 
     ghost Value = { ImageState };
@@ -33,15 +33,16 @@ impl Model for Image {
     ghost invariant = { λ i. (i.module_cells ≡ all_cells i.modules.items)
         × (all_cells i.modules.items ≤ length i.cells.items)
         × IsLinked i.modules.items (runs_of i.may_run.items)
-        × AreValid i.modules.items (runs_of i.may_run.items)
+        × AreMeasured i.modules.items (runs_of i.may_run.items)
         × AreQuick i.modules.items i.quick.items };
 }
 
 impl Image {
-    /// The image of linked modules, of which those may run that are valid, with the first values of their variables.
+    /// The image of linked modules, with the first values of their variables. Those may run of whose operands and names enough
+    /// is known.
     pub fn of(modules: Vec<LinkedModule>, may_run: Vec<bool>, cells: Vec<i32>) -> Image
         requires linked { IsLinked modules.items (runs_of may_run.items) }
-        requires valid { AreValid modules.items (runs_of may_run.items) }
+        requires measured { AreMeasured modules.items (runs_of may_run.items) }
         requires cells { length cells.items ≡ all_cells modules.items }
         ensures { result ≡ record { code = modules.items; may_run = may_run.items; cells = cells.items } }
     {
@@ -68,7 +69,7 @@ impl Image {
     pub fn modules(&self) -> &[LinkedModule]
         ensures value { result.now ≡ self.now.code }
         ensures linked { IsLinked self.now.code (runs_of self.now.may_run) }
-        ensures valid { AreValid self.now.code (runs_of self.now.may_run) }
+        ensures measured { AreMeasured self.now.code (runs_of self.now.may_run) }
     {
         &self.modules
     }
@@ -77,7 +78,7 @@ impl Image {
     pub fn module(&self, home: usize) -> &LinkedModule
         requires { CanRun self.now home }
         ensures value { slice_get self.now.code home ≡ Some result.now }
-        ensures valid { IsValid result.now.code }
+        ensures measured { IsMeasured result.now.code }
     {
         objects::module(self.modules(), home)
     }
@@ -103,7 +104,7 @@ impl Image {
         ensures may_run { result.1.items ≡ self.may_run }
         ensures cells { result.2.items ≡ self.cells }
         ensures linked { IsLinked self.code (runs_of self.may_run) }
-        ensures valid { AreValid self.code (runs_of self.may_run) }
+        ensures measured { AreMeasured self.code (runs_of self.may_run) }
     {
         let Image {
             modules,

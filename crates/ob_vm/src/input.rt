@@ -2,6 +2,7 @@
 
 ghost use Rattle.std.specs.Prelude.{◌≡◌, ◌+◌, ◌<◌, ◌^◌, reverse, drop};
 ghost use Rattle.ob_code.specs.Machine.{perform, go};
+ghost use Rattle.ob_code.specs.Places.{top_of, AreIn, IsTextIn, IsTargetIn};
 ghost use Rattle.ob_code.specs.declared.instr.Instr.TheVariants as instr;
 ghost use Rattle.ob_code.specs.declared.instr.Target.TheVariants as target;
 ghost use Rattle.ob_vm.specs.States.{config_of, memory_of, Stays};
@@ -9,9 +10,8 @@ ghost use Rattle.ob_vm.specs.Needs.{HasOne, RootIsThere, SpanIsThere, TargetIsTh
 ghost use Rattle.ob_vm.specs.Steps.{Performed};
 
 use crate::cells::{put_text, set_cell};
-use crate::objects::{elements, object, within};
+use crate::objects::{elements, object, place_in};
 use crate::operands::{pass, pop_operand, top};
-use crate::places::ASTRAY;
 use crate::state::{State, Step};
 use ob_code::instr::{LinkedModule, Root, Span, Target};
 use ob_inout::Answer;
@@ -30,29 +30,19 @@ fn leave(state: &mut State)
 fn read_char(code: &[LinkedModule], state: &mut State, root: Root) -> Step
     requires one { HasOne state.old }
     requires root { RootIsThere code.now (config_of state.old) root }
+    requires cells { AreIn code.now (config_of state.old) root (top_of (config_of state.old).stack) 1 }
     requires place { state.old.at.place + 3 < 2 ^ 64 }
     ensures { Performed (perform code.now (instr.Read (target.Char root)) (config_of state.old)) state.old state.new result }
 {
     let k = top(state);
-    match within(object(code, state, root), k, 1) {
-        Some(a) => match state.input.read_char() {
-            Answer::Value(c) => {
-                set_cell(&mut state.cells, a, i32::from(c));
-                leave(state);
-            }
-            Answer::Failed => leave(state),
-            Answer::NeedsLine => pass(state),
-        },
-        None => {
-            if state.input.has_char() {
-                return ASTRAY;
-            }
-            match state.input.read_char() {
-                Answer::Value(_) => unreachable!(),
-                Answer::Failed => leave(state),
-                Answer::NeedsLine => pass(state),
-            }
+    let a = place_in(object(code, state, root), k, 1);
+    match state.input.read_char() {
+        Answer::Value(c) => {
+            set_cell(&mut state.cells, a, i32::from(c));
+            leave(state);
         }
+        Answer::Failed => leave(state),
+        Answer::NeedsLine => pass(state),
     }
     Step::Moved
 }
@@ -60,29 +50,19 @@ fn read_char(code: &[LinkedModule], state: &mut State, root: Root) -> Step
 fn read_int(code: &[LinkedModule], state: &mut State, root: Root) -> Step
     requires one { HasOne state.old }
     requires root { RootIsThere code.now (config_of state.old) root }
+    requires cells { AreIn code.now (config_of state.old) root (top_of (config_of state.old).stack) 1 }
     requires place { state.old.at.place + 3 < 2 ^ 64 }
     ensures { Performed (perform code.now (instr.Read (target.Int root)) (config_of state.old)) state.old state.new result }
 {
     let k = top(state);
-    match within(object(code, state, root), k, 1) {
-        Some(a) => match state.input.read_int() {
-            Answer::Value(v) => {
-                set_cell(&mut state.cells, a, v);
-                leave(state);
-            }
-            Answer::Failed => leave(state),
-            Answer::NeedsLine => pass(state),
-        },
-        None => {
-            if state.input.has_int() {
-                return ASTRAY;
-            }
-            match state.input.read_int() {
-                Answer::Value(_) => unreachable!(),
-                Answer::Failed => leave(state),
-                Answer::NeedsLine => pass(state),
-            }
+    let a = place_in(object(code, state, root), k, 1);
+    match state.input.read_int() {
+        Answer::Value(v) => {
+            set_cell(&mut state.cells, a, v);
+            leave(state);
         }
+        Answer::Failed => leave(state),
+        Answer::NeedsLine => pass(state),
     }
     Step::Moved
 }
@@ -91,30 +71,20 @@ fn read_int(code: &[LinkedModule], state: &mut State, root: Root) -> Step
 fn read_string(code: &[LinkedModule], state: &mut State, span: Span) -> Step
     requires one { HasOne state.old }
     requires span { SpanIsThere code.now (config_of state.old) span }
+    requires cells { IsTextIn code.now (config_of state.old) span (top_of (config_of state.old).stack) }
     requires place { state.old.at.place + 3 < 2 ^ 64 }
     ensures { Performed (perform code.now (instr.Read (target.String span)) (config_of state.old)) state.old state.new result }
 {
     let k = top(state);
     let n = elements(state, span.length);
-    match within(object(code, state, span.root), k, n) {
-        Some(a) => match state.input.read_string(n) {
-            Answer::Value(()) => {
-                put_text(&mut state.cells, a, n, state.input.word());
-                leave(state);
-            }
-            Answer::Failed => leave(state),
-            Answer::NeedsLine => pass(state),
-        },
-        None => {
-            if state.input.has_string(n) {
-                return ASTRAY;
-            }
-            match state.input.read_string(n) {
-                Answer::Value(()) => unreachable!(),
-                Answer::Failed => leave(state),
-                Answer::NeedsLine => pass(state),
-            }
+    let a = place_in(object(code, state, span.root), k, n);
+    match state.input.read_string(n) {
+        Answer::Value(()) => {
+            put_text(&mut state.cells, a, n, state.input.word());
+            leave(state);
         }
+        Answer::Failed => leave(state),
+        Answer::NeedsLine => pass(state),
     }
     Step::Moved
 }
@@ -123,30 +93,20 @@ fn read_string(code: &[LinkedModule], state: &mut State, span: Span) -> Step
 fn read_name(code: &[LinkedModule], state: &mut State, span: Span) -> Step
     requires one { HasOne state.old }
     requires span { SpanIsThere code.now (config_of state.old) span }
+    requires cells { IsTextIn code.now (config_of state.old) span (top_of (config_of state.old).stack) }
     requires place { state.old.at.place + 3 < 2 ^ 64 }
     ensures { Performed (perform code.now (instr.Read (target.Name span)) (config_of state.old)) state.old state.new result }
 {
     let k = top(state);
     let n = elements(state, span.length);
-    match within(object(code, state, span.root), k, n) {
-        Some(a) => match state.input.read_name(n) {
-            Answer::Value(()) => {
-                put_text(&mut state.cells, a, n, state.input.word());
-                leave(state);
-            }
-            Answer::Failed => leave(state),
-            Answer::NeedsLine => pass(state),
-        },
-        None => {
-            if state.input.has_name(n) {
-                return ASTRAY;
-            }
-            match state.input.read_name(n) {
-                Answer::Value(()) => unreachable!(),
-                Answer::Failed => leave(state),
-                Answer::NeedsLine => pass(state),
-            }
+    let a = place_in(object(code, state, span.root), k, n);
+    match state.input.read_name(n) {
+        Answer::Value(()) => {
+            put_text(&mut state.cells, a, n, state.input.word());
+            leave(state);
         }
+        Answer::Failed => leave(state),
+        Answer::NeedsLine => pass(state),
     }
     Step::Moved
 }
@@ -155,6 +115,7 @@ fn read_name(code: &[LinkedModule], state: &mut State, span: Span) -> Step
 pub fn read(code: &[LinkedModule], state: &mut State, target: Target) -> Step
     requires one { HasOne state.old }
     requires target { TargetIsThere code.now (config_of state.old) target }
+    requires cells { IsTargetIn code.now (config_of state.old) target (top_of (config_of state.old).stack) }
     requires place { state.old.at.place + 3 < 2 ^ 64 }
     ensures { Performed (perform code.now (instr.Read target) (config_of state.old)) state.old state.new result }
 {

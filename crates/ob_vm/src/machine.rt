@@ -2,7 +2,7 @@ ghost use Rattle.std.specs.Prelude.{◌≡◌, ℕ, ◌+◌, ◌-◌, ◌^◌, �
 ghost use Rattle.ob_inout.specs.Reading.{given, opened};
 ghost use Rattle.ob_code.specs.Linked.{all_cells};
 ghost use Rattle.ob_code.specs.Machine as spec;
-ghost use Rattle.ob_code.specs.Valid.{IsValid};
+ghost use Rattle.ob_code.specs.Kinds.{IsMeasured};
 ghost use Rattle.ob_vm.specs.Images.{AsksFor, CanRun, HasTakenLine, ImageState, IsOf, IsRoomFor, IsRoomIn, WhereAsked, machine_config};
 ghost use Rattle.ob_vm.specs.Steps.{SliceDone};
 
@@ -51,7 +51,7 @@ impl Model for Machine {
 
 // The last procedure is the body.
 fn body(code: &CodeModule) -> &Procedure
-    requires { IsValid code.now }
+    requires { IsMeasured code.now }
     ensures { slice_get code.now.procedures.items (length code.now.procedures.items - 1) ≡ Some result.now }
 {
     match code.procedures.get(code.procedures.len().saturating_sub(1)) {

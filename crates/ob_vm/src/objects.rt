@@ -1,6 +1,6 @@
 // Where the cells of what instructions name are.
 
-ghost use Rattle.std.specs.Prelude.{◌≡◌, ◌+◌, ◌<◌, ◌≤◌, ◌^◌, length, Some, IfSome, IsSome, slice_get};
+ghost use Rattle.std.specs.Prelude.{◌≡◌, ◌+◌, ◌<◌, ◌≤◌, ◌^◌, length, Some, IsSome, slice_get};
 ghost use Rattle.ob_code.specs.Machine as spec;
 ghost use Rattle.ob_code.specs.Machine.{imports_in, import_number};
 ghost use Rattle.ob_vm.specs.States.{config_of};
@@ -107,19 +107,12 @@ pub fn elements(state: &State, length: Length) -> usize
     }
 }
 
-// So many cells of an object, from this one on: the first, if they are there.
-pub fn within(object: Name, k: i32, n: usize) -> Option<usize>
-    requires { object.address + object.cells < 2 ^ 64 }
-    ensures value { result ≡ spec.within object k n }
-    ensures there { IfSome result (λ a. a + n ≤ object.address + object.cells) }
+// So many cells of an object, from this one on, which are there: where the first is.
+pub fn place_in(object: Name, k: i32, n: usize) -> usize
+    requires within { IsSome (spec.within object k n) }
+    requires there { object.address + object.cells < 2 ^ 64 }
+    ensures value { spec.within object k n ≡ Some result }
+    ensures there { result + n ≤ object.address + object.cells }
 {
-    if k < 0 {
-        return None;
-    }
-    let k = k as usize;
-    if n <= object.cells && k <= object.cells - n {
-        Some(object.address + k)
-    } else {
-        None
-    }
+    object.address + k as usize
 }

@@ -6,6 +6,7 @@ ghost use Rattle.ob_inout.specs.Writing.{string_text};
 ghost use Rattle.ob_mean.specs.Texts as texts;
 ghost use Rattle.ob_mean.specs.Arithmetic as spec;
 ghost use Rattle.ob_code.specs.Machine.{perform};
+ghost use Rattle.ob_code.specs.Places.{top_of, under_top, IsTextIn};
 ghost use Rattle.ob_code.specs.declared.instr.Instr.TheVariants as instr;
 ghost use Rattle.ob_vm.specs.States.{config_of};
 ghost use Rattle.ob_vm.specs.Needs.{HasOne, HasTwo, SpanIsThere};
@@ -13,9 +14,8 @@ ghost use Rattle.ob_vm.specs.Rows.{character_in, text_in};
 ghost use Rattle.ob_vm.specs.Steps.{Performed};
 
 use crate::cells::{character, put_text};
-use crate::objects::{elements, object, within};
+use crate::objects::{elements, object, place_in};
 use crate::operands::{replace_two, take_one, top, top_two};
-use crate::places::ASTRAY;
 use crate::state::{State, Step};
 use ob_base::Text;
 use ob_code::instr::{LinkedModule, Span};
@@ -32,14 +32,13 @@ pub fn store_text(
 ) -> Step
     requires one { HasOne state.old }
     requires span { SpanIsThere code.now (config_of state.old) span }
+    requires cells { IsTextIn code.now (config_of state.old) span (top_of (config_of state.old).stack) }
     requires place { state.old.at.place + 1 < 2 ^ 64 }
     ensures { Performed (perform code.now (instr.StoreText span text.now line) (config_of state.old)) state.old state.new result }
 {
     let k = top(state);
     let n = elements(state, span.length);
-    let Some(a) = within(object(code, state, span.root), k, n) else {
-        return ASTRAY;
-    };
+    let a = place_in(object(code, state, span.root), k, n);
     let text = text.as_slice();
     if text.len() >= n {
         return Step::MeetsTrap(TrapKind::TextLength, line);
@@ -83,18 +82,16 @@ pub fn relate_texts(
     requires two { HasTwo state.old }
     requires first { SpanIsThere code.now (config_of state.old) first }
     requires second { SpanIsThere code.now (config_of state.old) second }
+    requires first_cells { IsTextIn code.now (config_of state.old) first (under_top (config_of state.old).stack) }
+    requires second_cells { IsTextIn code.now (config_of state.old) second (top_of (config_of state.old).stack) }
     requires place { state.old.at.place + 1 < 2 ^ 64 }
     ensures { Performed (perform code.now (instr.RelateTexts relation first second) (config_of state.old)) state.old state.new result }
 {
     let (k, j) = top_two(state);
     let n = elements(state, first.length);
     let m = elements(state, second.length);
-    let Some(a) = within(object(code, state, first.root), k, n) else {
-        return ASTRAY;
-    };
-    let Some(b) = within(object(code, state, second.root), j, m) else {
-        return ASTRAY;
-    };
+    let a = place_in(object(code, state, first.root), k, n);
+    let b = place_in(object(code, state, second.root), j, m);
     let (equal, less) = compare(&state.cells[a..a + n], &state.cells[b..b + m]);
     replace_two(state, truth(holds(relation, equal, less)));
     Step::Moved

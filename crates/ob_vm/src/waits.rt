@@ -2,14 +2,13 @@
 
 ghost use Rattle.std.specs.Prelude.{◌≡◌, ◌+◌, ◌<◌, ◌^◌};
 ghost use Rattle.ob_code.specs.Machine.{perform};
+ghost use Rattle.ob_code.specs.Places.{top_of, IsTextIn};
 ghost use Rattle.ob_code.specs.declared.instr.Instr.TheVariants as instr;
 ghost use Rattle.ob_vm.specs.States.{config_of};
-ghost use Rattle.ob_vm.specs.Needs.{IsCallable, HasOne, HasTwo, SpanIsThere};
+ghost use Rattle.ob_vm.specs.Needs.{IsCallable, HasOne, HasTwo};
 ghost use Rattle.ob_vm.specs.Steps.{Performed};
 
-use crate::objects::{elements, object, within};
 use crate::operands::{top, top_two};
-use crate::places::ASTRAY;
 use crate::state::{State, Step};
 use ob_code::instr::{LinkedModule, Span};
 use ob_mean::{Callee, TrapKind};
@@ -41,15 +40,11 @@ pub fn put_char(code: &[LinkedModule], state: &mut State) -> Step
 // Out.String.
 pub fn put_text(code: &[LinkedModule], state: &mut State, span: Span) -> Step
     requires one { HasOne state.old }
-    requires span { SpanIsThere code.now (config_of state.old) span }
+    requires cells { IsTextIn code.now (config_of state.old) span (top_of (config_of state.old).stack) }
     ensures { Performed (perform code.now (instr.PutText span) (config_of state.old)) state.old state.new result }
 {
-    let k = top(state);
-    let n = elements(state, span.length);
-    match within(object(code, state, span.root), k, n) {
-        Some(_) => Step::MeetsTurn,
-        None => ASTRAY,
-    }
+    let _number = top(state);
+    Step::MeetsTurn
 }
 
 // Out.Int.

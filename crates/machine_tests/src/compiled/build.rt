@@ -3,7 +3,7 @@
 ghost use Rattle.std.specs.Prelude.{◌≡◌, ◌<◌, length, true, slice_get, All, IsTrue, IfOk, OnOk};
 ghost use Rattle.ob_code.specs.declared.instr.LinkedModule.{LinkedModule as ModuleOf};
 ghost use Rattle.ob_code.specs.Linked.{all_cells, runs_of};
-ghost use Rattle.ob_code.specs.Valid.{IsValid};
+ghost use Rattle.ob_code.specs.Kinds.{IsMeasured};
 ghost use Rattle.ob_vm.specs.Images.{IsOf};
 
 use ob_code::checked::validate;
@@ -16,9 +16,9 @@ use ob_reference::NoAnswer;
 use ob_vm::{Image, Machine};
 use std::alloc::Global;
 
-/// A module's code, which has to be valid.
+/// A module's code, which validation has to accept.
 fn code_of(alloc: Global, known: &[Face], tree: &TypedModule) -> Result<CodeModule, NoAnswer>
-    ensures { IfOk result IsValid }
+    ensures { IfOk result IsMeasured }
 {
     match validate(alloc, module_code(alloc, known, tree)?)? {
         Some(code) => Ok(code.into_code()),
@@ -34,8 +34,8 @@ fn add(
     known: &[Face],
     module: &Loaded,
 ) -> Result<(), NoAnswer>
-    requires { All (λ (l : ModuleOf). IsValid l.code) modules.old.items }
-    ensures { OnOk result (All (λ (l : ModuleOf). IsValid l.code) modules.new.items) }
+    requires { All (λ (l : ModuleOf). IsMeasured l.code) modules.old.items }
+    ensures { OnOk result (All (λ (l : ModuleOf). IsMeasured l.code) modules.new.items) }
 {
     let imports = module.imports.as_slice();
     let known = if imports.is_empty() { &[] } else { known };

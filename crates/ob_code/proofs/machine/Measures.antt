@@ -13,21 +13,9 @@ use Rattle.ob_code.specs.declared.instr.Name.{Name}
 use Rattle.ob_code.specs.declared.instr.Length.{Length}
 use Rattle.ob_code.specs.declared.instr.Length.TheVariants.{Elements, OfName}
 use Rattle.ob_code.specs.Machine.{Config, no_name, elements}
+use Rattle.ob_code.specs.Places.{top_of, under_top}
+use Rattle.ob_code.specs.Steady.{Held, held, Match, AreOf}
 use Rattle.ob_code.specs.Kinds.{Kinds, NameKinds, Is, IsOf, Covers, CoverAll, first, second, literal, low, inside, moved, one_of, one_inside, element, results_kinds}
-
--- what is known of an operand, where the names of its call have these lengths
-abbrev pub Held : Type 0
-Held = (ℕ → ℕ) × Kind
-
-abbrev pub held : (ℕ → ℕ) → Kinds → List Held
-held lengths [] = []
-held lengths (k ∷ ks) = (lengths, k) ∷ held lengths ks
-
--- the numbers on top of the operands are of these kinds
-abbrev pub Match : List Held → List ℤ → Type 0
-Match [] vs = Unit {0}
-Match (h ∷ hs) [] = ⊥
-Match (h ∷ hs) (v ∷ vs) = Is h.0 h.1 v × Match hs vs
 
 module _ (lengths : ℕ → ℕ) where
   -- ---- one kind and another
@@ -83,6 +71,17 @@ module _ (lengths : ℕ → ℕ) where
 
   pub of_second : (ks : Kinds) (below : List Held) (stack : List ℤ) (v w : ℤ) (rest : List ℤ) → Match (held lengths ks ++ below) stack → stack ≡ w ∷ (v ∷ rest) → 2 ≤ length ks → Is lengths (second ks) v
   of_second ks below stack v w rest h e le = second_is ks below w v rest le (subst (Match (held lengths ks ++ below)) e h)
+
+  -- the same of what lies on top, and under it
+  pub of_top_of : (ks : Kinds) (below : List Held) (vs : List ℤ) → 1 ≤ length ks → Match (held lengths ks ++ below) vs → Is lengths (first ks) (top_of vs)
+  of_top_of [] below vs le h = absurd (omega (arith, le))
+  of_top_of (k ∷ ks) below [] le h = absurd h
+  of_top_of (k ∷ ks) below (v ∷ vs) le h = h.0
+
+  pub of_under_top : (ks : Kinds) (below : List Held) (vs : List ℤ) → 2 ≤ length ks → Match (held lengths ks ++ below) vs → Is lengths (second ks) (under_top vs)
+  of_under_top [] below vs le h = absurd (omega (arith, le))
+  of_under_top (k ∷ ks) below [] le h = absurd h
+  of_under_top (k ∷ ks) below (v ∷ vs) le h = of_top_of ks below vs (omega (arith, le)) h.1
 
   pub rest_one : (ks : Kinds) (below : List Held) (stack : List ℤ) (v : ℤ) (rest : List ℤ) → Match (held lengths ks ++ below) stack → stack ≡ v ∷ rest → 1 ≤ length ks → Match (held lengths (drop 1 ks) ++ below) rest
   rest_one ks below stack v rest h e le = subst (λ s. Match (held lengths (drop 1 ks) ++ below) (drop 1 s)) e (dropped 1 ks below stack le h)
@@ -173,13 +172,6 @@ module _ (lengths : ℕ → ℕ) where
   element_is c (OfName x) size (Inside y whole most) v i is lt h = tt
 
 -- ---- names
-
--- names of these kinds, one by one
-abbrev pub AreOf : NameKinds → List Name → Type 0
-AreOf [] [] = Unit {0}
-AreOf [] (n ∷ ns) = ⊥
-AreOf (k ∷ ks) [] = ⊥
-AreOf (k ∷ ks) (n ∷ ns) = IsOf k n × AreOf ks ns
 
 pub of_length : (ks : NameKinds) (ns : List Name) → AreOf ks ns → length ns ≡ length ks
 of_length [] [] h = refl

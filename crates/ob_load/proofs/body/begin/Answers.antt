@@ -4,15 +4,15 @@ use Rattle.ob_store.specs.Stores.{store_of}
 use Rattle.ob_load.specs.declared.task.Task.TheVariants.{Body}
 use Rattle.ob_load.specs.Kept.{IsRunning}
 use Rattle.ob_load.specs.MachineState.{stands_at}
-use Rattle.ob_load.proofs.Finished.{linked_by, valid_by}
+use Rattle.ob_load.proofs.Finished.{linked_by, measured_by}
 use Rattle.ob_load.proofs.Loaded.{can_run, room_in, begun_on, begun_at, within_more}
 use Rattle.ob_load.proofs.body.begin.Goals as goal
 
 pub of-image-requires-clause-linked : goal.of-image-requires-clause-linked
 of-image-requires-clause-linked c = linked_by c.args.modules c.args.known.items c.args.code.items c.args.beginning.runs.items c.requires.may.compiled c.requires.may.runs
 
-pub of-image-requires-clause-valid : goal.of-image-requires-clause-valid
-of-image-requires-clause-valid c = valid_by c.args.modules c.args.known.items c.args.code.items c.args.beginning.runs.items c.requires.may.compiled c.requires.may.runs
+pub of-image-requires-clause-measured : goal.of-image-requires-clause-measured
+of-image-requires-clause-measured c = measured_by c.args.modules c.args.known.items c.args.code.items c.args.beginning.runs.items c.requires.may.compiled c.requires.may.runs
 
 pub start-run-requires-clause-runs : goal.start-run-requires-clause-runs
 start-run-requires-clause-runs c = can_run c.args.modules c.args.known.items c.args.code.items c.args.beginning c.requires.may c.of-image.result c.of-image.ensures

@@ -10,7 +10,7 @@ use Rattle.ob_load.specs.Kept.{IsKept, IsHeld}
 use Rattle.jk_language.specs.MachineState.{here}
 use Rattle.ob_load.specs.MachineState.{MachineState, state_of}
 use Rattle.ob_load.proofs.Machines.{held}
-use Rattle.ob_load.proofs.Finished.{as_many, flags_cut, linked_by, valid_by, leaves}
+use Rattle.ob_load.proofs.Finished.{as_many, flags_cut, linked_by, measured_by, leaves}
 use Rattle.ob_load.proofs.machine.Machine.finish.Goals as goal
 
 none_of : (u : ℕ) → min 0 u ≡ 0
@@ -70,11 +70,11 @@ of-image-requires-clause-linked c =
     (subst (λ (fs : List Bool). IsLinked (take (length c.self.inside.modules) c.turns-turned.new.image.code) (runs_of fs)) (sym (flags_are c))
     (linked_by c.self.inside.modules c.self.inside.known.items _ _ (held_now c).compiled (flags_cut c.self.inside.modules c.turns-turned.new.image.may_run (held_now c).runs)))
 
-pub of-image-requires-clause-valid : goal.of-image-requires-clause-valid
-of-image-requires-clause-valid c =
-    subst (λ (x : Code). vm.AreValid x (runs_of c.truncate-2.new.self.items)) (sym (code_is c))
-    (subst (λ (fs : List Bool). vm.AreValid (take (length c.self.inside.modules) c.turns-turned.new.image.code) (runs_of fs)) (sym (flags_are c))
-    (valid_by c.self.inside.modules c.self.inside.known.items _ _ (held_now c).compiled (flags_cut c.self.inside.modules c.turns-turned.new.image.may_run (held_now c).runs)))
+pub of-image-requires-clause-measured : goal.of-image-requires-clause-measured
+of-image-requires-clause-measured c =
+    subst (λ (x : Code). vm.AreMeasured x (runs_of c.truncate-2.new.self.items)) (sym (code_is c))
+    (subst (λ (fs : List Bool). vm.AreMeasured (take (length c.self.inside.modules) c.turns-turned.new.image.code) (runs_of fs)) (sym (flags_are c))
+    (measured_by c.self.inside.modules c.self.inside.known.items _ _ (held_now c).compiled (flags_cut c.self.inside.modules c.turns-turned.new.image.may_run (held_now c).runs)))
 
 pub of-image-requires-clause-cells : goal.of-image-requires-clause-cells
 of-image-requires-clause-cells c = many c

@@ -11,7 +11,7 @@ use Rattle.ob_load.specs.Commanded.{AllRunnable, AreReady}
 use Rattle.ob_load.specs.declared.task.Task.TheVariants.{Commands}
 use Rattle.ob_load.specs.Kept.{IsHeld, IsRunning}
 use Rattle.ob_load.specs.MachineState.{begun_in, stands_at}
-use Rattle.ob_load.proofs.Commanded.{ready_for, image_of, now, linked_now, valid_now, many_now, held_now, can_run, room_now, runs_now, state_now}
+use Rattle.ob_load.proofs.Commanded.{ready_for, image_of, now, linked_now, measured_now, many_now, held_now, can_run, room_now, runs_now, state_now}
 use Rattle.ob_load.proofs.Loaded.{within_more}
 use Rattle.ob_load.proofs.Said.{runnable}
 use Rattle.ob_load.proofs.session.Session.run_commands.Goals as goal
@@ -82,10 +82,10 @@ module _ (c : goal.After-none) where
   behind_begun : c.len-behind.result ≡ length c.self.inside.image.code
   behind_begun = c.len-behind.ensures ∙ c.ready.new.code.ok.0 ∙ ap length (c.in-Ok.ensures.code ∙ c.into_parts-code.ensures.code)
 
-pub of-image-requires-clause-valid : goal.of-image-requires-clause-valid
-of-image-requires-clause-valid c =
-    subst (λ (x : Code). vm.AreValid x (runs_of c.ready.new.runs.items)) (sym (c.in-Err.ensures.code ∙ c.into_parts-code.ensures.code))
-    (subst (λ (fs : List Bool). vm.AreValid c.self.inside.image.code (runs_of fs)) (sym (c.in-Err.ensures.flags ∙ c.into_parts-code.ensures.may_run)) c.into_parts-code.ensures.valid)
+pub of-image-requires-clause-measured : goal.of-image-requires-clause-measured
+of-image-requires-clause-measured c =
+    subst (λ (x : Code). vm.AreMeasured x (runs_of c.ready.new.runs.items)) (sym (c.in-Err.ensures.code ∙ c.into_parts-code.ensures.code))
+    (subst (λ (fs : List Bool). vm.AreMeasured c.self.inside.image.code (runs_of fs)) (sym (c.in-Err.ensures.flags ∙ c.into_parts-code.ensures.may_run)) c.into_parts-code.ensures.measured)
 
 pub of-image-requires-2-clause-linked : goal.of-image-requires-2-clause-linked
 of-image-requires-2-clause-linked c =
@@ -93,11 +93,11 @@ of-image-requires-2-clause-linked c =
     (subst (λ (fs : List Bool). IsLinked (c.self.inside.image.code ++ last c ∷ []) (runs_of fs)) (sym (flags c))
     (linked_now c.self.inside.modules c.self.inside.known.items c.self.inside.image c.self.invariant.0 c.args.commands c.self.inside.longest c.in-Ok.calls (ready c) (last c) c.into_code.ensures.value refl (first c)))
 
-pub of-image-requires-2-clause-valid : goal.of-image-requires-2-clause-valid
-of-image-requires-2-clause-valid c =
-    subst (λ (x : Code). vm.AreValid x (runs_of c.push_reserved-2.new.self.items)) (sym (code c))
-    (subst (λ (fs : List Bool). vm.AreValid (c.self.inside.image.code ++ last c ∷ []) (runs_of fs)) (sym (flags c))
-    (valid_now c.self.inside.modules c.self.inside.known.items c.self.inside.image c.self.invariant.0 c.args.commands c.self.inside.longest c.in-Ok.calls (ready c) (last c) c.into_code.ensures.value refl (first c)))
+pub of-image-requires-2-clause-measured : goal.of-image-requires-2-clause-measured
+of-image-requires-2-clause-measured c =
+    subst (λ (x : Code). vm.AreMeasured x (runs_of c.push_reserved-2.new.self.items)) (sym (code c))
+    (subst (λ (fs : List Bool). vm.AreMeasured (c.self.inside.image.code ++ last c ∷ []) (runs_of fs)) (sym (flags c))
+    (measured_now c.self.inside.modules c.self.inside.known.items c.self.inside.image c.self.invariant.0 c.args.commands c.self.inside.longest c.in-Ok.calls (ready c) (last c) c.into_code.ensures.value refl (first c)))
 
 pub of-image-requires-2-clause-cells : goal.of-image-requires-2-clause-cells
 of-image-requires-2-clause-cells c =

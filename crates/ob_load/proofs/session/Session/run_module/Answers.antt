@@ -26,11 +26,11 @@ begin-requires-clause-said c =
     (subst (λ (ks : List Known). AreSaid (with_module c.self.inside.modules c.args.added) ks) (sym c.in-Ok-load.ensures.known)
     (said_with c.self.inside.modules c.self.inside.known.items c.args.added c.args.faces c.self.invariant.0.said c.requires.said))
 
-pub of-image-requires-clause-valid : goal.of-image-requires-clause-valid
-of-image-requires-clause-valid c =
+pub of-image-requires-clause-measured : goal.of-image-requires-clause-measured
+of-image-requires-clause-measured c =
     let code = c.in-Err-load.ensures.err.1.1 ∙ c.into_parts-parts.ensures.code in
-    subst (λ (x : Code). vm.AreValid x (runs_of c.into_parts-parts.result.1.items)) (sym code)
-    (subst (λ (fs : List Bool). vm.AreValid c.self.inside.image.code (runs_of fs)) (sym c.into_parts-parts.ensures.may_run) c.into_parts-parts.ensures.valid)
+    subst (λ (x : Code). vm.AreMeasured x (runs_of c.into_parts-parts.result.1.items)) (sym code)
+    (subst (λ (fs : List Bool). vm.AreMeasured c.self.inside.image.code (runs_of fs)) (sym c.into_parts-parts.ensures.may_run) c.into_parts-parts.ensures.measured)
 
 pub invariant_of-result : goal.invariant_of-result
 invariant_of-result c =

@@ -3,7 +3,7 @@ use Rattle.std.specs.Prelude.{slice_get}
 use Rattle.ob_code.specs.Machine.{Code}
 use Rattle.ob_vm.proofs.image.Image.module.Goals as goal
 
-pub returns-clause-valid : goal.returns-clause-valid
-returns-clause-valid c =
+pub returns-clause-measured : goal.returns-clause-measured
+returns-clause-measured c =
     let there : slice_get c.args.self.now.code c.args.home ≡ Some c.module.result.now = ap (λ (m : Code). slice_get m c.args.home) (sym c.modules.ensures.value) ∙ c.module.ensures in
-    c.modules.ensures.valid c.args.home c.module.result.now there c.requires.1
+    c.modules.ensures.measured c.args.home c.module.result.now there c.requires.1

@@ -5,7 +5,7 @@ use Rattle.ob_inout.specs.Buffer.{Buffer}
 use Rattle.ob_code.specs.Machine.{Memory, body_number}
 use Rattle.ob_code.specs.Linked.{IsLinked, runs_of}
 use Rattle.ob_vm.specs.Rooms.{IsSafeAt}
-use Rattle.ob_vm.specs.Images.{ImageState, RoomState, AreValid, IsRoomFor}
+use Rattle.ob_vm.specs.Images.{ImageState, RoomState, AreMeasured, IsRoomFor}
 use Rattle.ob_vm.proofs.Begins.{start_safe, start_is}
 use Rattle.ob_vm.proofs.machine.Machine.start.Goals as goal
 
@@ -24,8 +24,8 @@ returns-clause-fits c =
     let image = c.args.image.now in
     let memory : Memory = record { cells = image.cells; written = []; input = opened } in
     let linked = subst (λ (i : ImageState). IsLinked i.code (runs_of i.may_run)) c.image.view_is c.image.invariant.2 in
-    let valid = subst (λ (i : ImageState). AreValid i.code (runs_of i.may_run)) c.image.view_is c.image.invariant.3 in
+    let measured = subst (λ (i : ImageState). AreMeasured i.code (runs_of i.may_run)) c.image.view_is c.image.invariant.3 in
     let l = c.module.result.now in
     let enough = subst (λ (r : RoomState). IsRoomFor l.code r) (sym c.room.view_is) (c.requires.room l c.module.ensures.value) in
     subst (λ d. IsSafeAt image.code d c.room.inside.stack.cap c.room.inside.names.cap) (sym (returns-clause-begins c))
-    (start_safe image.code (runs_of image.may_run) linked valid c.args.home l c.module.ensures.value c.requires.runs.1 memory c.requires.cells c.room.inside.stack.cap c.room.inside.names.cap enough)
+    (start_safe image.code (runs_of image.may_run) linked measured c.args.home l c.module.ensures.value c.requires.runs.1 memory c.requires.cells c.room.inside.stack.cap c.room.inside.names.cap enough)

@@ -54,7 +54,7 @@ run_quickly-slice-requires-clause-quick c =
 
 pub invariant_of-image : goal.invariant_of-image
 invariant_of-image c =
-    let level = c.run_quickly-slice.ensures.safe.stands.1 in
+    let level = c.run_quickly-slice.ensures.safe.stands.sound.1 in
     let i = c.image.invariant in (
       i.0,
       omega (arith, ap all_cells c.deref.ensures.value, level.modules_below, level.cells_there, ap (λ v. length v.items) c.swap-2.ensures.x_after),
