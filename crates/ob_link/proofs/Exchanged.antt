@@ -63,7 +63,7 @@ last_gone xs m =
 
 -- ---- an exchange, taken back
 
-taken_new : (before : List Module) (loaded : Module) → find_module before (name_of loaded) ≡ None → with_module before loaded ≡ before ++ loaded ∷ []
+pub taken_new : (before : List Module) (loaded : Module) → find_module before (name_of loaded) ≡ None → with_module before loaded ≡ before ++ loaded ∷ []
 taken_new before loaded e = with_new before loaded (no_number before (name_of loaded) e)
 
 pub ends_new : (modules : List Module) → IsExchanged modules None → EndsNew modules

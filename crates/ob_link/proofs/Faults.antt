@@ -69,7 +69,7 @@ row_settled modules row next k e n same le =
 
 -- ---- where no import has a fault of its own
 
-both_true : (a b : Bool) → (a && b) ≡ true → (a ≡ true) × (b ≡ true)
+pub both_true : (a b : Bool) → (a && b) ≡ true → (a ≡ true) × (b ≡ true)
 both_true true b e = (refl, e)
 both_true false b e = absurd (let k : false ≡ true = e in cc)
 
@@ -77,7 +77,7 @@ pub no_fault : (fault : Option (List ℕ)) → is_none fault ≡ true → fault 
 no_fault None e = refl
 no_fault (Some name) e = absurd (let k : false ≡ true = e in cc)
 
-none_rows : (F : Module → Option (List ℕ)) (ms : List Module) → all_none (map F ms) ≡ true → map F ms ≡ map (λ (m : Module). None) ms
+pub none_rows : (F : Module → Option (List ℕ)) (ms : List Module) → all_none (map F ms) ≡ true → map F ms ≡ map (λ (m : Module). None) ms
 none_rows F [] e = refl
 none_rows F (m ∷ ms) e =
     let both = both_true (is_none (F m)) (all_none (map F ms)) e in
@@ -94,7 +94,7 @@ nothing_known modules i =
     ap (fault_by (find_module modules i.name) i)
     (sym (ap (λ (row : List (Option (List ℕ))). slice_index_or row (place_of modules i.name) None) (row_zero modules) ∙ none_at modules (place_of modules i.name)))
 
-first_row : (modules : List Module) → next_row modules [] ≡ fault_row modules 1
+pub first_row : (modules : List Module) → next_row modules [] ≡ fault_row modules 1
 first_row modules = ap (λ (t : Import → Option (List ℕ)). map (λ (m : Module). first_fault t m.imports) modules) (λ x i. nothing_known modules i x) ∙ row_next modules 0
 
 -- a row without a fault is the last
@@ -109,7 +109,7 @@ row_none modules row n e =
 
 -- ---- and then each module may run
 
-zero_first : (modules : List Module) (is : List Import) → first_fault (import_fault modules 0) is ≡ None
+pub zero_first : (modules : List Module) (is : List Import) → first_fault (import_fault modules 0) is ≡ None
 zero_first modules [] = refl
 zero_first modules (i ∷ is) = zero_first modules is
 
@@ -124,11 +124,11 @@ by_module (Some m) modules i f e = by_key (bytes_eq (key_of m) i.key) modules m 
 import_none : (modules : List Module) (k : ℕ) (i : Import) → import_fault modules (suc k) i ≡ None → import_fault modules 1 i ≡ None
 import_none modules k i e = by_module (find_module modules i.name) modules i (import_fault modules k) e
 
-some_none : (a b : Option (List ℕ)) → first_some a b ≡ None → (a ≡ None) × (b ≡ None)
+pub some_none : (a b : Option (List ℕ)) → first_some a b ≡ None → (a ≡ None) × (b ≡ None)
 some_none None b e = (refl, e)
 some_none (Some x) b e = absurd (let k : Some x ≡ None = e in cc)
 
-firsts_none : (modules : List Module) (k : ℕ) (is : List Import) → first_fault (import_fault modules (suc k)) is ≡ None → first_fault (import_fault modules 1) is ≡ None
+pub firsts_none : (modules : List Module) (k : ℕ) (is : List Import) → first_fault (import_fault modules (suc k)) is ≡ None → first_fault (import_fault modules 1) is ≡ None
 firsts_none modules k [] e = refl
 firsts_none modules k (i ∷ is) e =
     let both = some_none (import_fault modules (suc k) i) (first_fault (import_fault modules (suc k)) is) e in
@@ -136,7 +136,7 @@ firsts_none modules k (i ∷ is) e =
     let b = firsts_none modules k is both.1 in
     ap (λ (o : Option (List ℕ)). first_some o (first_fault (import_fault modules 1) is)) a ∙ b
 
-none_first_row : (modules : List Module) (k : ℕ) (ms : List Module) → all_none (map (λ (m : Module). first_fault (import_fault modules (suc k)) m.imports) ms) ≡ true → map (λ (m : Module). first_fault (import_fault modules 1) m.imports) ms ≡ map (λ (m : Module). None) ms
+pub none_first_row : (modules : List Module) (k : ℕ) (ms : List Module) → all_none (map (λ (m : Module). first_fault (import_fault modules (suc k)) m.imports) ms) ≡ true → map (λ (m : Module). first_fault (import_fault modules 1) m.imports) ms ≡ map (λ (m : Module). None) ms
 none_first_row modules k [] e = refl
 none_first_row modules k (m ∷ ms) e =
     let both = both_true (is_none (first_fault (import_fault modules (suc k)) m.imports)) (all_none (map (λ (n : Module). first_fault (import_fault modules (suc k)) n.imports) ms)) e in

@@ -6,5 +6,6 @@ pub mod LookedUp
 pub mod ReachRows
 pub mod Chains
 pub mod Exchanged
+pub mod Appended
 pub mod Named
 pub mod Loads

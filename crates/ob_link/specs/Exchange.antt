@@ -1,8 +1,7 @@
 -- A module that is loaded, and taken back.
 use Rattle.std.specs.Prelude.{◌≡◌, ◌≢◌, ℕ, ◌-◌, List, [], ◌∷◌, ◌++◌, length, take, Option, Some, None}
-use Rattle.ob_session.specs.Session.{Module, name_of, find_module, with_module}
-use Rattle.ob_link.specs.Faults.{fault_row}
-use Rattle.ob_link.specs.declared.exchange.Back.{Back}
+use Rattle.ob_session.specs.Session.{Module, name_of, find_module, link_fault, with_module}
+use Rattle.ob_link.specs.Reaching.{IsApart}
 
 -- These are the modules after one was loaded, and this is the one whose place it took, if there was one.
 pub record IsExchanged (modules : List Module) (back : Option Module) : Type 0 where
@@ -10,11 +9,6 @@ pub record IsExchanged (modules : List Module) (back : Option Module) : Type 0 w
   pub loaded : Module
   pub now : modules ≡ with_module before loaded
   pub taken : back ≡ find_module before (name_of loaded)
-
--- the same, with what was known of links before
-pub record IsBack (modules : List Module) (back : Back) : Type 0 where
-  pub exchanged : IsExchanged modules back.before
-  pub faults : back.faults.items ≡ fault_row exchanged.before (length exchanged.before)
 
 abbrev pub without_last : List Module → List Module
 without_last modules = take (length modules - 1) modules
@@ -40,3 +34,8 @@ pub record EndsNew (modules : List Module) : Type 0 where
   pub last : Module
   pub ends : modules ≡ before ++ last ∷ []
   pub new : find_module before (name_of last) ≡ None
+
+-- a module of a new name links, and all others link
+pub record LinksBehind (modules : List Module) (m : Module) : Type 0 where
+  pub apart : IsApart modules (name_of m)
+  pub links : link_fault modules m.imports ≡ None

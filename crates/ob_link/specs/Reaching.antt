@@ -4,6 +4,7 @@ use Rattle.std.specs.List.{list_any}
 use Rattle.std.specs.Str.{bytes_eq}
 use Rattle.ob_session.specs.Session.{Import, Module, find_module, place_of}
 use Rattle.ob_session.specs.Links.{Reached}
+use Rattle.ob_link.specs.Faults.{all_none, fault_row}
 
 -- one of the imports of what is found
 abbrev pub any_behind : Option Module → (Import → Bool) → Bool
@@ -40,3 +41,8 @@ reaches_in modules row name i = bytes_eq i.name name || slice_index_or row (plac
 
 abbrev pub next_reach_row : List Module → List Bool → List ℕ → List Bool
 next_reach_row modules row name = map (λ (m : Module). list_any (reaches_in modules row name) m.imports) modules
+
+-- no module has this name, and the imports of all modules link
+pub record IsApart (modules : List Module) (name : List ℕ) : Type 0 where
+  pub new : find_module modules name ≡ None
+  pub link : all_none (fault_row modules (length modules)) ≡ true

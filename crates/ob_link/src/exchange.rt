@@ -1,23 +1,14 @@
 //! Modules that are loaded, and taken back.
 
-ghost use Rattle.std.specs.Prelude.{◌≡◌, OnOk, OnErr, IfOk, length};
+ghost use Rattle.std.specs.Prelude.{◌≡◌, OnOk, OnErr, IfOk, IsTrue};
 ghost use Rattle.ob_session.specs.Session as session;
 ghost use Rattle.ob_link.specs.Exchange as spec;
-ghost use Rattle.ob_link.specs.Faults.{fault_row};
+ghost use Rattle.ob_link.specs.Runs.{may_run};
 
 use crate::module::SessionModule;
 use crate::modules::Modules;
 use crate::table::Table;
-use ob_base::Text;
 use std::alloc::AllocError;
-use std::mem;
-
-/// What takes an exchange back: the module whose place was taken, if there was one, and what was known of links.
-#[derive(Drop)]
-pub struct Back {
-    pub(crate) before: Option<SessionModule>,
-    pub(crate) faults: Vec<Option<Text>>,
-}
 
 impl Table {
     // Loads a module, in the place of the one that has its name, which comes back, or behind the others.
@@ -58,51 +49,67 @@ impl Table {
 }
 
 impl Modules {
-    /// Loads a module: it takes the place of the one that has its name, or it comes behind the others. What comes back is what
-    /// `restore` takes.
+    /// Loads a module: it takes the place of the one that has its name, or comes behind the others. What comes back says which
+    /// modules then may run, by their numbers. Where the name is new, and the module and all others link, it looks at the
+    /// imports of this module alone.
     ///
     /// # Errors
     ///
-    /// Want of memory, which leaves the modules as they were.
-    pub fn exchange(&mut self, loaded: SessionModule) -> Result<Back, AllocError>
-        ensures ok { IfOk result (λ back. back.before ≡ session.find_module self.old loaded.interface.name) }
-        ensures faults { IfOk result (λ back. back.faults.items ≡ fault_row self.old (length self.old)) }
+    /// Out of memory, which leaves the modules as they were.
+    pub fn install(&mut self, loaded: SessionModule) -> Result<Vec<bool>, AllocError>
         ensures new { OnOk result (self.new ≡ session.with_module self.old loaded) }
+        ensures runs { IfOk result (λ row. row.items ≡ may_run self.new) }
+        ensures err { OnErr result (self.new ≡ self.old) }
+    {
+        if self.links_behind(&loaded)? {
+            return self.install_linked(loaded);
+        }
+        self.install_anew(loaded)
+    }
+
+    // Whether the name of this module is new, and it and all others link.
+    fn links_behind(&self, loaded: &SessionModule) -> Result<bool, AllocError>
+        ensures { IfOk result (λ b. IsTrue b → spec.LinksBehind self.now loaded.now) }
+    {
+        if !self.is_apart(loaded.interface().name()) {
+            return Ok(false);
+        }
+        let fault = self.link_fault(loaded.imports())?;
+        Ok(fault.is_none())
+    }
+
+    // Loads such a module behind the others.
+    fn install_linked(&mut self, loaded: SessionModule) -> Result<Vec<bool>, AllocError>
+        requires { spec.LinksBehind self.old loaded }
+        ensures new { OnOk result (self.new ≡ session.with_module self.old loaded) }
+        ensures runs { IfOk result (λ row. row.items ≡ may_run self.new) }
+        ensures err { OnErr result (self.new ≡ self.old) }
+    {
+        self.faults.reserve(1)?;
+        let runs = self.table.one_more_runs()?;
+        self.table.append(loaded)?;
+        match self.faults.push(None) {
+            Ok(()) => Ok(runs),
+            Err(_) => unreachable!(),
+        }
+    }
+
+    // Loads a module, and finds anew what links.
+    fn install_anew(&mut self, loaded: SessionModule) -> Result<Vec<bool>, AllocError>
+        ensures new { OnOk result (self.new ≡ session.with_module self.old loaded) }
+        ensures runs { IfOk result (λ row. row.items ≡ may_run self.new) }
         ensures err { OnErr result (self.new ≡ self.old) }
     {
         let before = self.table.exchange(loaded)?;
-        match self.table.last_faults() {
-            Ok(now) => {
-                let faults = mem::replace(&mut self.faults, now);
-                Ok(Back { before, faults })
+        match self.table.links() {
+            Ok((faults, runs)) => {
+                self.faults = faults;
+                Ok(runs)
             }
             Err(error) => {
                 self.table.restore(before);
                 Err(error)
             }
         }
-    }
-
-    /// Takes an exchange back, by what came back from it: the modules are what they were before it. It takes no memory.
-    pub fn restore(&mut self, back: Back)
-        requires { spec.IsBack self.old back }
-        ensures { self.new ≡ spec.put_back self.old back.before }
-    {
-        let Back { before, faults } = back;
-        self.table.restore(before);
-        self.faults = faults;
-    }
-
-    /// Loads a module: it takes the place of the one that has its name, or comes behind the others.
-    ///
-    /// # Errors
-    ///
-    /// Want of memory, which leaves the modules as they were.
-    pub fn install(&mut self, loaded: SessionModule) -> Result<(), AllocError>
-        ensures ok { OnOk result (self.new ≡ session.with_module self.old loaded) }
-        ensures err { OnErr result (self.new ≡ self.old) }
-    {
-        self.exchange(loaded)?;
-        Ok(())
     }
 }

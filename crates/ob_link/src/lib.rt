@@ -13,7 +13,6 @@ mod reaching;
 mod table;
 
 pub use command::{Command, CommandName, LinkFault, Looked, Ready};
-pub use exchange::Back;
 pub use laws::{exchange_law, imports_run_law, load_law, reaching_law};
 pub use module::{KeyedImport, SessionModule};
 pub use modules::Modules;

@@ -1,6 +1,6 @@
 //! What links.
 
-ghost use Rattle.std.specs.Prelude.{◌≡◌, ◌↔◌, [], IfOk, IsTrue, None, length, map, slice_index_or, true};
+ghost use Rattle.std.specs.Prelude.{◌≡◌, ◌↔◌, [], ◌∷◌, ◌++◌, IfOk, IsTrue, None, length, map, slice_index_or, true};
 ghost use Rattle.ob_session.specs.Session.{Module};
 ghost use Rattle.ob_session.specs.Session as session;
 ghost use Rattle.ob_link.specs.Faults as spec;
@@ -53,7 +53,7 @@ fn same_faults(row: &[Option<Text>], other: &[Option<Text>]) -> bool
 }
 
 // Whether none of these is a fault.
-fn no_fault(row: &[Option<Text>]) -> bool
+pub(crate) fn no_fault(row: &[Option<Text>]) -> bool
     ensures { result ≡ spec.all_none row.now }
 {
     for fault in row {
@@ -170,44 +170,16 @@ impl Table {
         }
         Ok(behind)
     }
-}
 
-impl Modules {
-    /// Whether imports link: the name of the first module that is reached through them, in their order, depth first, and is
-    /// not loaded with the key that its client recorded; or none, where each is. It looks at these imports alone.
-    ///
-    /// # Errors
-    ///
-    /// Want of memory.
-    pub fn link_fault(&self, imports: &[KeyedImport]) -> Result<Option<Text>, AllocError>
-        ensures { IfOk result (λ f. f ≡ session.link_fault self.now imports.now) }
-    {
-        self.table.first_fault(self.faults.as_slice(), imports)
-    }
-
-    /// What `link_fault` answers for the imports of each module, by the module's number.
-    ///
-    /// # Errors
-    ///
-    /// Want of memory.
-    pub fn faults(&self) -> Result<Vec<Option<Text>>, AllocError>
-        ensures { IfOk result (λ row. row.items ≡ map (λ (m : Module). session.link_fault self.now m.imports) self.now) }
-    {
-        self.table.next_faults(self.faults.as_slice())
-    }
-
-    /// Whether the imports of each module link, by the module's number.
-    ///
-    /// # Errors
-    ///
-    /// Want of memory.
-    pub fn may_run(&self) -> Result<Vec<bool>, AllocError>
+    // Whether the imports of each module link, where these are the faults behind each.
+    fn runs_by(&self, faults: &[Option<Text>]) -> Result<Vec<bool>, AllocError>
+        requires { faults.now ≡ spec.fault_row self.now (length self.now) }
         ensures { IfOk result (λ row. row.items ≡ may_run self.now) }
     {
-        if no_fault(self.faults.as_slice()) {
+        if no_fault(faults) {
             return self.all_run();
         }
-        self.runs_by_faults()
+        self.runs_by_faults(faults)
     }
 
     // That each module may run.
@@ -221,14 +193,71 @@ impl Modules {
         Ok(so_far)
     }
 
-    fn runs_by_faults(&self) -> Result<Vec<bool>, AllocError>
+    // That each module may run, and one more.
+    pub(crate) fn one_more_runs(&self) -> Result<Vec<bool>, AllocError>
+        ensures { IfOk result (λ row. row.items ≡ map (λ (m : Module). true) self.now ++ true ∷ []) }
+    {
+        let mut runs = self.all_run()?;
+        runs.push(true)?;
+        Ok(runs)
+    }
+
+    // The same as the faults say.
+    fn runs_by_faults(&self, behind: &[Option<Text>]) -> Result<Vec<bool>, AllocError>
+        requires { behind.now ≡ spec.fault_row self.now (length self.now) }
         ensures { IfOk result (λ row. row.items ≡ may_run self.now) }
     {
-        let faults = self.faults()?;
+        let faults = self.next_faults(behind)?;
         let mut so_far = Vec::new(self.alloc());
         for fault in faults.as_slice() {
             so_far.push(fault.is_none())?;
         }
         Ok(so_far)
+    }
+
+    // What links, found anew: the faults behind each module, and whether the imports of each link.
+    pub(crate) fn links(&self) -> Result<(Vec<Option<Text>>, Vec<bool>), AllocError>
+        ensures faults { IfOk result (λ both. both.0.items ≡ spec.fault_row self.now (length self.now)) }
+        ensures runs { IfOk result (λ both. both.1.items ≡ may_run self.now) }
+    {
+        let faults = self.last_faults()?;
+        let runs = self.runs_by(faults.as_slice())?;
+        Ok((faults, runs))
+    }
+}
+
+impl Modules {
+    /// Whether imports link: the name of the first module that is reached through them, in their order, depth first, and is
+    /// not loaded with the key that its client recorded; or none, where each is. It looks at these imports alone.
+    ///
+    /// # Errors
+    ///
+    /// Out of memory.
+    pub fn link_fault(&self, imports: &[KeyedImport]) -> Result<Option<Text>, AllocError>
+        ensures { IfOk result (λ f. f ≡ session.link_fault self.now imports.now) }
+    {
+        self.table.first_fault(self.faults.as_slice(), imports)
+    }
+
+    /// What `link_fault` answers for the imports of each module, by the module's number.
+    ///
+    /// # Errors
+    ///
+    /// Out of memory.
+    pub fn faults(&self) -> Result<Vec<Option<Text>>, AllocError>
+        ensures { IfOk result (λ row. row.items ≡ map (λ (m : Module). session.link_fault self.now m.imports) self.now) }
+    {
+        self.table.next_faults(self.faults.as_slice())
+    }
+
+    /// Whether the imports of each module link, by the module's number.
+    ///
+    /// # Errors
+    ///
+    /// Out of memory.
+    pub fn may_run(&self) -> Result<Vec<bool>, AllocError>
+        ensures { IfOk result (λ row. row.items ≡ may_run self.now) }
+    {
+        self.table.runs_by(self.faults.as_slice())
     }
 }

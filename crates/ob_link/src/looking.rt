@@ -164,7 +164,7 @@ impl Modules {
     ///
     /// # Errors
     ///
-    /// Want of memory.
+    /// Out of memory.
     pub fn command(&self, home: &Text, name: &Text) -> Result<Looked, AllocError>
         ensures { IfOk result (λ l. (store : Value) → looked_seen l ≡ cells.looked_up (in_store self.now store) (record { home = home.now; name = name.now })) }
     {
@@ -176,7 +176,7 @@ impl Modules {
     ///
     /// # Errors
     ///
-    /// Want of memory.
+    /// Out of memory.
     pub fn ready(&self, commands: &[CommandName]) -> Result<Ready, AllocError>
         ensures { IfOk result (λ r. (store : Value) → ready_seen r ≡ cells.all_ready (in_store self.now store) commands.now) }
     {

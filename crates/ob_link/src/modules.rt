@@ -79,7 +79,7 @@ impl Modules {
     ///
     /// # Errors
     ///
-    /// Want of memory.
+    /// Out of memory.
     pub fn numbers(&self, imports: &[KeyedImport]) -> Result<Vec<usize>, AllocError>
         ensures { IfOk result (λ ns. ns.items ≡ session.import_places self.now imports.now) }
     {

@@ -1,10 +1,11 @@
 //! What modules reach.
 
-ghost use Rattle.std.specs.Prelude.{◌≡◌, IfOk, IsTrue, length, slice_index_or, false};
+ghost use Rattle.std.specs.Prelude.{◌≡◌, IfOk, IsTrue, slice_index_or, false};
 ghost use Rattle.std.specs.List.{list_any};
 ghost use Rattle.ob_session.specs.Session.{place_of};
 ghost use Rattle.ob_link.specs.Reaching as spec;
 
+use crate::linking::no_fault;
 use crate::module::KeyedImport;
 use crate::modules::Modules;
 use ob_base::Text;
@@ -96,15 +97,41 @@ impl Modules {
         self.next_reaching(none.as_slice(), name)
     }
 
+    // Whether no module of this name is loaded, and all modules link.
+    pub(crate) fn is_apart(&self, name: &Text) -> bool
+        ensures { IsTrue result → spec.IsApart self.now name.now }
+    {
+        match self.table.number_of(name) {
+            Some(_) => false,
+            None => no_fault(self.faults.as_slice()),
+        }
+    }
+
+    // Then no module reaches one of that name.
+    fn none_reaches(&self, name: &Text) -> Result<Vec<bool>, AllocError>
+        requires { spec.IsApart self.now name.now }
+        ensures { IfOk result (λ row. row.items ≡ spec.reaching self.now name.now) }
+    {
+        let mut so_far = Vec::new(self.alloc());
+        for _module in self.as_slice() {
+            so_far.push(false)?;
+        }
+        Ok(so_far)
+    }
+
     /// Whether each module, by its number, reaches a module of this name by its imports and theirs. The module of that name
-    /// need not be loaded. Where none imports it, that is seen by one pass over the modules.
+    /// need not be loaded. Where none imports it, that is seen by one pass over the modules; where none of its name is loaded
+    /// and all modules link, without a look at their imports.
     ///
     /// # Errors
     ///
-    /// Want of memory.
+    /// Out of memory.
     pub fn reaching(&self, name: &Text) -> Result<Vec<bool>, AllocError>
         ensures { IfOk result (λ row. row.items ≡ spec.reaching self.now name.now) }
     {
+        if self.is_apart(name) {
+            return self.none_reaches(name);
+        }
         let row = self.first_reaching(name)?;
         if has_flag(row.as_slice()) {
             return self.reaching_in_rows(row, name);

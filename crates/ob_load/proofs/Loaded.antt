@@ -33,7 +33,7 @@ use Rattle.ob_load.specs.declared.loading.Prepared.{Prepared}
 use Rattle.ob_load.specs.declared.task.Task.TheVariants.{Body}
 use Rattle.ob_load.specs.Kept.{AreCheckable, IsHeld, IsRunning, opens}
 use Rattle.ob_load.specs.Known.{IsSaid, AreSaid}
-use Rattle.ob_load.specs.Loading.{IsPrepared, AreFlags, BodyMayBegin, put_back_at}
+use Rattle.ob_load.specs.Loading.{IsPrepared, AreFlags, BodyMayBegin}
 use Rattle.ob_load.specs.MachineState.{begun_in, stands_at}
 use Rattle.ob_load.specs.Names.{NamesWithin}
 use Rattle.ob_load.specs.Words.{InterfaceWords, AllWords}
@@ -41,23 +41,7 @@ use Rattle.ob_load.proofs.Machines.{begun, begun_state}
 use Rattle.ob_load.proofs.Finished.{sized_as}
 use Rattle.ob_load.proofs.Said.{faces_agree, said_with}
 
--- ---- lists that are put somewhere
-
-back_behind : {A : Type 0} (x : A) (zs : List A) (n : ℕ) (o : Option A) → put_back_at (x ∷ zs) (suc n) o ≡ x ∷ put_back_at zs n o
-back_behind x zs n None = refl
-back_behind x zs n (Some y) = refl
-
-pub back_again : {A : Type 0} (xs : List A) (n : ℕ) (y : A) → n ≤ length xs → put_back_at (put_at xs n y) n (slice_get xs n) ≡ xs
-back_again [] zero y le = refl
-back_again [] (suc n) y le = absurd (omega (arith, le))
-back_again (x ∷ xs) zero y le = refl
-back_again (x ∷ xs) (suc n) y le = back_behind x (put_at xs n y) n (slice_get xs n) ∙ ap (λ zs. x ∷ zs) (back_again xs n y (omega (arith, le)))
-
-pub below_put : {A : Type 0} (xs : List A) (n : ℕ) (y : A) → n ≤ length xs → n < length (put_at xs n y)
-below_put [] zero y le = omega arith
-below_put [] (suc n) y le = absurd (omega (arith, le))
-below_put (x ∷ xs) zero y le = omega arith
-below_put (x ∷ xs) (suc n) y le = let h = below_put xs n y (omega (arith, le)) in omega (arith, h)
+-- ---- a place among modules
 
 within_step : (b : Bool) (p n : ℕ) → p ≤ n → (if b then zero else suc p) ≤ suc n
 within_step true p n le = omega arith

@@ -1,5 +1,5 @@
 -- Loading a module.
-use Rattle.std.specs.Prelude.{◌≡◌, ℕ, Bool, true, ℤ, List, length, take, Option, Some, None, slice_get}
+use Rattle.std.specs.Prelude.{◌≡◌, ℕ, Bool, true, ℤ, List, length, Some, slice_get}
 use Rattle.ob_code.specs.declared.instr.CodeModule.{CodeModule}
 use Rattle.ob_code.specs.declared.instr.LinkedModule.{LinkedModule}
 use Rattle.ob_code.specs.Linked.{all_cells, runs_of}
@@ -7,7 +7,7 @@ use Rattle.ob_code.specs.Machine.{Code}
 use Rattle.ob_vm.specs.Images.{IsRoomFor}
 use Rattle.ob_session.specs.Session.{Module, import_places}
 use Rattle.ob_store.specs.Stores.{loaded_cells}
-use Rattle.ob_linked.specs.Compiled.{Known, AreCompiled, put_at, runs_in}
+use Rattle.ob_linked.specs.Compiled.{Known, AreCompiled, runs_in}
 use Rattle.ob_load.specs.declared.body.Beginning.{Beginning}
 use Rattle.ob_load.specs.declared.loading.Prepared.{Prepared}
 
@@ -31,8 +31,3 @@ pub record BodyMayBegin (modules : List Module) (known : List Known) (code : Cod
   pub row : length b.cells.items ≡ all_cells code
   pub may_run : runs_in modules b.number ≡ true
   pub room : (l : LinkedModule) → slice_get code b.number ≡ Some l → IsRoomFor l.code b.room
-
--- what was put somewhere is taken away: there stands again what stood there, or nothing
-abbrev pub put_back_at : {A : Type 0} → List A → ℕ → Option A → List A
-put_back_at xs n None = take n xs
-put_back_at xs n (Some x) = put_at xs n x

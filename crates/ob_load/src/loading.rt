@@ -1,13 +1,13 @@
 //! A module that is loaded, with what is known of it and with its code.
 
-ghost use Rattle.std.specs.Prelude.{◌≡◌, List, ◌<◌, ◌≤◌, None, length, vec_capacity, slice_get, OnOk, OnErr, IfOk};
+ghost use Rattle.std.specs.Prelude.{◌≡◌, List, None, length, OnOk, OnErr, IfOk};
 ghost use Rattle.ob_code.specs.Linked.{all_cells};
 ghost use Rattle.ob_gen.specs.Generated.{IsGenerated};
 ghost use Rattle.ob_linked.specs.Compiled.{AllFound, AreCompiledFrom, Known};
 ghost use Rattle.ob_linked.specs.Compiled as linked;
 ghost use Rattle.ob_linked.specs.Loading.{IsUnreached};
 ghost use Rattle.ob_load.specs.Known.{AreSaid, IsSaid};
-ghost use Rattle.ob_load.specs.Loading.{AreFlags, IsPrepared, BodyMayBegin, put_back_at};
+ghost use Rattle.ob_load.specs.Loading.{AreFlags, IsPrepared, BodyMayBegin};
 ghost use Rattle.ob_mean.specs.WellFormed.{IsFaceOf, IsWellFormed};
 ghost use Rattle.ob_session.specs.Session.{link_fault, name_of, place_of, with_module};
 ghost use Rattle.ob_store.specs.Stores as stores;
@@ -19,7 +19,6 @@ use ob_image::{KnownFaces, bounds, lay, loaded_cells, put_at};
 use ob_link::{Modules, SessionModule};
 use ob_vm::Room;
 use std::alloc::AllocError;
-use std::mem;
 
 // A module, what is known of it, and its code, which was made over what is known of its imports.
 #[derive(Drop)]
@@ -61,41 +60,8 @@ fn prepare(
     })
 }
 
-// Which modules may run.
-fn running(modules: &Modules) -> Result<Vec<bool>, AllocError>
-    ensures { IfOk result (λ flags. AreFlags modules.now flags.items) }
-{
-    let flags = modules.may_run()?;
-    Ok(flags)
-}
-
-// In the place of what was known, which comes back, or behind all that is known.
-fn put_known(known: &mut Vec<KnownFaces>, number: usize, faces: KnownFaces) -> Option<KnownFaces>
-    requires there { number ≤ length known.old.items }
-    requires room { length known.old.items < vec_capacity known.old }
-    ensures put { known.new.items ≡ linked.put_at known.old.items number faces }
-    ensures back { result ≡ slice_get known.old.items number }
-{
-    if number < known.len() {
-        return Some(mem::replace(&mut known[number], faces));
-    }
-    put_at(known, number, faces);
-    None
-}
-
-// What was known takes its place again; where nothing was, the last goes.
-fn put_known_back(known: &mut Vec<KnownFaces>, number: usize, before: Option<KnownFaces>)
-    requires there { number < length known.old.items }
-    ensures { known.new.items ≡ put_back_at known.old.items number before }
-{
-    match before {
-        Some(faces) => known[number] = faces,
-        None => known.truncate(number),
-    }
-}
-
-// A module takes its place among the modules, and what is known of it among what is known. Where memory is refused, all is as
-// it was.
+// A module takes its place among the modules, and what is known of it among what is known. What comes back says which modules may
+// run. Where memory is refused, all is as it was.
 fn take_place(
     modules: &mut Modules,
     known: &mut Vec<KnownFaces>,
@@ -110,16 +76,9 @@ fn take_place(
 {
     known.reserve(1)?;
     let number = modules.place_of(added.interface().name());
-    let back = modules.exchange(added)?;
-    let before = put_known(known, number, faces);
-    match running(modules) {
-        Ok(runs) => Ok(runs),
-        Err(error) => {
-            modules.restore(back);
-            put_known_back(known, number, before);
-            Err(error)
-        }
-    }
+    let runs = modules.install(added)?;
+    put_at(known, number, faces);
+    Ok(runs)
 }
 
 // A module is loaded, and its body may begin. Where memory is refused, all is as it was.

@@ -3,7 +3,7 @@ use Rattle.ob_session.specs.Session.{Module}
 use Rattle.ob_link.specs.Exchange.{put_back}
 use Rattle.ob_link.specs.Faults.{fault_row}
 use Rattle.ob_link.proofs.Exchanged.{goes_back}
-use Rattle.ob_link.proofs.modules.Modules.exchange.Goals as goal
+use Rattle.ob_link.proofs.modules.Modules.install_anew.Goals as goal
 
 pub invariant_of-self-in-Err : goal.invariant_of-self-in-Err
 invariant_of-self-in-Err c =

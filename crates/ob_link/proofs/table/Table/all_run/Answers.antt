@@ -1,7 +1,7 @@
 use Rattle.std.proofs.Common.{rules, ◌≡◌, true, ◌≤◌, length, map, ◌∙◌, ap}
 use Rattle.std.proofs.lemmas.List.{take_all}
 use Rattle.ob_session.specs.Session.{Module}
-use Rattle.ob_link.proofs.modules.Modules.all_run.Goals as goal
+use Rattle.ob_link.proofs.table.Table.all_run.Goals as goal
 
 pub returns : goal.returns
 returns c =
