@@ -4,15 +4,14 @@ ghost use Rattle.std.specs.Prelude.{◌≡◌};
 ghost use Rattle.ob_declare.specs.Rule.{Judges};
 ghost use Rattle.ob_check.specs.Assignments as spec;
 
+use ob_declare::Site;
 use ob_declare::rejected::{Rejected, broken};
 use ob_declare::rule::RuleCode;
-use ob_declare::{Imports, Scope};
 use ob_express::{Operand, Variables, assigned_value, expr, target};
 use ob_mean::{Action, Designator as Place};
 use ob_parse::tree::{Designator, Expr};
 use ob_scan::Span;
 use ob_types::{Basic, ObType, same, string_assignable};
-use std::alloc::Global;
 
 /// The basic type that a type is.
 fn basic_of(of: &ObType) -> Option<Basic>
@@ -82,27 +81,22 @@ fn structured_assigned(
 /// A value for a variable, which is of this basic type or of none.
 #[tactic(auto, unfolding(crate::specs::Assignments::assigned))]
 fn assigned(
-    alloc: Global,
-    imports: &Imports,
-    scope: &Scope,
-    levels: u32,
+    site: Site<'_>,
     basic: Option<Basic>,
     of: &ObType,
     to: Place,
     variables: Variables,
     e: &Expr,
 ) -> Result<(Action, Variables), Rejected>
-    ensures { Judges (spec.assigned imports.now scope.now levels basic of.now to variables e.now) result }
+    ensures { Judges (spec.assigned site.entry.imports.now site.entry.scope.now site.entry.levels basic of.now to variables e.now) result }
 {
     match basic {
         Some(basic) => {
-            let (value, variables) = assigned_value(
-                alloc, imports, scope, levels, basic, variables, e,
-            )?;
+            let (value, variables) = assigned_value(site, basic, variables, e)?;
             Ok((Action::Assign(to, value), variables))
         }
         None => {
-            let (value, variables) = expr(alloc, imports, scope, levels, variables, e)?;
+            let (value, variables) = expr(site, variables, e)?;
             let action = structured_assigned(of, to, e.first_token(), value)?;
             Ok((action, variables))
         }
@@ -112,26 +106,13 @@ fn assigned(
 /// The variable first, and then the value.
 #[tactic(auto, unfolding(crate::specs::Assignments::assignment))]
 pub fn assignment(
-    alloc: Global,
-    imports: &Imports,
-    scope: &Scope,
-    levels: u32,
+    site: Site<'_>,
     variables: Variables,
     d: &Designator,
     e: &Expr,
 ) -> Result<(Action, Variables), Rejected>
-    ensures { Judges (spec.assignment imports.now scope.now levels variables d.now e.now) result }
+    ensures { Judges (spec.assignment site.entry.imports.now site.entry.scope.now site.entry.levels variables d.now e.now) result }
 {
-    let (of, to, variables) = target(alloc, imports, scope, levels, variables, d)?;
-    assigned(
-        alloc,
-        imports,
-        scope,
-        levels,
-        basic_of(&of),
-        &of,
-        to,
-        variables,
-        e,
-    )
+    let (of, to, variables) = target(site, variables, d)?;
+    assigned(site, basic_of(&of), &of, to, variables, e)
 }

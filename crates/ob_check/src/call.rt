@@ -7,15 +7,14 @@ ghost use Rattle.ob_check.specs.Calls as spec;
 
 use crate::standard_call::{in_call, out_call, predeclared_call};
 use ob_base::Items;
+use ob_declare::Site;
 use ob_declare::rejected::{Rejected, broken};
 use ob_declare::rule::RuleCode;
-use ob_declare::{Imports, Scope};
 use ob_express::{Called, Variables, actuals as actual_list, procedure};
 use ob_mean::{Action, Callee};
 use ob_parse::tree::{Designator, Expr};
 use ob_scan::Span;
 use ob_types::{Formal, Signature};
-use std::alloc::Global;
 
 fn has_none(formals: &[Formal]) -> bool
     ensures { result ≡ spec.has_none formals.now }
@@ -28,31 +27,28 @@ fn has_none(formals: &[Formal]) -> bool
 
 #[tactic(auto, unfolding(crate::specs::Calls::call_with))]
 fn call_with(
-    alloc: Global,
-    imports: &Imports,
-    scope: &Scope,
-    levels: u32,
+    site: Site<'_>,
     to: Callee,
     formals: &[Formal],
     variables: Variables,
     actuals: &Option<Items<Expr>>,
     span: Span,
 ) -> Result<(Action, Variables), Rejected>
-    ensures { Judges (spec.call_with imports.now scope.now levels to formals.now span.line variables actuals.now) result }
+    ensures { Judges (spec.call_with site.entry.imports.now site.entry.scope.now site.entry.levels to formals.now span.line variables actuals.now) result }
 {
     match actuals {
         None => {
             if !has_none(formals) {
                 return Err(Rejected::Rule(broken(RuleCode::Parameters, span)));
             }
-            Ok((Action::Call(to, span.line, Items::new(alloc)), variables))
+            Ok((
+                Action::Call(to, span.line, Items::new(site.alloc)),
+                variables,
+            ))
         }
         Some(actuals) => {
             let (passed, variables) = actual_list(
-                alloc,
-                imports,
-                scope,
-                levels,
+                site,
                 formals,
                 span,
                 variables,
@@ -66,84 +62,54 @@ fn call_with(
 /// A call of a procedure that is no function.
 #[tactic(auto, unfolding(crate::specs::Calls::procedure_call))]
 fn procedure_call(
-    alloc: Global,
-    imports: &Imports,
-    scope: &Scope,
-    levels: u32,
+    site: Site<'_>,
     signature: &Signature,
     to: Callee,
     variables: Variables,
     actuals: &Option<Items<Expr>>,
     span: Span,
 ) -> Result<(Action, Variables), Rejected>
-    ensures { Judges (spec.procedure_call imports.now scope.now levels signature.now to span.line variables actuals.now) result }
+    ensures { Judges (spec.procedure_call site.entry.imports.now site.entry.scope.now site.entry.levels signature.now to span.line variables actuals.now) result }
 {
     if signature.result.is_some() {
         return Err(Rejected::Rule(broken(RuleCode::Parameters, span)));
     }
     let formals = signature.formals.as_slice();
-    call_with(
-        alloc, imports, scope, levels, to, formals, variables, actuals, span,
-    )
+    call_with(site, to, formals, variables, actuals, span)
 }
 
 /// A call of what a name stands for.
 #[tactic(auto, unfolding(crate::specs::Calls::call_of))]
 fn call_of(
-    alloc: Global,
-    imports: &Imports,
-    scope: &Scope,
-    levels: u32,
+    site: Site<'_>,
     what: Called<'_>,
     variables: Variables,
     actuals: &Option<Items<Expr>>,
     span: Span,
 ) -> Result<(Action, Variables), Rejected>
-    ensures { Judges (spec.call_of imports.now scope.now levels (callable what.entry) span.line variables actuals.now) result }
+    ensures { Judges (spec.call_of site.entry.imports.now site.entry.scope.now site.entry.levels (callable what.entry) span.line variables actuals.now) result }
 {
     match what {
         Called::Procedure(signature, to) => procedure_call(
-            alloc, imports, scope, levels, signature, to, variables, actuals, span,
+            site, signature, to, variables, actuals, span,
         ),
         Called::Function(_) => Err(Rejected::Rule(broken(RuleCode::Parameters, span))),
-        Called::Proper(procedure) => predeclared_call(
-            alloc, imports, scope, levels, procedure, variables, actuals, span,
-        ),
-        Called::Input(name) => {
-            in_call(
-                alloc, imports, scope, levels, name, variables, actuals, span,
-            )
-        }
-        Called::Output(name) => {
-            out_call(
-                alloc, imports, scope, levels, name, variables, actuals, span,
-            )
-        }
+        Called::Proper(procedure) => predeclared_call(site, procedure, variables, actuals, span),
+        Called::Input(name) => { in_call(site, name, variables, actuals, span) }
+        Called::Output(name) => { out_call(site, name, variables, actuals, span) }
     }
 }
 
 /// A procedure's name, with its actual parameters where parentheses stand.
 #[tactic(auto, unfolding(crate::specs::Calls::call))]
 pub fn call(
-    alloc: Global,
-    imports: &Imports,
-    scope: &Scope,
-    levels: u32,
+    site: Site<'_>,
     variables: Variables,
     d: &Designator,
     actuals: &Option<Items<Expr>>,
 ) -> Result<(Action, Variables), Rejected>
-    ensures { Judges (spec.call imports.now scope.now levels variables d.now actuals.now) result }
+    ensures { Judges (spec.call site.entry.imports.now site.entry.scope.now site.entry.levels variables d.now actuals.now) result }
 {
-    let what = procedure(imports, scope, d)?;
-    call_of(
-        alloc,
-        imports,
-        scope,
-        levels,
-        what,
-        variables,
-        actuals,
-        d.name.span,
-    )
+    let what = procedure(site.imports, site.scope, d)?;
+    call_of(site, what, variables, actuals, d.name.span)
 }

@@ -9,13 +9,12 @@ use ob_declare::constant::constant;
 use ob_declare::predeclared::Predeclared;
 use ob_declare::rejected::{Rejected, broken};
 use ob_declare::rule::RuleCode;
-use ob_declare::{Entry, Imports, Scope, Standing, is_writable};
+use ob_declare::{Entry, Scope, Site, Standing, is_writable};
 use ob_express::{Variables, assigned_value};
 use ob_mean::{ForHead as TypedHead, Variable};
 use ob_parse::tree::{Expr, ForHead, Ident};
 use ob_scan::Span;
 use ob_types::{Basic, Constant, ObType};
-use std::alloc::Global;
 
 /// What is broken where nothing declares the name of a variable.
 fn absent_variable(before: Predeclared) -> RuleCode
@@ -102,21 +101,15 @@ fn step_of(constant: &Constant, span: Span) -> Result<i32, Rejected>
 }
 
 #[tactic(auto, unfolding(crate::specs::Statements::step_at))]
-fn step(
-    alloc: Global,
-    imports: &Imports,
-    scope: &Scope,
-    levels: u32,
-    e: &Option<Boxed<Expr>>,
-) -> Result<i32, Rejected>
-    ensures { Judges (spec.step_at imports.now scope.now levels e.now) result }
+fn step(site: Site<'_>, e: &Option<Boxed<Expr>>) -> Result<i32, Rejected>
+    ensures { Judges (spec.step_at site.entry.imports.now site.entry.scope.now site.entry.levels e.now) result }
 {
     match e {
         None => Ok(1),
         Some(e) => {
             let e = e.get();
             let span = e.first_token();
-            let value = constant(alloc, imports, scope, levels, e)?;
+            let value = constant(site, e)?;
             step_of(&value, span)
         }
     }
@@ -125,36 +118,17 @@ fn step(
 /// What stands between FOR and DO.
 #[tactic(auto, unfolding(crate::specs::Statements::for_head))]
 pub fn for_head(
-    alloc: Global,
-    imports: &Imports,
-    scope: &Scope,
-    levels: u32,
+    site: Site<'_>,
     variables: Variables,
     h: &ForHead,
 ) -> Result<(TypedHead, Variables), Rejected>
-    ensures { Judges (spec.for_head imports.now scope.now levels variables h.now) result }
+    ensures { Judges (spec.for_head site.entry.imports.now site.entry.scope.now site.entry.levels variables h.now) result }
 {
-    let variable = counter_named(scope, &h.variable)?;
+    let variable = counter_named(site.scope, &h.variable)?;
     let integer = Basic::Integer;
-    let (first, variables) = assigned_value(
-        alloc,
-        imports,
-        scope,
-        levels,
-        integer,
-        variables,
-        h.first.get(),
-    )?;
-    let (last, variables) = assigned_value(
-        alloc,
-        imports,
-        scope,
-        levels,
-        integer,
-        variables,
-        h.last.get(),
-    )?;
-    let step = step(alloc, imports, scope, levels, &h.step)?;
+    let (first, variables) = assigned_value(site, integer, variables, h.first.get())?;
+    let (last, variables) = assigned_value(site, integer, variables, h.last.get())?;
+    let step = step(site, &h.step)?;
     let head = TypedHead {
         variable,
         first,

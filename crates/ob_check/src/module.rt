@@ -16,7 +16,7 @@ use crate::statement::optional;
 use ob_base::{Items, Refused, Text};
 use ob_declare::rejected::{Rejected, told};
 use ob_declare::{
-    Declared, Entry, Imports, LoadedModule, MAX_NESTING, Scope, Standing, declared_by,
+    Declared, Entry, Imports, LoadedModule, MAX_NESTING, Scope, Site, Standing, declared_by,
     exported_procedures, interface_of,
 };
 use ob_express::Variables;
@@ -188,7 +188,17 @@ fn with_body(
 {
     let list = tree.body.as_slice();
     let span = tree.name.span;
-    let (body, variables) = optional(alloc, imports, &scope, MAX_NESTING, variables, list, span)?;
+    let (body, variables) = optional(
+        Site {
+            alloc,
+            imports,
+            scope: &scope,
+            levels: MAX_NESTING,
+        },
+        variables,
+        list,
+        span,
+    )?;
     let checked = checked_of(alloc, imports, &scope, done, body, variables)?;
     Ok(checked)
 }

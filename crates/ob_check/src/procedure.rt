@@ -12,7 +12,7 @@ use ob_base::Items;
 use ob_declare::rejected::{Rejected, broken, open};
 use ob_declare::rule::RuleCode;
 use ob_declare::{
-    Declared, Entered, Entry, Imports, Scope, Standing, declare_all, enter_procedure,
+    Declared, Entered, Entry, Imports, Scope, Site, Standing, declare_all, enter_procedure,
 };
 use ob_express::{Variables, assigned_value};
 use ob_mean::{Shape, TypedExpr, TypedProcedure, TypedStatement};
@@ -113,16 +113,13 @@ fn own_shapes(
 /// What stands behind RETURN, in a function alone.
 #[tactic(auto, unfolding(crate::specs::Procedures::result_at))]
 fn returned(
-    alloc: Global,
-    imports: &Imports,
-    scope: &Scope,
-    levels: u32,
+    site: Site<'_>,
     basic: Option<Basic>,
     variables: Variables,
     value: &Option<Returned>,
     span: Span,
 ) -> Result<(Option<TypedExpr>, Variables), Rejected>
-    ensures { Judges (spec.result_at imports.now scope.now levels basic variables value.now) result }
+    ensures { Judges (spec.result_at site.entry.imports.now site.entry.scope.now site.entry.levels basic variables value.now) result }
 {
     match (basic, value) {
         (None, None) => Ok((None, variables)),
@@ -130,9 +127,7 @@ fn returned(
         (Some(_), None) => Err(Rejected::Rule(broken(RuleCode::Parameters, span))),
         (Some(basic), Some(r)) => {
             let e = r.value.get();
-            let (e, variables) = assigned_value(
-                alloc, imports, scope, levels, basic, variables, e,
-            )?;
+            let (e, variables) = assigned_value(site, basic, variables, e)?;
             Ok((Some(e), variables))
         }
     }
@@ -177,11 +172,30 @@ fn body_of(
     let mut done = done;
     let span = p.name.name.span;
     let list = p.body.as_slice();
-    let (statements, variables) = optional(alloc, imports, &scope, levels, variables, list, span)?;
+    let (statements, variables) = optional(
+        Site {
+            alloc,
+            imports,
+            scope: &scope,
+            levels,
+        },
+        variables,
+        list,
+        span,
+    )?;
     let basic = signature.result;
     let value = &p.returned;
     let (value, variables) = returned(
-        alloc, imports, &scope, levels, basic, variables, value, span,
+        Site {
+            alloc,
+            imports,
+            scope: &scope,
+            levels,
+        },
+        basic,
+        variables,
+        value,
+        span,
     )?;
     let procedure = typed_procedure(alloc, signature, &scope, statements, value)?;
     done.push(procedure)?;

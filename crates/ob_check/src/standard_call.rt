@@ -5,10 +5,10 @@ ghost use Rattle.ob_declare.specs.Rule.{Judges};
 ghost use Rattle.ob_check.specs.StandardCalls as spec;
 
 use ob_base::{Items, Shared};
+use ob_declare::Site;
 use ob_declare::predeclared::{InputName, OutputName, ProperProcedure};
 use ob_declare::rejected::{Rejected, broken, open};
 use ob_declare::rule::RuleCode;
-use ob_declare::{Imports, Scope};
 use ob_express::{Variables, actual, number, truth};
 use ob_mean::{Action, Adjustment, Argument, Designator, InputCall, OutputCall, Reader, TypedExpr};
 use ob_parse::tree::Expr;
@@ -122,57 +122,53 @@ fn without_actuals(
 
 #[tactic(auto, unfolding(crate::specs::StandardCalls::number_inside))]
 fn number_inside(
-    alloc: Global,
-    imports: &Imports,
-    scope: &Scope,
-    levels: u32,
+    site: Site<'_>,
     variables: Variables,
     e: &Expr,
 ) -> Result<(TypedExpr, Variables), Rejected>
-    ensures { Judges (spec.number_inside imports.now scope.now levels variables e.now) result }
+    ensures { Judges (spec.number_inside site.entry.imports.now site.entry.scope.now site.entry.levels variables e.now) result }
 {
-    let inside = open(levels, e.first_token())?;
-    number(alloc, imports, scope, inside, variables, e)
+    let inside = open(site.levels, e.first_token())?;
+    number(
+        Site {
+            levels: inside,
+            ..site
+        },
+        variables,
+        e,
+    )
 }
 
 #[tactic(auto, unfolding(crate::specs::StandardCalls::truth_inside))]
 fn truth_inside(
-    alloc: Global,
-    imports: &Imports,
-    scope: &Scope,
-    levels: u32,
+    site: Site<'_>,
     variables: Variables,
     e: &Expr,
 ) -> Result<(TypedExpr, Variables), Rejected>
-    ensures { Judges (spec.truth_inside imports.now scope.now levels variables e.now) result }
+    ensures { Judges (spec.truth_inside site.entry.imports.now site.entry.scope.now site.entry.levels variables e.now) result }
 {
-    let inside = open(levels, e.first_token())?;
-    truth(alloc, imports, scope, inside, variables, e)
+    let inside = open(site.levels, e.first_token())?;
+    truth(
+        Site {
+            levels: inside,
+            ..site
+        },
+        variables,
+        e,
+    )
 }
 
 /// An actual parameter that is a place.
 #[tactic(auto, unfolding(crate::specs::StandardCalls::place_at))]
 fn place(
-    alloc: Global,
-    imports: &Imports,
-    scope: &Scope,
-    levels: u32,
+    site: Site<'_>,
     variables: Variables,
     formal: &Formal,
     e: &Expr,
 ) -> Result<(Designator, Variables), Rejected>
-    ensures { Judges (spec.place_at imports.now scope.now levels variables formal.now e.now) result }
+    ensures { Judges (spec.place_at site.entry.imports.now site.entry.scope.now site.entry.levels variables formal.now e.now) result }
 {
-    let (argument, variables) = actual(
-        alloc,
-        imports,
-        scope,
-        levels,
-        variables,
-        formal,
-        e.first_token(),
-        e,
-    )?;
+    let (argument, variables) = actual(site, variables, formal, e.first_token(), e)?;
     let place = place_passed(argument, e.first_token())?;
     Ok((place, variables))
 }
@@ -180,27 +176,15 @@ fn place(
 /// An actual parameter that is a value.
 #[tactic(auto, unfolding(crate::specs::StandardCalls::scalar_at))]
 fn scalar(
-    alloc: Global,
-    imports: &Imports,
-    scope: &Scope,
-    levels: u32,
+    site: Site<'_>,
     variables: Variables,
     basic: Basic,
     e: &Expr,
 ) -> Result<(TypedExpr, Variables), Rejected>
-    ensures { Judges (spec.scalar_at imports.now scope.now levels variables basic e.now) result }
+    ensures { Judges (spec.scalar_at site.entry.imports.now site.entry.scope.now site.entry.levels variables basic e.now) result }
 {
     let formal = value_formal(basic);
-    let (argument, variables) = actual(
-        alloc,
-        imports,
-        scope,
-        levels,
-        variables,
-        &formal,
-        e.first_token(),
-        e,
-    )?;
+    let (argument, variables) = actual(site, variables, &formal, e.first_token(), e)?;
     let value = value_passed(argument, e.first_token())?;
     Ok((value, variables))
 }
@@ -208,16 +192,13 @@ fn scalar(
 /// A call of a procedure of In that reads.
 #[tactic(auto, unfolding(crate::specs::StandardCalls::read_call))]
 fn read_call(
-    alloc: Global,
-    imports: &Imports,
-    scope: &Scope,
-    levels: u32,
+    site: Site<'_>,
     reader: Reader,
     variables: Variables,
     actuals: &Option<Items<Expr>>,
     span: Span,
 ) -> Result<(Action, Variables), Rejected>
-    ensures { Judges (spec.read_call imports.now scope.now levels reader variables actuals.now) result }
+    ensures { Judges (spec.read_call site.entry.imports.now site.entry.scope.now site.entry.levels reader variables actuals.now) result }
 {
     let Some(actuals) = actuals else {
         return Err(Rejected::Rule(broken(RuleCode::Parameters, span)));
@@ -225,8 +206,8 @@ fn read_call(
     match actuals.as_slice() {
         [] => Err(Rejected::Rule(broken(RuleCode::Parameters, span))),
         [e, behind @ ..] => {
-            let formal = reader_formal(alloc, reader)?;
-            let (place, variables) = place(alloc, imports, scope, levels, variables, &formal, e)?;
+            let formal = reader_formal(site.alloc, reader)?;
+            let (place, variables) = place(site, variables, &formal, e)?;
             none_left(
                 Action::Input(InputCall::Read(reader, place)),
                 variables,
@@ -239,67 +220,20 @@ fn read_call(
 /// A call of what In exports.
 #[tactic(auto, unfolding(crate::specs::StandardCalls::in_call))]
 pub fn in_call(
-    alloc: Global,
-    imports: &Imports,
-    scope: &Scope,
-    levels: u32,
+    site: Site<'_>,
     name: InputName,
     variables: Variables,
     actuals: &Option<Items<Expr>>,
     span: Span,
 ) -> Result<(Action, Variables), Rejected>
-    ensures { Judges (spec.in_call imports.now scope.now levels name variables actuals.now) result }
+    ensures { Judges (spec.in_call site.entry.imports.now site.entry.scope.now site.entry.levels name variables actuals.now) result }
 {
     match name {
         InputName::Open => without_actuals(Action::Input(InputCall::Open), variables, actuals),
-        InputName::Char => {
-            read_call(
-                alloc,
-                imports,
-                scope,
-                levels,
-                Reader::Char,
-                variables,
-                actuals,
-                span,
-            )
-        }
-        InputName::Int => {
-            read_call(
-                alloc,
-                imports,
-                scope,
-                levels,
-                Reader::Int,
-                variables,
-                actuals,
-                span,
-            )
-        }
-        InputName::String => {
-            read_call(
-                alloc,
-                imports,
-                scope,
-                levels,
-                Reader::String,
-                variables,
-                actuals,
-                span,
-            )
-        }
-        InputName::Name => {
-            read_call(
-                alloc,
-                imports,
-                scope,
-                levels,
-                Reader::Name,
-                variables,
-                actuals,
-                span,
-            )
-        }
+        InputName::Char => { read_call(site, Reader::Char, variables, actuals, span) }
+        InputName::Int => { read_call(site, Reader::Int, variables, actuals, span) }
+        InputName::String => { read_call(site, Reader::String, variables, actuals, span) }
+        InputName::Name => { read_call(site, Reader::Name, variables, actuals, span) }
         InputName::Done => Err(Rejected::Rule(broken(RuleCode::Types, span))),
         InputName::Unknown => Err(Rejected::Rule(broken(RuleCode::NotExported, span))),
     }
@@ -308,15 +242,12 @@ pub fn in_call(
 /// `Out.Char`.
 #[tactic(auto, unfolding(crate::specs::StandardCalls::out_char))]
 fn out_char(
-    alloc: Global,
-    imports: &Imports,
-    scope: &Scope,
-    levels: u32,
+    site: Site<'_>,
     variables: Variables,
     actuals: &Option<Items<Expr>>,
     span: Span,
 ) -> Result<(Action, Variables), Rejected>
-    ensures { Judges (spec.out_char imports.now scope.now levels variables actuals.now) result }
+    ensures { Judges (spec.out_char site.entry.imports.now site.entry.scope.now site.entry.levels variables actuals.now) result }
 {
     let Some(actuals) = actuals else {
         return Err(Rejected::Rule(broken(RuleCode::Parameters, span)));
@@ -324,15 +255,7 @@ fn out_char(
     match actuals.as_slice() {
         [] => Err(Rejected::Rule(broken(RuleCode::Parameters, span))),
         [e, behind @ ..] => {
-            let (value, variables) = scalar(
-                alloc,
-                imports,
-                scope,
-                levels,
-                variables,
-                Basic::Char,
-                e,
-            )?;
+            let (value, variables) = scalar(site, variables, Basic::Char, e)?;
             none_left(Action::Output(OutputCall::Char(value)), variables, behind)
         }
     }
@@ -341,15 +264,12 @@ fn out_char(
 /// `Out.String`.
 #[tactic(auto, unfolding(crate::specs::StandardCalls::out_string))]
 fn out_string(
-    alloc: Global,
-    imports: &Imports,
-    scope: &Scope,
-    levels: u32,
+    site: Site<'_>,
     variables: Variables,
     actuals: &Option<Items<Expr>>,
     span: Span,
 ) -> Result<(Action, Variables), Rejected>
-    ensures { Judges (spec.out_string imports.now scope.now levels variables actuals.now) result }
+    ensures { Judges (spec.out_string site.entry.imports.now site.entry.scope.now site.entry.levels variables actuals.now) result }
 {
     let Some(actuals) = actuals else {
         return Err(Rejected::Rule(broken(RuleCode::Parameters, span)));
@@ -357,8 +277,8 @@ fn out_string(
     match actuals.as_slice() {
         [] => Err(Rejected::Rule(broken(RuleCode::Parameters, span))),
         [e, behind @ ..] => {
-            let formal = text_value(alloc)?;
-            let (place, variables) = place(alloc, imports, scope, levels, variables, &formal, e)?;
+            let formal = text_value(site.alloc)?;
+            let (place, variables) = place(site, variables, &formal, e)?;
             none_left(Action::Output(OutputCall::String(place)), variables, behind)
         }
     }
@@ -367,29 +287,18 @@ fn out_string(
 /// `Out.Int` behind the number.
 #[tactic(auto, unfolding(crate::specs::StandardCalls::out_width))]
 fn out_width(
-    alloc: Global,
-    imports: &Imports,
-    scope: &Scope,
-    levels: u32,
+    site: Site<'_>,
     value: TypedExpr,
     variables: Variables,
     actuals: &[Expr],
     span: Span,
 ) -> Result<(Action, Variables), Rejected>
-    ensures { Judges (spec.out_width imports.now scope.now levels value variables actuals.now) result }
+    ensures { Judges (spec.out_width site.entry.imports.now site.entry.scope.now site.entry.levels value variables actuals.now) result }
 {
     match actuals {
         [] => Err(Rejected::Rule(broken(RuleCode::Parameters, span))),
         [e, behind @ ..] => {
-            let (width, variables) = scalar(
-                alloc,
-                imports,
-                scope,
-                levels,
-                variables,
-                Basic::Integer,
-                e,
-            )?;
+            let (width, variables) = scalar(site, variables, Basic::Integer, e)?;
             none_left(
                 Action::Output(OutputCall::Int(value, width)),
                 variables,
@@ -402,15 +311,12 @@ fn out_width(
 /// `Out.Int` with a number and a width.
 #[tactic(auto, unfolding(crate::specs::StandardCalls::out_int))]
 fn out_int(
-    alloc: Global,
-    imports: &Imports,
-    scope: &Scope,
-    levels: u32,
+    site: Site<'_>,
     variables: Variables,
     actuals: &Option<Items<Expr>>,
     span: Span,
 ) -> Result<(Action, Variables), Rejected>
-    ensures { Judges (spec.out_int imports.now scope.now levels variables actuals.now) result }
+    ensures { Judges (spec.out_int site.entry.imports.now site.entry.scope.now site.entry.levels variables actuals.now) result }
 {
     let Some(actuals) = actuals else {
         return Err(Rejected::Rule(broken(RuleCode::Parameters, span)));
@@ -418,18 +324,8 @@ fn out_int(
     match actuals.as_slice() {
         [] => Err(Rejected::Rule(broken(RuleCode::Parameters, span))),
         [e, behind @ ..] => {
-            let (value, variables) = scalar(
-                alloc,
-                imports,
-                scope,
-                levels,
-                variables,
-                Basic::Integer,
-                e,
-            )?;
-            out_width(
-                alloc, imports, scope, levels, value, variables, behind, span,
-            )
+            let (value, variables) = scalar(site, variables, Basic::Integer, e)?;
+            out_width(site, value, variables, behind, span)
         }
     }
 }
@@ -437,22 +333,19 @@ fn out_int(
 /// A call of what Out exports.
 #[tactic(auto, unfolding(crate::specs::StandardCalls::out_call))]
 pub fn out_call(
-    alloc: Global,
-    imports: &Imports,
-    scope: &Scope,
-    levels: u32,
+    site: Site<'_>,
     name: OutputName,
     variables: Variables,
     actuals: &Option<Items<Expr>>,
     span: Span,
 ) -> Result<(Action, Variables), Rejected>
-    ensures { Judges (spec.out_call imports.now scope.now levels name variables actuals.now) result }
+    ensures { Judges (spec.out_call site.entry.imports.now site.entry.scope.now site.entry.levels name variables actuals.now) result }
 {
     match name {
         OutputName::Open => without_actuals(Action::Output(OutputCall::Open), variables, actuals),
-        OutputName::Char => out_char(alloc, imports, scope, levels, variables, actuals, span),
-        OutputName::String => out_string(alloc, imports, scope, levels, variables, actuals, span),
-        OutputName::Int => out_int(alloc, imports, scope, levels, variables, actuals, span),
+        OutputName::Char => out_char(site, variables, actuals, span),
+        OutputName::String => out_string(site, variables, actuals, span),
+        OutputName::Int => out_int(site, variables, actuals, span),
         OutputName::Ln => without_actuals(Action::Output(OutputCall::Ln), variables, actuals),
         OutputName::Unknown => Err(Rejected::Rule(broken(RuleCode::NotExported, span))),
     }
@@ -461,16 +354,13 @@ pub fn out_call(
 /// INC or DEC behind the variable.
 #[tactic(auto, unfolding(crate::specs::StandardCalls::adjusted_by))]
 fn adjusted_by(
-    alloc: Global,
-    imports: &Imports,
-    scope: &Scope,
-    levels: u32,
+    site: Site<'_>,
     adjustment: Adjustment,
     place: Designator,
     variables: Variables,
     actuals: &[Expr],
 ) -> Result<(Action, Variables), Rejected>
-    ensures { Judges (spec.adjusted_by imports.now scope.now levels adjustment place variables actuals.now) result }
+    ensures { Judges (spec.adjusted_by site.entry.imports.now site.entry.scope.now site.entry.levels adjustment place variables actuals.now) result }
 {
     match actuals {
         [] => {
@@ -478,7 +368,7 @@ fn adjusted_by(
             Ok((action, variables))
         }
         [e, behind @ ..] => {
-            let (by, variables) = number_inside(alloc, imports, scope, levels, variables, e)?;
+            let (by, variables) = number_inside(site, variables, e)?;
             none_left(Action::Adjust(adjustment, place, by), variables, behind)
         }
     }
@@ -487,16 +377,13 @@ fn adjusted_by(
 /// INC or DEC of an INTEGER variable.
 #[tactic(auto, unfolding(crate::specs::StandardCalls::adjusted))]
 fn adjusted(
-    alloc: Global,
-    imports: &Imports,
-    scope: &Scope,
-    levels: u32,
+    site: Site<'_>,
     adjustment: Adjustment,
     variables: Variables,
     actuals: &Option<Items<Expr>>,
     span: Span,
 ) -> Result<(Action, Variables), Rejected>
-    ensures { Judges (spec.adjusted imports.now scope.now levels adjustment variables actuals.now) result }
+    ensures { Judges (spec.adjusted site.entry.imports.now site.entry.scope.now site.entry.levels adjustment variables actuals.now) result }
 {
     let Some(actuals) = actuals else {
         return Err(Rejected::Rule(broken(RuleCode::Parameters, span)));
@@ -505,10 +392,8 @@ fn adjusted(
     match actuals.as_slice() {
         [] => Err(Rejected::Rule(broken(RuleCode::Parameters, span))),
         [v, behind @ ..] => {
-            let (place, variables) = place(alloc, imports, scope, levels, variables, &formal, v)?;
-            adjusted_by(
-                alloc, imports, scope, levels, adjustment, place, variables, behind,
-            )
+            let (place, variables) = place(site, variables, &formal, v)?;
+            adjusted_by(site, adjustment, place, variables, behind)
         }
     }
 }
@@ -516,15 +401,12 @@ fn adjusted(
 /// ASSERT of a truth value.
 #[tactic(auto, unfolding(crate::specs::StandardCalls::asserted))]
 fn asserted(
-    alloc: Global,
-    imports: &Imports,
-    scope: &Scope,
-    levels: u32,
+    site: Site<'_>,
     variables: Variables,
     actuals: &Option<Items<Expr>>,
     span: Span,
 ) -> Result<(Action, Variables), Rejected>
-    ensures { Judges (spec.asserted imports.now scope.now levels span.line variables actuals.now) result }
+    ensures { Judges (spec.asserted site.entry.imports.now site.entry.scope.now site.entry.levels span.line variables actuals.now) result }
 {
     let Some(actuals) = actuals else {
         return Err(Rejected::Rule(broken(RuleCode::Parameters, span)));
@@ -532,7 +414,7 @@ fn asserted(
     match actuals.as_slice() {
         [] => Err(Rejected::Rule(broken(RuleCode::Parameters, span))),
         [e, behind @ ..] => {
-            let (condition, variables) = truth_inside(alloc, imports, scope, levels, variables, e)?;
+            let (condition, variables) = truth_inside(site, variables, e)?;
             none_left(Action::Assert(span.line, condition), variables, behind)
         }
     }
@@ -541,40 +423,17 @@ fn asserted(
 /// A call of a procedure that is declared before any module.
 #[tactic(auto, unfolding(crate::specs::StandardCalls::predeclared_call))]
 pub fn predeclared_call(
-    alloc: Global,
-    imports: &Imports,
-    scope: &Scope,
-    levels: u32,
+    site: Site<'_>,
     procedure: ProperProcedure,
     variables: Variables,
     actuals: &Option<Items<Expr>>,
     span: Span,
 ) -> Result<(Action, Variables), Rejected>
-    ensures { Judges (spec.predeclared_call imports.now scope.now levels procedure span.line variables actuals.now) result }
+    ensures { Judges (spec.predeclared_call site.entry.imports.now site.entry.scope.now site.entry.levels procedure span.line variables actuals.now) result }
 {
     match procedure {
-        ProperProcedure::Inc => adjusted(
-            alloc,
-            imports,
-            scope,
-            levels,
-            Adjustment::Increase,
-            variables,
-            actuals,
-            span,
-        ),
-        ProperProcedure::Dec => adjusted(
-            alloc,
-            imports,
-            scope,
-            levels,
-            Adjustment::Decrease,
-            variables,
-            actuals,
-            span,
-        ),
-        ProperProcedure::Assert => {
-            asserted(alloc, imports, scope, levels, variables, actuals, span)
-        }
+        ProperProcedure::Inc => adjusted(site, Adjustment::Increase, variables, actuals, span),
+        ProperProcedure::Dec => adjusted(site, Adjustment::Decrease, variables, actuals, span),
+        ProperProcedure::Assert => { asserted(site, variables, actuals, span) }
     }
 }

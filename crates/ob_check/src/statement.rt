@@ -12,9 +12,9 @@ use crate::for_head::for_head;
 use crate::label::{is_character, labels};
 use crate::labels::Labels;
 use ob_base::Items;
+use ob_declare::Site;
 use ob_declare::rejected::{Rejected, broken, open};
 use ob_declare::rule::RuleCode;
-use ob_declare::{Imports, Scope};
 use ob_express::{Variables, basic_value, guard};
 use ob_mean::{
     Branch as TypedBranch, CaseArm, LabelRange as TypedRange, TypedExpr, TypedStatement,
@@ -22,25 +22,21 @@ use ob_mean::{
 use ob_parse::tree::{Branch, Case, Expr, ForHead, LabelRange, Statement};
 use ob_scan::Span;
 use ob_types::Basic;
-use std::alloc::Global;
 
 /// Statements that need not be there.
 #[cycle(statement)]
 #[tactic(auto, unfolding(crate::specs::Statements::optional))]
 pub fn optional(
-    alloc: Global,
-    imports: &Imports,
-    scope: &Scope,
-    levels: u32,
+    site: Site<'_>,
     variables: Variables,
     xs: &[Statement],
     span: Span,
 ) -> Result<(Items<TypedStatement>, Variables), Rejected>
-    ensures { Judges (spec.optional imports.now scope.now levels (spec.statements_at imports.now scope.now levels) variables xs.now) result }
+    ensures { Judges (spec.optional site.entry.imports.now site.entry.scope.now site.entry.levels (spec.statements_at site.entry.imports.now site.entry.scope.now site.entry.levels) variables xs.now) result }
 {
     match xs {
-        [] => Ok((Items::new(alloc), variables)),
-        [_, ..] => statements(alloc, imports, scope, levels, variables, xs, span),
+        [] => Ok((Items::new(site.alloc), variables)),
+        [_, ..] => statements(site, variables, xs, span),
     }
 }
 
@@ -48,24 +44,18 @@ pub fn optional(
 #[cycle(statement)]
 #[tactic(auto, unfolding(crate::specs::Statements::next_branch))]
 fn next_branch(
-    alloc: Global,
-    imports: &Imports,
-    scope: &Scope,
-    levels: u32,
+    site: Site<'_>,
     before: Items<TypedBranch>,
     variables: Variables,
     b: &Branch,
 ) -> Result<(Items<TypedBranch>, Variables), Rejected>
-    ensures { Judges (spec.next_branch imports.now scope.now levels (spec.statements_at imports.now scope.now levels) (before, variables) b.now) result }
+    ensures { Judges (spec.next_branch site.entry.imports.now site.entry.scope.now site.entry.levels (spec.statements_at site.entry.imports.now site.entry.scope.now site.entry.levels) (before, variables) b.now) result }
 {
     let mut before = before;
     let condition = b.guard.get();
-    let (guard, variables) = guard(alloc, imports, scope, levels, variables, condition)?;
+    let (guard, variables) = guard(site, variables, condition)?;
     let (body, variables) = statements(
-        alloc,
-        imports,
-        scope,
-        levels,
+        site,
         variables,
         b.body.as_slice(),
         condition.first_token(),
@@ -76,20 +66,17 @@ fn next_branch(
 
 #[cycle(statement)]
 fn more_branches(
-    alloc: Global,
-    imports: &Imports,
-    scope: &Scope,
-    levels: u32,
+    site: Site<'_>,
     first: Items<TypedBranch>,
     variables: Variables,
     others: &[Branch],
 ) -> Result<(Items<TypedBranch>, Variables), Rejected>
-    ensures { Judges (through (spec.next_branch imports.now scope.now levels (spec.statements_at imports.now scope.now levels)) (first, variables) others.now) result }
+    ensures { Judges (through (spec.next_branch site.entry.imports.now site.entry.scope.now site.entry.levels (spec.statements_at site.entry.imports.now site.entry.scope.now site.entry.levels)) (first, variables) others.now) result }
 {
     let mut done = first;
     let mut so_far = variables;
     for b in others {
-        let (more, variables) = next_branch(alloc, imports, scope, levels, done, so_far, b)?;
+        let (more, variables) = next_branch(site, done, so_far, b)?;
         done = more;
         so_far = variables;
     }
@@ -99,55 +86,46 @@ fn more_branches(
 #[cycle(statement)]
 #[tactic(auto, unfolding(crate::specs::Statements::branches))]
 fn branches(
-    alloc: Global,
-    imports: &Imports,
-    scope: &Scope,
-    levels: u32,
+    site: Site<'_>,
     variables: Variables,
     first: &Branch,
     others: &[Branch],
 ) -> Result<(Items<TypedBranch>, Variables), Rejected>
-    ensures { Judges (spec.branches imports.now scope.now levels (spec.statements_at imports.now scope.now levels) variables first.now others.now) result }
+    ensures { Judges (spec.branches site.entry.imports.now site.entry.scope.now site.entry.levels (spec.statements_at site.entry.imports.now site.entry.scope.now site.entry.levels) variables first.now others.now) result }
 {
-    let none = Items::new(alloc);
-    let (done, variables) = next_branch(alloc, imports, scope, levels, none, variables, first)?;
-    more_branches(alloc, imports, scope, levels, done, variables, others)
+    let none = Items::new(site.alloc);
+    let (done, variables) = next_branch(site, none, variables, first)?;
+    more_branches(site, done, variables, others)
 }
 
 #[cycle(statement)]
 #[tactic(auto, unfolding(crate::specs::Statements::if_rule))]
 fn if_statement(
-    alloc: Global,
-    imports: &Imports,
-    scope: &Scope,
-    levels: u32,
+    site: Site<'_>,
     variables: Variables,
     first: &Branch,
     others: &[Branch],
     rest: &[Statement],
 ) -> Result<(TypedStatement, Variables), Rejected>
-    ensures { Judges (spec.if_rule imports.now scope.now levels (spec.statements_at imports.now scope.now levels) variables first.now others.now rest.now) result }
+    ensures { Judges (spec.if_rule site.entry.imports.now site.entry.scope.now site.entry.levels (spec.statements_at site.entry.imports.now site.entry.scope.now site.entry.levels) variables first.now others.now rest.now) result }
 {
     let span = first.guard.get().first_token();
-    let (done, variables) = branches(alloc, imports, scope, levels, variables, first, others)?;
-    let (rest, variables) = optional(alloc, imports, scope, levels, variables, rest, span)?;
+    let (done, variables) = branches(site, variables, first, others)?;
+    let (rest, variables) = optional(site, variables, rest, span)?;
     Ok((TypedStatement::If(done, rest), variables))
 }
 
 #[cycle(statement)]
 #[tactic(auto, unfolding(crate::specs::Statements::while_rule))]
 fn while_statement(
-    alloc: Global,
-    imports: &Imports,
-    scope: &Scope,
-    levels: u32,
+    site: Site<'_>,
     variables: Variables,
     first: &Branch,
     others: &[Branch],
 ) -> Result<(TypedStatement, Variables), Rejected>
-    ensures { Judges (spec.while_rule imports.now scope.now levels (spec.statements_at imports.now scope.now levels) variables first.now others.now) result }
+    ensures { Judges (spec.while_rule site.entry.imports.now site.entry.scope.now site.entry.levels (spec.statements_at site.entry.imports.now site.entry.scope.now site.entry.levels) variables first.now others.now) result }
 {
-    let (done, variables) = branches(alloc, imports, scope, levels, variables, first, others)?;
+    let (done, variables) = branches(site, variables, first, others)?;
     Ok((TypedStatement::While(done), variables))
 }
 
@@ -155,10 +133,7 @@ fn while_statement(
 #[cycle(statement)]
 #[tactic(auto, unfolding(crate::specs::Statements::arm_of))]
 fn arm_of(
-    alloc: Global,
-    imports: &Imports,
-    scope: &Scope,
-    levels: u32,
+    site: Site<'_>,
     all: Labels,
     labels: Items<TypedRange>,
     arms: Items<CaseArm>,
@@ -166,10 +141,10 @@ fn arm_of(
     body: &[Statement],
     span: Span,
 ) -> Result<(Labels, Items<CaseArm>, Variables), Rejected>
-    ensures { Judges (spec.arm_of imports.now scope.now levels (spec.statements_at imports.now scope.now levels) (all, labels) arms variables body.now) result }
+    ensures { Judges (spec.arm_of site.entry.imports.now site.entry.scope.now site.entry.levels (spec.statements_at site.entry.imports.now site.entry.scope.now site.entry.levels) (all, labels) arms variables body.now) result }
 {
     let mut arms = arms;
-    let (body, variables) = statements(alloc, imports, scope, levels, variables, body, span)?;
+    let (body, variables) = statements(site, variables, body, span)?;
     arms.push(CaseArm { labels, body })?;
     Ok((all, arms, variables))
 }
@@ -178,10 +153,7 @@ fn arm_of(
 #[cycle(statement)]
 #[tactic(auto, unfolding(crate::specs::Statements::case_of))]
 fn case_of(
-    alloc: Global,
-    imports: &Imports,
-    scope: &Scope,
-    levels: u32,
+    site: Site<'_>,
     character: bool,
     all: Labels,
     arms: Items<CaseArm>,
@@ -190,15 +162,13 @@ fn case_of(
     body: &[Statement],
     span: Span,
 ) -> Result<(Labels, Items<CaseArm>, Variables), Rejected>
-    ensures { Judges (spec.case_of imports.now scope.now levels (spec.statements_at imports.now scope.now levels) character (all, arms, variables) list.now body.now) result }
+    ensures { Judges (spec.case_of site.entry.imports.now site.entry.scope.now site.entry.levels (spec.statements_at site.entry.imports.now site.entry.scope.now site.entry.levels) character (all, arms, variables) list.now body.now) result }
 {
     match list {
         [] => Ok((all, arms, variables)),
         [_, ..] => {
-            let (all, own) = labels(alloc, imports, scope, character, all, list)?;
-            arm_of(
-                alloc, imports, scope, levels, all, own, arms, variables, body, span,
-            )
+            let (all, own) = labels(site.alloc, site.imports, site.scope, character, all, list)?;
+            arm_of(site, all, own, arms, variables, body, span)
         }
     }
 }
@@ -206,10 +176,7 @@ fn case_of(
 #[cycle(statement)]
 #[tactic(auto, unfolding(crate::specs::Statements::next_case))]
 fn next_case(
-    alloc: Global,
-    imports: &Imports,
-    scope: &Scope,
-    levels: u32,
+    site: Site<'_>,
     character: bool,
     all: Labels,
     arms: Items<CaseArm>,
@@ -217,13 +184,10 @@ fn next_case(
     x: &Case,
     span: Span,
 ) -> Result<(Labels, Items<CaseArm>, Variables), Rejected>
-    ensures { Judges (spec.next_case imports.now scope.now levels (spec.statements_at imports.now scope.now levels) character (all, arms, variables) x.now) result }
+    ensures { Judges (spec.next_case site.entry.imports.now site.entry.scope.now site.entry.levels (spec.statements_at site.entry.imports.now site.entry.scope.now site.entry.levels) character (all, arms, variables) x.now) result }
 {
     case_of(
-        alloc,
-        imports,
-        scope,
-        levels,
+        site,
         character,
         all,
         arms,
@@ -236,24 +200,19 @@ fn next_case(
 
 #[cycle(statement)]
 fn all_cases(
-    alloc: Global,
-    imports: &Imports,
-    scope: &Scope,
-    levels: u32,
+    site: Site<'_>,
     character: bool,
     variables: Variables,
     cases: &[Case],
     span: Span,
 ) -> Result<(Labels, Items<CaseArm>, Variables), Rejected>
-    ensures { Judges (through (spec.next_case imports.now scope.now levels (spec.statements_at imports.now scope.now levels) character) ([], [], variables) cases.now) result }
+    ensures { Judges (through (spec.next_case site.entry.imports.now site.entry.scope.now site.entry.levels (spec.statements_at site.entry.imports.now site.entry.scope.now site.entry.levels) character) ([], [], variables) cases.now) result }
 {
-    let mut all = Labels::new(alloc);
-    let mut arms = Items::new(alloc);
+    let mut all = Labels::new(site.alloc);
+    let mut arms = Items::new(site.alloc);
     let mut so_far = variables;
     for x in cases {
-        let (longer, more, variables) = next_case(
-            alloc, imports, scope, levels, character, all, arms, so_far, x, span,
-        )?;
+        let (longer, more, variables) = next_case(site, character, all, arms, so_far, x, span)?;
         all = longer;
         arms = more;
         so_far = variables;
@@ -265,23 +224,18 @@ fn all_cases(
 #[cycle(statement)]
 #[tactic(auto, unfolding(crate::specs::Statements::arms_of))]
 fn arms_of(
-    alloc: Global,
-    imports: &Imports,
-    scope: &Scope,
-    levels: u32,
+    site: Site<'_>,
     span: Span,
     basic: Basic,
     value: TypedExpr,
     variables: Variables,
     cases: &[Case],
 ) -> Result<(TypedStatement, Variables), Rejected>
-    ensures { Judges (spec.arms_of imports.now scope.now levels (spec.statements_at imports.now scope.now levels) span.line (basic, value, variables) cases.now) result }
+    ensures { Judges (spec.arms_of site.entry.imports.now site.entry.scope.now site.entry.levels (spec.statements_at site.entry.imports.now site.entry.scope.now site.entry.levels) span.line (basic, value, variables) cases.now) result }
 {
     match is_character(basic) {
         Some(character) => {
-            let (_, arms, variables) = all_cases(
-                alloc, imports, scope, levels, character, variables, cases, span,
-            )?;
+            let (_, arms, variables) = all_cases(site, character, variables, cases, span)?;
             Ok((TypedStatement::Case(span.line, value, arms), variables))
         }
         None => Err(Rejected::Rule(broken(RuleCode::Types, span))),
@@ -291,152 +245,91 @@ fn arms_of(
 #[cycle(statement)]
 #[tactic(auto, unfolding(crate::specs::Statements::case_rule))]
 fn case_statement(
-    alloc: Global,
-    imports: &Imports,
-    scope: &Scope,
-    levels: u32,
+    site: Site<'_>,
     variables: Variables,
     span: Span,
     e: &Expr,
     cases: &[Case],
 ) -> Result<(TypedStatement, Variables), Rejected>
-    ensures { Judges (spec.case_rule imports.now scope.now levels (spec.statements_at imports.now scope.now levels) variables span.line e.now cases.now) result }
+    ensures { Judges (spec.case_rule site.entry.imports.now site.entry.scope.now site.entry.levels (spec.statements_at site.entry.imports.now site.entry.scope.now site.entry.levels) variables span.line e.now cases.now) result }
 {
-    let (basic, value, variables) = basic_value(alloc, imports, scope, levels, variables, e)?;
-    arms_of(
-        alloc, imports, scope, levels, span, basic, value, variables, cases,
-    )
+    let (basic, value, variables) = basic_value(site, variables, e)?;
+    arms_of(site, span, basic, value, variables, cases)
 }
 
 #[cycle(statement)]
 #[tactic(auto, unfolding(crate::specs::Statements::repeat_rule))]
 fn repeat_statement(
-    alloc: Global,
-    imports: &Imports,
-    scope: &Scope,
-    levels: u32,
+    site: Site<'_>,
     variables: Variables,
     body: &[Statement],
     e: &Expr,
 ) -> Result<(TypedStatement, Variables), Rejected>
-    ensures { Judges (spec.repeat_rule imports.now scope.now levels (spec.statements_at imports.now scope.now levels) variables body.now e.now) result }
+    ensures { Judges (spec.repeat_rule site.entry.imports.now site.entry.scope.now site.entry.levels (spec.statements_at site.entry.imports.now site.entry.scope.now site.entry.levels) variables body.now e.now) result }
 {
-    let (body, variables) = statements(
-        alloc,
-        imports,
-        scope,
-        levels,
-        variables,
-        body,
-        e.first_token(),
-    )?;
-    let (condition, variables) = guard(alloc, imports, scope, levels, variables, e)?;
+    let (body, variables) = statements(site, variables, body, e.first_token())?;
+    let (condition, variables) = guard(site, variables, e)?;
     Ok((TypedStatement::Repeat(body, condition), variables))
 }
 
 #[cycle(statement)]
 #[tactic(auto, unfolding(crate::specs::Statements::for_rule))]
 fn for_statement(
-    alloc: Global,
-    imports: &Imports,
-    scope: &Scope,
-    levels: u32,
+    site: Site<'_>,
     variables: Variables,
     h: &ForHead,
     body: &[Statement],
 ) -> Result<(TypedStatement, Variables), Rejected>
-    ensures { Judges (spec.for_rule imports.now scope.now levels (spec.statements_at imports.now scope.now levels) variables h.now body.now) result }
+    ensures { Judges (spec.for_rule site.entry.imports.now site.entry.scope.now site.entry.levels (spec.statements_at site.entry.imports.now site.entry.scope.now site.entry.levels) variables h.now body.now) result }
 {
-    let (head, variables) = for_head(alloc, imports, scope, levels, variables, h)?;
-    let (body, variables) = statements(
-        alloc,
-        imports,
-        scope,
-        levels,
-        variables,
-        body,
-        h.variable.span,
-    )?;
+    let (head, variables) = for_head(site, variables, h)?;
+    let (body, variables) = statements(site, variables, body, h.variable.span)?;
     Ok((TypedStatement::For(head, body), variables))
 }
 
 #[cycle(statement)]
 #[tactic(auto, unfolding(crate::specs::Statements::statement_of))]
 fn statement(
-    alloc: Global,
-    imports: &Imports,
-    scope: &Scope,
-    levels: u32,
+    site: Site<'_>,
     variables: Variables,
     x: &Statement,
 ) -> Result<(Option<TypedStatement>, Variables), Rejected>
-    ensures { Judges (spec.statement_of imports.now scope.now levels (spec.statements_at imports.now scope.now levels) variables x.now) result }
+    ensures { Judges (spec.statement_of site.entry.imports.now site.entry.scope.now site.entry.levels (spec.statements_at site.entry.imports.now site.entry.scope.now site.entry.levels) variables x.now) result }
 {
     match x {
         Statement::Empty => Ok((None, variables)),
         Statement::Assign(d, e) => {
-            let (action, variables) = assignment(
-                alloc,
-                imports,
-                scope,
-                levels,
-                variables,
-                d,
-                e.get(),
-            )?;
+            let (action, variables) = assignment(site, variables, d, e.get())?;
             Ok((Some(TypedStatement::Simple(action)), variables))
         }
         Statement::Call(d, actuals) => {
-            let (action, variables) = call(alloc, imports, scope, levels, variables, d, actuals)?;
+            let (action, variables) = call(site, variables, d, actuals)?;
             Ok((Some(TypedStatement::Simple(action)), variables))
         }
         Statement::If(first, others, rest) => {
             let others = others.as_slice();
             let rest = rest.as_slice();
-            let (one, variables) = if_statement(
-                alloc, imports, scope, levels, variables, first, others, rest,
-            )?;
+            let (one, variables) = if_statement(site, variables, first, others, rest)?;
             Ok((Some(one), variables))
         }
         Statement::Case(span, e, cases) => {
             let cases = cases.as_slice();
-            let (one, variables) = case_statement(
-                alloc,
-                imports,
-                scope,
-                levels,
-                variables,
-                *span,
-                e.get(),
-                cases,
-            )?;
+            let (one, variables) = case_statement(site, variables, *span, e.get(), cases)?;
             Ok((Some(one), variables))
         }
         Statement::While(first, others) => {
             let others = others.as_slice();
-            let (one, variables) = while_statement(
-                alloc, imports, scope, levels, variables, first, others,
-            )?;
+            let (one, variables) = while_statement(site, variables, first, others)?;
             Ok((Some(one), variables))
         }
         Statement::Repeat(body, e) => {
             let body = body.as_slice();
-            let (one, variables) = repeat_statement(
-                alloc,
-                imports,
-                scope,
-                levels,
-                variables,
-                body,
-                e.get(),
-            )?;
+            let (one, variables) = repeat_statement(site, variables, body, e.get())?;
             Ok((Some(one), variables))
         }
         Statement::For(h, body) => {
             let body = body.as_slice();
-            let (one, variables) = for_statement(
-                alloc, imports, scope, levels, variables, h, body,
-            )?;
+            let (one, variables) = for_statement(site, variables, h, body)?;
             Ok((Some(one), variables))
         }
     }
@@ -446,18 +339,15 @@ fn statement(
 #[cycle(statement)]
 #[tactic(auto, unfolding(crate::specs::Statements::next_statement))]
 fn next_statement(
-    alloc: Global,
-    imports: &Imports,
-    scope: &Scope,
-    levels: u32,
+    site: Site<'_>,
     before: Items<TypedStatement>,
     variables: Variables,
     x: &Statement,
 ) -> Result<(Items<TypedStatement>, Variables), Rejected>
-    ensures { Judges (spec.next_statement imports.now scope.now levels (spec.statements_at imports.now scope.now levels) (before, variables) x.now) result }
+    ensures { Judges (spec.next_statement site.entry.imports.now site.entry.scope.now site.entry.levels (spec.statements_at site.entry.imports.now site.entry.scope.now site.entry.levels) (before, variables) x.now) result }
 {
     let mut all = before;
-    let (one, variables) = statement(alloc, imports, scope, levels, variables, x)?;
+    let (one, variables) = statement(site, variables, x)?;
     match one {
         Some(one) => {
             all.push(one)?;
@@ -469,19 +359,16 @@ fn next_statement(
 
 #[cycle(statement)]
 fn sequence(
-    alloc: Global,
-    imports: &Imports,
-    scope: &Scope,
-    levels: u32,
+    site: Site<'_>,
     variables: Variables,
     xs: &[Statement],
 ) -> Result<(Items<TypedStatement>, Variables), Rejected>
-    ensures { Judges (through (spec.next_statement imports.now scope.now levels (spec.statements_at imports.now scope.now levels)) ([], variables) xs.now) result }
+    ensures { Judges (through (spec.next_statement site.entry.imports.now site.entry.scope.now site.entry.levels (spec.statements_at site.entry.imports.now site.entry.scope.now site.entry.levels)) ([], variables) xs.now) result }
 {
-    let mut done = Items::new(alloc);
+    let mut done = Items::new(site.alloc);
     let mut so_far = variables;
     for x in xs {
-        let (more, variables) = next_statement(alloc, imports, scope, levels, done, so_far, x)?;
+        let (more, variables) = next_statement(site, done, so_far, x)?;
         done = more;
         so_far = variables;
     }
@@ -492,16 +379,20 @@ fn sequence(
 #[cycle(statement)]
 #[tactic(auto, unfolding(crate::specs::Statements::statements_at))]
 pub fn statements(
-    alloc: Global,
-    imports: &Imports,
-    scope: &Scope,
-    levels: u32,
+    site: Site<'_>,
     variables: Variables,
     xs: &[Statement],
     span: Span,
 ) -> Result<(Items<TypedStatement>, Variables), Rejected>
-    ensures { Judges (spec.statements_at imports.now scope.now levels variables xs.now) result }
+    ensures { Judges (spec.statements_at site.entry.imports.now site.entry.scope.now site.entry.levels variables xs.now) result }
 {
-    let inside = open(levels, span)?;
-    sequence(alloc, imports, scope, inside, variables, xs)
+    let inside = open(site.levels, span)?;
+    sequence(
+        Site {
+            levels: inside,
+            ..site
+        },
+        variables,
+        xs,
+    )
 }

@@ -21,6 +21,7 @@ use crate::predeclared::{
 use crate::rejected::{Rejected, broken, open};
 use crate::rule::RuleCode;
 use crate::scope::Scope;
+use crate::site::Site;
 use ob_parse::tree::{
     AddedTerm, Designator, Expr, Factor, NextFactor, Related, Selector, Sign, Simple, Term,
 };
@@ -282,30 +283,17 @@ fn signed(sign: Option<(Sign, Span)>, value: Folded) -> Result<Folded, Rejected>
 /// Two sums with a relation between them, or one alone.
 #[cycle(constant)]
 #[tactic(auto, unfolding(crate::specs::Constants::expr_rule, crate::specs::Constants::expr_at))]
-fn expr(
-    alloc: Global,
-    modules: &Imports,
-    scope: &Scope,
-    levels: u32,
-    e: &Expr,
-) -> Result<Folded, Rejected>
-    ensures { Judges (spec.expr_at modules.now scope.now levels e.now) result }
+fn expr(site: Site<'_>, e: &Expr) -> Result<Folded, Rejected>
+    ensures { Judges (spec.expr_at site.entry.imports.now site.entry.scope.now site.entry.levels e.now) result }
 {
-    let left = simple(alloc, modules, scope, levels, &e.left)?;
-    related(alloc, modules, scope, levels, left, &e.right)
+    let left = simple(site, &e.left)?;
+    related(site, left, &e.right)
 }
 
 #[cycle(constant)]
 #[tactic(auto, unfolding(crate::specs::Constants::related))]
-fn related(
-    alloc: Global,
-    modules: &Imports,
-    scope: &Scope,
-    levels: u32,
-    left: Folded,
-    right: &Option<Related>,
-) -> Result<Folded, Rejected>
-    ensures { Judges (spec.related (spec.inner_at modules.now scope.now levels) (spec.deeper_at modules.now scope.now levels) modules.now scope.now left right.now) result }
+fn related(site: Site<'_>, left: Folded, right: &Option<Related>) -> Result<Folded, Rejected>
+    ensures { Judges (spec.related (spec.inner_at site.entry.imports.now site.entry.scope.now site.entry.levels) (spec.deeper_at site.entry.imports.now site.entry.scope.now site.entry.levels) site.entry.imports.now site.entry.scope.now left right.now) result }
 {
     match right {
         None => Ok(left),
@@ -313,7 +301,7 @@ fn related(
             if !relates(right.relation, &left) {
                 return Err(Rejected::Rule(broken(RuleCode::Types, right.span)));
             }
-            let other = simple(alloc, modules, scope, levels, &right.simple)?;
+            let other = simple(site, &right.simple)?;
             fitting(
                 related_of(right.relation, &left, &other),
                 RuleCode::Types,
@@ -325,106 +313,66 @@ fn related(
 
 #[cycle(constant)]
 #[tactic(auto, unfolding(crate::specs::Constants::simple_rule))]
-fn simple(
-    alloc: Global,
-    modules: &Imports,
-    scope: &Scope,
-    levels: u32,
-    x: &Simple,
-) -> Result<Folded, Rejected>
-    ensures { Judges (spec.simple_rule (spec.inner_at modules.now scope.now levels) (spec.deeper_at modules.now scope.now levels) modules.now scope.now x.now) result }
+fn simple(site: Site<'_>, x: &Simple) -> Result<Folded, Rejected>
+    ensures { Judges (spec.simple_rule (spec.inner_at site.entry.imports.now site.entry.scope.now site.entry.levels) (spec.deeper_at site.entry.imports.now site.entry.scope.now site.entry.levels) site.entry.imports.now site.entry.scope.now x.now) result }
 {
-    let first = term(alloc, modules, scope, levels, &x.first)?;
+    let first = term(site, &x.first)?;
     let first = signed(x.sign, first)?;
-    added_terms(alloc, modules, scope, levels, first, x.others.as_slice())
+    added_terms(site, first, x.others.as_slice())
 }
 
 #[cycle(constant)]
-fn added_terms(
-    alloc: Global,
-    modules: &Imports,
-    scope: &Scope,
-    levels: u32,
-    first: Folded,
-    others: &[AddedTerm],
-) -> Result<Folded, Rejected>
-    ensures { Judges (through (spec.added_term (spec.inner_at modules.now scope.now levels) (spec.deeper_at modules.now scope.now levels) modules.now scope.now) first others.now) result }
+fn added_terms(site: Site<'_>, first: Folded, others: &[AddedTerm]) -> Result<Folded, Rejected>
+    ensures { Judges (through (spec.added_term (spec.inner_at site.entry.imports.now site.entry.scope.now site.entry.levels) (spec.deeper_at site.entry.imports.now site.entry.scope.now site.entry.levels) site.entry.imports.now site.entry.scope.now) first others.now) result }
 {
     let mut so_far = first;
     for x in others {
-        so_far = added_term(alloc, modules, scope, levels, so_far, x)?;
+        so_far = added_term(site, so_far, x)?;
     }
     Ok(so_far)
 }
 
 #[cycle(constant)]
 #[tactic(auto, unfolding(crate::specs::Constants::added_term))]
-fn added_term(
-    alloc: Global,
-    modules: &Imports,
-    scope: &Scope,
-    levels: u32,
-    left: Folded,
-    x: &AddedTerm,
-) -> Result<Folded, Rejected>
-    ensures { Judges (spec.added_term (spec.inner_at modules.now scope.now levels) (spec.deeper_at modules.now scope.now levels) modules.now scope.now left x.now) result }
+fn added_term(site: Site<'_>, left: Folded, x: &AddedTerm) -> Result<Folded, Rejected>
+    ensures { Judges (spec.added_term (spec.inner_at site.entry.imports.now site.entry.scope.now site.entry.levels) (spec.deeper_at site.entry.imports.now site.entry.scope.now site.entry.levels) site.entry.imports.now site.entry.scope.now left x.now) result }
 {
     if !adds(x.operator, &left) {
         return Err(Rejected::Rule(broken(RuleCode::Types, x.span)));
     }
-    let right = term(alloc, modules, scope, levels, &x.term)?;
+    let right = term(site, &x.term)?;
     fitting(sum_of(x.operator, &left, &right), RuleCode::Types, x.span)
 }
 
 #[cycle(constant)]
 #[tactic(auto, unfolding(crate::specs::Constants::term_rule))]
-fn term(
-    alloc: Global,
-    modules: &Imports,
-    scope: &Scope,
-    levels: u32,
-    t: &Term,
-) -> Result<Folded, Rejected>
-    ensures { Judges (spec.term_rule (spec.inner_at modules.now scope.now levels) (spec.deeper_at modules.now scope.now levels) modules.now scope.now t.now) result }
+fn term(site: Site<'_>, t: &Term) -> Result<Folded, Rejected>
+    ensures { Judges (spec.term_rule (spec.inner_at site.entry.imports.now site.entry.scope.now site.entry.levels) (spec.deeper_at site.entry.imports.now site.entry.scope.now site.entry.levels) site.entry.imports.now site.entry.scope.now t.now) result }
 {
-    let first = factor(alloc, modules, scope, levels, &t.first)?;
-    next_factors(alloc, modules, scope, levels, first, t.others.as_slice())
+    let first = factor(site, &t.first)?;
+    next_factors(site, first, t.others.as_slice())
 }
 
 #[cycle(constant)]
-fn next_factors(
-    alloc: Global,
-    modules: &Imports,
-    scope: &Scope,
-    levels: u32,
-    first: Folded,
-    others: &[NextFactor],
-) -> Result<Folded, Rejected>
-    ensures { Judges (through (spec.next_factor (spec.inner_at modules.now scope.now levels) (spec.deeper_at modules.now scope.now levels) modules.now scope.now) first others.now) result }
+fn next_factors(site: Site<'_>, first: Folded, others: &[NextFactor]) -> Result<Folded, Rejected>
+    ensures { Judges (through (spec.next_factor (spec.inner_at site.entry.imports.now site.entry.scope.now site.entry.levels) (spec.deeper_at site.entry.imports.now site.entry.scope.now site.entry.levels) site.entry.imports.now site.entry.scope.now) first others.now) result }
 {
     let mut so_far = first;
     for x in others {
-        so_far = next_factor(alloc, modules, scope, levels, so_far, x)?;
+        so_far = next_factor(site, so_far, x)?;
     }
     Ok(so_far)
 }
 
 #[cycle(constant)]
 #[tactic(auto, unfolding(crate::specs::Constants::next_factor))]
-fn next_factor(
-    alloc: Global,
-    modules: &Imports,
-    scope: &Scope,
-    levels: u32,
-    left: Folded,
-    x: &NextFactor,
-) -> Result<Folded, Rejected>
-    ensures { Judges (spec.next_factor (spec.inner_at modules.now scope.now levels) (spec.deeper_at modules.now scope.now levels) modules.now scope.now left x.now) result }
+fn next_factor(site: Site<'_>, left: Folded, x: &NextFactor) -> Result<Folded, Rejected>
+    ensures { Judges (spec.next_factor (spec.inner_at site.entry.imports.now site.entry.scope.now site.entry.levels) (spec.deeper_at site.entry.imports.now site.entry.scope.now site.entry.levels) site.entry.imports.now site.entry.scope.now left x.now) result }
 {
     if !multiplies(x.operator, &left) {
         return Err(Rejected::Rule(broken(RuleCode::Types, x.span)));
     }
-    let right = factor(alloc, modules, scope, levels, &x.factor)?;
+    let right = factor(site, &x.factor)?;
     fitting(
         product_of(x.operator, &left, &right),
         RuleCode::Types,
@@ -434,35 +382,21 @@ fn next_factor(
 
 #[cycle(constant)]
 #[tactic(auto, unfolding(crate::specs::Constants::factor_rule))]
-fn factor(
-    alloc: Global,
-    modules: &Imports,
-    scope: &Scope,
-    levels: u32,
-    f: &Factor,
-) -> Result<Folded, Rejected>
-    ensures { Judges (spec.factor_rule (spec.inner_at modules.now scope.now levels) (spec.deeper_at modules.now scope.now levels) modules.now scope.now f.now) result }
+fn factor(site: Site<'_>, f: &Factor) -> Result<Folded, Rejected>
+    ensures { Judges (spec.factor_rule (spec.inner_at site.entry.imports.now site.entry.scope.now site.entry.levels) (spec.deeper_at site.entry.imports.now site.entry.scope.now site.entry.levels) site.entry.imports.now site.entry.scope.now f.now) result }
 {
     match f {
         Factor::Integer(number, _) => Ok(Folded::Integer(Some(*number))),
-        Factor::Text(chars, _) => Ok(Folded::Text(chars.copy(alloc)?)),
+        Factor::Text(chars, _) => Ok(Folded::Text(chars.copy(site.alloc)?)),
         Factor::Truth(truth, _) => Ok(Folded::Boolean(Some(*truth))),
-        Factor::Value(d) => value_named(alloc, modules, scope, d),
+        Factor::Value(d) => value_named(site.alloc, site.imports, site.scope, d),
         Factor::Call(d, actuals) => {
-            let function = function_of(modules, scope, d)?;
-            called(
-                alloc,
-                modules,
-                scope,
-                levels,
-                function,
-                actuals.as_slice(),
-                d.name.span,
-            )
+            let function = function_of(site.imports, site.scope, d)?;
+            called(site, function, actuals.as_slice(), d.name.span)
         }
-        Factor::Parens(span, e) => nested(alloc, modules, scope, levels, *span, e.get()),
+        Factor::Parens(span, e) => nested(site, *span, e.get()),
         Factor::Not(span, f) => {
-            let value = deeper(alloc, modules, scope, levels, *span, f.get())?;
+            let value = deeper(site, *span, f.get())?;
             fitting(not_of(&value), RuleCode::Types, *span)
         }
     }
@@ -472,27 +406,22 @@ fn factor(
 #[cycle(constant)]
 #[tactic(auto, unfolding(crate::specs::Constants::called))]
 fn called(
-    alloc: Global,
-    modules: &Imports,
-    scope: &Scope,
-    levels: u32,
+    site: Site<'_>,
     function: Function,
     actuals: &[Expr],
     span: Span,
 ) -> Result<Folded, Rejected>
-    ensures { Judges (spec.called (spec.inner_at modules.now scope.now levels) function actuals.now) result }
+    ensures { Judges (spec.called (spec.inner_at site.entry.imports.now site.entry.scope.now site.entry.levels) function actuals.now) result }
 {
     match (function, actuals) {
         (Function::Len, _) => Err(Rejected::Rule(broken(RuleCode::NotConstant, span))),
         (_, []) => Err(Rejected::Rule(broken(RuleCode::Parameters, span))),
         (_, [one, behind @ ..]) => {
-            let value = nested(alloc, modules, scope, levels, span, one)?;
+            let value = nested(site, span, one)?;
             if !takes(function, &value) {
                 return Err(Rejected::Rule(broken(RuleCode::Parameters, one.first_token())));
             }
-            one_called(
-                alloc, modules, scope, levels, function, &value, behind, span,
-            )
+            one_called(site, function, &value, behind, span)
         }
     }
 }
@@ -501,16 +430,13 @@ fn called(
 #[cycle(constant)]
 #[tactic(auto, unfolding(crate::specs::Constants::one_called, crate::specs::Constants::two_called))]
 fn one_called(
-    alloc: Global,
-    modules: &Imports,
-    scope: &Scope,
-    levels: u32,
+    site: Site<'_>,
     function: Function,
     left: &Folded,
     actuals: &[Expr],
     span: Span,
 ) -> Result<Folded, Rejected>
-    ensures { Judges (spec.one_called (spec.inner_at modules.now scope.now levels) function left.now actuals.now) result }
+    ensures { Judges (spec.one_called (spec.inner_at site.entry.imports.now site.entry.scope.now site.entry.levels) function left.now actuals.now) result }
 {
     match actuals {
         [] => fitting(one_of(function, left), RuleCode::Parameters, span),
@@ -518,7 +444,7 @@ fn one_called(
             if !is_shift(function) {
                 return Err(Rejected::Rule(broken(RuleCode::Parameters, two.first_token())));
             }
-            let right = nested(alloc, modules, scope, levels, span, two)?;
+            let right = nested(site, span, two)?;
             match behind {
                 [] => fitting(
                     two_of(function, left, &right),
@@ -536,48 +462,40 @@ fn one_called(
 
 #[cycle(constant)]
 #[tactic(auto, unfolding(crate::specs::Constants::inner_at, crate::specs::Constants::expr_at))]
-fn nested(
-    alloc: Global,
-    modules: &Imports,
-    scope: &Scope,
-    levels: u32,
-    span: Span,
-    e: &Expr,
-) -> Result<Folded, Rejected>
-    ensures { Judges (spec.inner_at modules.now scope.now levels e.now) result }
+fn nested(site: Site<'_>, span: Span, e: &Expr) -> Result<Folded, Rejected>
+    ensures { Judges (spec.inner_at site.entry.imports.now site.entry.scope.now site.entry.levels e.now) result }
 {
-    let inside = open(levels, span)?;
-    expr(alloc, modules, scope, inside, e)
+    let inside = open(site.levels, span)?;
+    expr(
+        Site {
+            levels: inside,
+            ..site
+        },
+        e,
+    )
 }
 
 #[cycle(constant)]
 #[tactic(auto, unfolding(crate::specs::Constants::deeper_at))]
-fn deeper(
-    alloc: Global,
-    modules: &Imports,
-    scope: &Scope,
-    levels: u32,
-    span: Span,
-    f: &Factor,
-) -> Result<Folded, Rejected>
-    ensures { Judges (spec.deeper_at modules.now scope.now levels f.now) result }
+fn deeper(site: Site<'_>, span: Span, f: &Factor) -> Result<Folded, Rejected>
+    ensures { Judges (spec.deeper_at site.entry.imports.now site.entry.scope.now site.entry.levels f.now) result }
 {
-    let inside = open(levels, span)?;
-    factor(alloc, modules, scope, inside, f)
+    let inside = open(site.levels, span)?;
+    factor(
+        Site {
+            levels: inside,
+            ..site
+        },
+        f,
+    )
 }
 
 /// The constant that an expression is, whose evaluation doesn't trap. The fault stands at its first token where it does.
 #[tactic(auto, unfolding(crate::specs::Constants::constant_at))]
-pub fn constant(
-    alloc: Global,
-    modules: &Imports,
-    scope: &Scope,
-    levels: u32,
-    e: &Expr,
-) -> Result<Constant, Rejected>
-    ensures { Judges (spec.constant_at modules.now scope.now levels e.now) result }
+pub fn constant(site: Site<'_>, e: &Expr) -> Result<Constant, Rejected>
+    ensures { Judges (spec.constant_at site.entry.imports.now site.entry.scope.now site.entry.levels e.now) result }
 {
-    let value = expr(alloc, modules, scope, levels, e)?;
+    let value = expr(site, e)?;
     match constant_of(value) {
         Some(constant) => Ok(constant),
         None => Err(Rejected::Rule(broken(RuleCode::NotConstant, e.first_token()))),

@@ -15,6 +15,7 @@ use crate::names::Names;
 use crate::rejected::{Rejected, broken};
 use crate::rule::RuleCode;
 use crate::scope::Scope;
+use crate::site::Site;
 use crate::written_type::written_type;
 use ob_base::Text;
 use ob_parse::tree::{
@@ -243,7 +244,15 @@ fn new_constant(
 {
     let mut so_far = so_far;
     let name = &d.name.name;
-    let value = constant(alloc, modules, &so_far, nesting, d.value.get())?;
+    let value = constant(
+        Site {
+            alloc,
+            imports: modules,
+            scope: &so_far,
+            levels: nesting,
+        },
+        d.value.get(),
+    )?;
     let mark = d.name.mark.is_some();
     so_far.declare(alloc, &name.name, mark, Entry::Constant(value))?;
     Ok(so_far)

@@ -13,6 +13,7 @@ use crate::predeclared::{Predeclared, absent, input_named, is_input, is_output, 
 use crate::rejected::{Rejected, broken, open};
 use crate::rule::RuleCode;
 use crate::scope::Scope;
+use crate::site::Site;
 use ob_base::{Items, Shared, SharedItems};
 use ob_parse::tree::{Expr, Ident, IdentDef, Qualident, TypeExpr, TypedNames};
 use ob_scan::Span;
@@ -187,7 +188,15 @@ fn inner_constant(
     ensures { Judges (spec.inner_constant modules.now scope.now nesting e.now) result }
 {
     let inside = open(nesting, e.first_token())?;
-    constant(alloc, modules, scope, inside, e)
+    constant(
+        Site {
+            alloc,
+            imports: modules,
+            scope,
+            levels: inside,
+        },
+        e,
+    )
 }
 
 /// One length more.
