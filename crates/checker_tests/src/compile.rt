@@ -3,7 +3,7 @@ ghost use Rattle.ob_fit.specs.Solid.{EachSolid};
 use ob_base::{Items, Refused, Shared, Text};
 use ob_check::check;
 use ob_code::checked::Checked;
-use ob_compile::{compile, face_of, faces_of, has_room};
+use ob_compile::{compile, face_of, faces_of};
 use ob_declare::Imports;
 use ob_image::copy_face;
 use ob_mean::{Face, ModuleVariable, Shape, TypedModule};
