@@ -1,12 +1,12 @@
 ghost use Rattle.ob_fit.specs.Solid.{EachSolid};
 
-use ob_base::{Items, Refused, Shared, Text};
+use ob_base::Refused;
 use ob_check::check;
 use ob_code::checked::Checked;
-use ob_compile::{compile, face_of, faces_of, has_room};
+use ob_compile::{compile, face_of, faces_of};
 use ob_declare::Imports;
 use ob_image::copy_face;
-use ob_mean::{Face, ModuleVariable, Shape, TypedModule};
+use ob_mean::Face;
 use ob_parse::parse_text;
 use ob_parse::tree::{Cell, Module};
 use std::alloc::{AllocError, Global};
@@ -103,43 +103,5 @@ fn a_face_has_what_is_exported(rt: HostRuntime) -> Result<(), Fail> {
         sizes(&face(rt.alloc(), "MODULE A; VAR x: INTEGER; END A.")?),
         (0, 0, 0)
     );
-    Ok(())
-}
-
-// ---- room
-
-/// So many arrays of so many basic values.
-fn rows(alloc: Global, count: u32, length: u32) -> Result<Shape, AllocError> {
-    let row = Shape::Array(length, Shared::new(alloc, Shape::Basic)?);
-    Ok(Shape::Array(count, Shared::new(alloc, row)?))
-}
-
-/// Whether there is room for a module with such a variable and a basic one.
-fn has_room_for(alloc: Global, count: u32, length: u32) -> Result<bool, AllocError> {
-    let mut variables = Items::new(alloc);
-    variables.push(ModuleVariable::Declared(Shape::Basic))?;
-    variables.push(ModuleVariable::Declared(rows(alloc, count, length)?))?;
-    let tree = TypedModule {
-        name: Text::from_slice(alloc, b"A")?,
-        variables,
-        procedures: Items::new(alloc),
-        exported: Items::new(alloc),
-        body: Items::new(alloc),
-    };
-    Ok(has_room(&[], &tree))
-}
-
-#[test]
-fn cells_have_addresses_below_the_limit(rt: HostRuntime) -> Result<(), Fail> {
-    for (count, length, room) in [
-        (1, 2147483646, true),
-        (1, 2147483647, false),
-        (65536, 32767, true),
-        (65536, 32768, false),
-        (4294967295, 4294967295, false),
-        (0, 4294967295, true),
-    ] {
-        assert_eq!(rt; has_room_for(rt.alloc(), count, length)?, room);
-    }
     Ok(())
 }

@@ -46,7 +46,7 @@ fn items_of(alloc: Global, faces: Vec<Face>) -> Result<Items<Face>, AllocError>
 ///
 /// # Errors
 ///
-/// Want of memory; and where variables have more cells than there are addresses.
+/// Want of memory; and where something has 2^64 cells or more.
 pub fn compiled(
     alloc: Global,
     loaded: &Imports,

@@ -20,8 +20,8 @@ use std::alloc::Global;
 
 /// The module, checked, and compiled where it links.
 ///
-/// `Refused::Fault` has the code of a broken rule and the place of a token there; `Refused::Memory` where memory was refused,
-/// or where variables have more cells than there are addresses.
+/// `Refused::Fault` has the code of a broken rule and the place of a token there; `Refused::Memory` where memory was refused, or
+/// where something has 2^64 cells or more.
 #[tactic(none)]
 pub fn module_plan(alloc: Global, modules: &Modules, tree: &Module) -> Result<Plan, Refused>
     requires solid { AllSolid modules.now }

@@ -82,4 +82,4 @@ their_faces ms (i ∷ is) h = first_face ms i is (faces_of ms is) (face_named ms
 pub each_compilable : EachCheckedIsCompilable
 each_compilable ms m c solid h =
     let f = each_checked ms m c solid h in
-    record { known = their_faces ms c.imports (imports_loaded ms m c h); fits = f.0; face = f.1; solid = f.2 }
+    record { known = their_faces ms c.imports (imports_loaded ms m c h); formed = f.0; face = f.1; solid = f.2 }

@@ -1,6 +1,6 @@
 -- To be believed.
 -- Operands: values of basic type, strings, and structured things (Wirth, The Programming Language Oberon, Oberon-07).
-use Rattle.std.specs.Prelude.{ℕ, ℤ, pos, ◌+◌, List, [], ◌∷◌, ◌++◌, length, Bool, true, false, Option, Some, None}
+use Rattle.std.specs.Prelude.{ℕ, ℤ, pos, ◌+◌, List, [], ◌∷◌, ◌++◌, length, Bool, true, false, Option, Some, None, nat_le}
 use Rattle.ob_declare.specs.declared.rule.RuleCode.TheVariants as code
 use Rattle.ob_types.specs.declared.exports.Constant.{Constant}
 use Rattle.ob_types.specs.declared.exports.Constant.TheVariants as constant
@@ -123,8 +123,16 @@ is_text_layer (ObType-F.Record r) = false
 abbrev pub is_text : ObType → Bool
 is_text t = is_text_layer (out-ObType t)
 
+-- a variable has fewer than 2^31 cells
+abbrev pub max_elements : ℕ
+max_elements = 2147483647
+
+-- a string as the next variable, in so many elements
+unfoldable pub text_variable : Variables → List ℕ → ℕ → Rule (Designator × Variables)
+text_variable vs t n = Needs (nat_le n max_elements) code.Size (Given (next_text vs, with_text vs t n))
+
 -- where a text stands: a string in its length and one element more
 unfoldable pub text_place : Variables → Operand → Rule (Designator × Variables)
-text_place vs (operand.Text t) = Given (next_text vs, with_text vs t (length t + 1))
+text_place vs (operand.Text t) = text_variable vs t (length t + 1)
 text_place vs (operand.Place t d) = Needs (is_text t) code.Types (Given (d, vs))
 text_place vs (operand.Value b x) = Breaks code.Types

@@ -13,7 +13,7 @@ use Rattle.ob_mean.specs.declared.expression.Designator.{Designator}
 use Rattle.ob_declare.specs.Rule.{Rule, Given, Breaks, Then, Needs, there}
 use Rattle.ob_express.specs.declared.operand.Operand.{Operand}
 use Rattle.ob_express.specs.declared.operand.Operand.TheVariants as operand
-use Rattle.ob_express.specs.Operands.{TypeLayer, Variables, next_text, with_text, value_for}
+use Rattle.ob_express.specs.Operands.{TypeLayer, Variables, text_variable, value_for}
 
 -- whether an array has these elements
 abbrev pub has_elements_layer : ObType → TypeLayer → Bool
@@ -41,14 +41,14 @@ variable_argument vs formal t d = Then (there (variable_passed formal t d) code.
 
 -- a string as a variable of so many elements, more than it has characters
 unfoldable pub fixed_text : Variables → List ℕ → ℕ → Rule (Argument × Variables)
-fixed_text vs t n = Needs (nat_lt (length t) n) code.Types (Given (argument.Place (next_text vs), with_text vs t n))
+fixed_text vs t n = Needs (nat_lt (length t) n) code.Types (Then (text_variable vs t n) (λ p. Given (argument.Place p.0, p.1)))
 
 -- a string for an array of CHAR; for an open one it has an element more than characters
 abbrev pub text_layer : Variables → List ℕ → TypeLayer → Rule (Argument × Variables)
 text_layer vs t (ObType-F.Basic b) = Breaks code.Parameters
 text_layer vs t (ObType-F.Array n e) = Needs (is_char e) code.Parameters (fixed_text vs t n)
 text_layer vs t (ObType-F.Open e) =
-    Needs (is_char e) code.Parameters (Given (argument.Open (next_text vs), with_text vs t (length t + 1)))
+    Needs (is_char e) code.Parameters (Then (text_variable vs t (length t + 1)) (λ p. Given (argument.Open p.0, p.1)))
 text_layer vs t (ObType-F.Record r) = Breaks code.Parameters
 
 unfoldable pub text_passed : Variables → ObType → List ℕ → Rule (Argument × Variables)

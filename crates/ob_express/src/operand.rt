@@ -188,34 +188,46 @@ pub fn is_text(of: &ObType) -> bool
     }
 }
 
-/// A string as the next variable of the module, in so many elements.
+// The most elements of a string that becomes a variable.
+const MAX_ELEMENTS: u32 = 2147483647;
+
+/// A string as the next variable of the module, in so many elements, which are fewer than 2^31.
+#[tactic(auto, unfolding(crate::specs::Operands::text_variable))]
 pub fn hidden(
     text: Text,
     elements: u32,
+    span: Span,
     variables: Variables,
 ) -> Result<(Designator, Variables), Rejected>
-    ensures { Judges (Given (spec.next_text variables, spec.with_text variables text elements)) result }
+    ensures { Judges (spec.text_variable variables text elements) result }
 {
+    if elements > MAX_ELEMENTS {
+        return Err(Rejected::Rule(broken(RuleCode::Size, span)));
+    }
     let mut all = variables;
     let place = Designator::Whole(Variable::OfModule(all.len()));
     all.push(ModuleVariable::Text(text, elements))?;
     Ok((place, all))
 }
 
-/// A string as the next variable of the module, with an element more than it has characters. One that no variable could hold
-/// is want of memory.
+/// A string as the next variable of the module, with an element more than it has characters.
+#[tactic(auto, unfolding(crate::specs::Operands::text_variable))]
 pub fn hidden_with_end(
     text: Text,
+    span: Span,
     variables: Variables,
 ) -> Result<(Designator, Variables), Rejected>
-    ensures { Judges (Given (spec.next_text variables, spec.with_text variables text (length text + 1))) result }
+    ensures { Judges (spec.text_variable variables text (length text + 1)) result }
 {
     match u32::try_from(text.as_slice().len()) {
-        Ok(length) => match length.checked_add(1) {
-            Some(elements) => hidden(text, elements, variables),
-            None => Err(Rejected::Memory),
-        },
-        Err(_) => Err(Rejected::Memory),
+        Ok(length) => {
+            if length < MAX_ELEMENTS {
+                hidden(text, length + 1, span, variables)
+            } else {
+                Err(Rejected::Rule(broken(RuleCode::Size, span)))
+            }
+        }
+        Err(_) => Err(Rejected::Rule(broken(RuleCode::Size, span))),
     }
 }
 
@@ -229,7 +241,7 @@ pub fn text_place(
     ensures { Judges (spec.text_place variables operand) result }
 {
     match operand {
-        Operand::Text(text) => hidden_with_end(text, variables),
+        Operand::Text(text) => hidden_with_end(text, span, variables),
         Operand::Place(of, place) => {
             if is_text(&of) {
                 Ok((place, variables))

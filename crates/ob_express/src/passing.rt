@@ -2,9 +2,9 @@
 
 ghost use Rattle.std.specs.Prelude.{◌≡◌, ◌+◌, length};
 ghost use Rattle.ob_declare.specs.declared.rule.RuleCode.TheVariants as code;
-ghost use Rattle.ob_declare.specs.Rule.{Judges, Given, there};
+ghost use Rattle.ob_declare.specs.Rule.{Judges, Given, Then, there};
 ghost use Rattle.ob_mean.specs.declared.expression.Argument.TheVariants as argument;
-ghost use Rattle.ob_express.specs.Operands.{next_text, with_text};
+ghost use Rattle.ob_express.specs.Operands.{text_variable};
 ghost use Rattle.ob_express.specs.Passing as spec;
 
 use crate::operand::{Operand, Variables, fitting, hidden, hidden_with_end, is_char, value_for};
@@ -71,17 +71,22 @@ fn hidden_place(
     variables: Variables,
     text: Text,
     elements: u32,
+    span: Span,
 ) -> Result<(Argument, Variables), Rejected>
-    ensures { Judges (Given (argument.Place (next_text variables), with_text variables text elements)) result }
+    ensures { Judges (Then (text_variable variables text elements) (λ p. Given (argument.Place p.0, p.1))) result }
 {
-    let (place, variables) = hidden(text, elements, variables)?;
+    let (place, variables) = hidden(text, elements, span, variables)?;
     Ok((Argument::Place(place), variables))
 }
 
-fn hidden_open(variables: Variables, text: Text) -> Result<(Argument, Variables), Rejected>
-    ensures { Judges (Given (argument.Open (next_text variables), with_text variables text (length text + 1))) result }
+fn hidden_open(
+    variables: Variables,
+    text: Text,
+    span: Span,
+) -> Result<(Argument, Variables), Rejected>
+    ensures { Judges (Then (text_variable variables text (length text + 1)) (λ p. Given (argument.Open p.0, p.1))) result }
 {
-    let (place, variables) = hidden_with_end(text, variables)?;
+    let (place, variables) = hidden_with_end(text, span, variables)?;
     Ok((Argument::Open(place), variables))
 }
 
@@ -95,7 +100,7 @@ fn fixed_text(
     ensures { Judges (spec.fixed_text variables text elements) result }
 {
     if text.as_slice().len() < elements as usize {
-        hidden_place(variables, text, elements)
+        hidden_place(variables, text, elements, span)
     } else {
         Err(Rejected::Rule(broken(RuleCode::Types, span)))
     }
@@ -121,7 +126,7 @@ fn text_passed(
         }
         ObType::Open(element) => {
             if is_char(element.get()) {
-                hidden_open(variables, text)
+                hidden_open(variables, text, span)
             } else {
                 Err(Rejected::Rule(broken(RuleCode::Parameters, span)))
             }

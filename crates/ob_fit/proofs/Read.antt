@@ -127,7 +127,7 @@ object_read_fits : (names : Names) (i number : ℕ) (o : Object) (xs : List Sele
 unfolding object_read
 object_read_fits names i number (object.Constant c) [] m g k h = subst (MeantFits names) h tt
 object_read_fits names i number (object.Constant c) (x ∷ xs) m g k h = absurd h
-object_read_fits names i number (object.Variable t) xs m g k h = subst (MeantFits names) h (inl (g t refl), k)
+object_read_fits names i number (object.Variable t) xs m g k h = subst (MeantFits names) h (inl (g t refl), k.0)
 object_read_fits names i number (object.TypeName t) xs m g k h = absurd h
 object_read_fits names i number (object.Procedure p) xs m g k h = absurd h
 

@@ -68,10 +68,10 @@ abbrev fields_in : Shape → (k : _) × Row_of-Shape k
 fields_in (shape.Record' k fields) = (_, fields)
 fields_in _ = (_, end_of-Shape)
 
-record_zero : (ss : List Shape) → zero_of (shape.Record ss) ≡ at_least_one (zeros ss)
+pub record_zero : (ss : List Shape) → zero_of (shape.Record ss) ≡ at_least_one (zeros ss)
 record_zero ss = ap at_least_one (row_zeros (fields_in (shape.Record ss)).0 (fields_in (shape.Record ss)).1 ∙ ap zeros (items_hidden-the_row-Shape-1 ss))
 
-array_zero : (n : ℕ) (s : Shape) → zero_of (shape.Array n s) ≡ row n (zero_of s)
+pub array_zero : (n : ℕ) (s : Shape) → zero_of (shape.Array n s) ≡ row n (zero_of s)
 unfolding Rattle.ob_mean.specs.declared.shape.Shape.TheBlock.hidden-the_row-Shape-0 denote.Hole.Carrier.hidden
 array_zero n s = refl
 

@@ -1,4 +1,4 @@
--- Loaded modules that export types whose arrays have elements.
+-- Loaded modules that export types whose arrays have elements, and variables of fewer than 2^31 cells.
 use Rattle.std.specs.Prelude.{List, [], ◌∷◌, Option, Some, None}
 use Rattle.ob_types.specs.Solid.{ExportsSolid}
 use Rattle.ob_declare.specs.LoadedTree.{LoadedTree}
