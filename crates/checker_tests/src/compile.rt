@@ -4,11 +4,11 @@ use ob_base::Refused;
 use ob_check::check;
 use ob_code::checked::Checked;
 use ob_compile::{compile, face_of, faces_of};
-use ob_declare::Imports;
+use ob_scope::Imports;
 use ob_image::copy_face;
 use ob_mean::Face;
 use ob_parse::parse_text;
-use ob_parse::tree::{Cell, Module};
+use ob_tree::tree::{Cell, Module};
 use std::alloc::{AllocError, Global};
 use std::test::Fail;
 

@@ -1,15 +1,14 @@
 use ob_base::{Code, Items, Refused};
-use ob_declare::rejected::{Rejected, told};
-use ob_declare::{Imports, Scope, declare_module, enter_procedure};
-use ob_express::{
-    Called, Operand, actual, actuals, assigned_value, basic_value, expr, guard, number, procedure,
-    target, truth,
-};
+use ob_scope::rejected::{Rejected, told};
+use ob_scope::{Imports, Scope};
+use ob_declare::{declare_module, enter_procedure};
+use ob_operand::{Called, Operand, procedure};
+use ob_express::{actual, actuals, assigned_value, basic_value, expr, guard, number, target, truth};
 use ob_mean::{
     Argument, Callee, Designator, ModuleVariable, Operation, Operator, TypedExpr, Variable,
 };
 use ob_parse::parse_text;
-use ob_parse::tree::{Cell, Designator as Written, Expr, Module, Statement};
+use ob_tree::tree::{Cell, Designator as Written, Expr, Module, Statement};
 use ob_types::{Basic, Formal, FormalKind, ObType};
 use std::alloc::Global;
 use std::test::Fail;

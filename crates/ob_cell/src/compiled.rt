@@ -10,7 +10,7 @@ use crate::planned::Planned;
 use ob_base::Items;
 use ob_check::{Checked, Imported};
 use ob_compile::{compile, face_of, faces_of};
-use ob_declare::Imports;
+use ob_scope::Imports;
 use ob_link::{KeyedImport, SessionModule};
 use ob_mean::Face;
 use std::alloc::{AllocError, Global};

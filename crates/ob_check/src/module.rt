@@ -1,8 +1,8 @@
 //! Modules.
 
 ghost use Rattle.std.specs.Prelude.{◌≡◌, ◌++◌, [], option_copied, IfOk, IfErr};
-ghost use Rattle.ob_parse.specs.declared.tree.Declarations.{out-Declarations};
-ghost use Rattle.ob_declare.specs.Rule.{Judges, gives, answer};
+ghost use Rattle.ob_tree.specs.declared.tree.Declarations.{out-Declarations};
+ghost use Rattle.ob_scope.specs.Rule.{Judges, gives, answer};
 ghost use Rattle.ob_check.specs.CheckedTree.{CheckedTree};
 ghost use Rattle.ob_check.specs.Codes as codes;
 ghost use Rattle.ob_check.specs.Codes.{AnswersTree, FaultsOnly, HasRuleCode, IsAnswer};
@@ -12,16 +12,14 @@ use crate::checked::{Checked, Imported};
 use crate::made::Made;
 use crate::procedure::procedures;
 use crate::shapes::shape_of;
-use crate::statement::optional;
 use ob_base::{Items, Refused, Text};
-use ob_declare::rejected::{Rejected, told};
-use ob_declare::{
-    Declared, Entry, Imports, LoadedModule, MAX_NESTING, Scope, Site, Standing, declared_by,
-    exported_procedures, interface_of,
-};
-use ob_express::Variables;
+use ob_declare::{MAX_NESTING, declared_by, exported_procedures, interface_of};
 use ob_mean::{ModuleVariable, TypedModule, TypedProcedure, TypedStatement};
-use ob_parse::tree::Module;
+use ob_operand::Variables;
+use ob_scope::rejected::{Rejected, told};
+use ob_scope::{Declared, Entry, Imports, LoadedModule, Scope, Site, Standing};
+use ob_statement::statement::optional;
+use ob_tree::tree::Module;
 use std::alloc::{AllocError, Global};
 
 fn exported_variable(

@@ -1,23 +1,23 @@
 //! Procedures.
 
 ghost use Rattle.std.specs.Prelude.{◌≡◌, ◌++◌, ◌+◌, suc, sum, map, length, IfOk, IfSome, IfNone};
-ghost use Rattle.ob_parse.specs.declared.tree.Procedure.{out-Procedure};
-ghost use Rattle.ob_declare.specs.Rule.{Judges, through};
+ghost use Rattle.ob_tree.specs.declared.tree.Procedure.{out-Procedure};
+ghost use Rattle.ob_scope.specs.Rule.{Judges, through};
 ghost use Rattle.ob_check.specs.Procedures as spec;
 
 use crate::made::Made;
 use crate::shapes::{parameters_of, shape_of};
-use crate::statement::optional;
 use ob_base::Items;
-use ob_declare::rejected::{Rejected, broken, open};
-use ob_declare::rule::RuleCode;
-use ob_declare::{
-    Declared, Entered, Entry, Imports, Scope, Site, Standing, declare_all, enter_procedure,
-};
-use ob_express::{Variables, assigned_value};
+use ob_declare::{Entered, declare_all, enter_procedure};
+use ob_express::assigned_value;
 use ob_mean::{Shape, TypedExpr, TypedProcedure, TypedStatement};
-use ob_parse::tree::{Procedure, Returned};
+use ob_operand::Variables;
 use ob_scan::Span;
+use ob_scope::rejected::{Rejected, broken, open};
+use ob_scope::rule::RuleCode;
+use ob_scope::{Declared, Entry, Imports, Scope, Site, Standing};
+use ob_statement::statement::optional;
+use ob_tree::tree::{Procedure, Returned};
 use ob_types::{Basic, Signature};
 use std::alloc::{AllocError, Global};
 

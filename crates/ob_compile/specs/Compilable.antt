@@ -1,12 +1,12 @@
 -- What the compiler of a checked module rests on.
 use Rattle.std.specs.Prelude.{◌≡◌, List, [], ◌∷◌, Some}
-use Rattle.ob_parse.specs.declared.tree.Module.{Module}
+use Rattle.ob_tree.specs.declared.tree.Module.{Module}
 use Rattle.ob_mean.specs.declared.face.Face.{Face}
 use Rattle.ob_mean.specs.WellFormed.{IsFaceOf, IsWellFormed}
-use Rattle.ob_declare.specs.Exports.{Modules}
-use Rattle.ob_declare.specs.Imports.{added}
-use Rattle.ob_declare.specs.LoadedTree.{LoadedTree}
-use Rattle.ob_declare.specs.Rule.{gives}
+use Rattle.ob_scope.specs.Exports.{Modules}
+use Rattle.ob_scope.specs.Imports.{added}
+use Rattle.ob_scope.specs.LoadedTree.{LoadedTree}
+use Rattle.ob_scope.specs.Rule.{gives}
 use Rattle.ob_check.specs.declared.checked.Imported.{Imported}
 use Rattle.ob_check.specs.CheckedTree.{CheckedTree}
 use Rattle.ob_check.specs.Modules.{module_at}

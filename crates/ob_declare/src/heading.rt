@@ -1,24 +1,24 @@
 //! Headings of procedures.
 
 ghost use Rattle.std.specs.Prelude.{◌≡◌, [], None, IfOk};
-ghost use Rattle.ob_declare.specs.Block.{find};
-ghost use Rattle.ob_parse.specs.declared.tree.Procedure.{out-Procedure};
-ghost use Rattle.ob_declare.specs.Rule.{Judges, through};
-ghost use Rattle.ob_declare.specs.Scope.{in_heading};
+ghost use Rattle.ob_scope.specs.Block.{find};
+ghost use Rattle.ob_tree.specs.declared.tree.Procedure.{out-Procedure};
+ghost use Rattle.ob_scope.specs.Rule.{Judges, through};
+ghost use Rattle.ob_scope.specs.Scope.{in_heading};
 ghost use Rattle.ob_declare.specs.Headings as spec;
 
-use crate::block::{Block, Entry, Standing};
 use crate::declaration::new_name;
-use crate::imports::Imports;
-use crate::names::Names;
-use crate::rejected::{Rejected, broken, open};
-use crate::rule::RuleCode;
-use crate::scope::Scope;
-use crate::site::Site;
 use crate::written_type::type_in_heading;
 use ob_base::{Boxed, Items, Shared};
-use ob_parse::tree::{FormalSection, FormalType, Formals, Ident, Procedure, Qualident};
 use ob_scan::Span;
+use ob_scope::block::{Block, Entry, Standing};
+use ob_scope::imports::Imports;
+use ob_scope::names::Names;
+use ob_scope::rejected::{Rejected, broken, open};
+use ob_scope::rule::RuleCode;
+use ob_scope::scope::Scope;
+use ob_scope::site::Site;
+use ob_tree::tree::{FormalSection, FormalType, Formals, Ident, Procedure, Qualident};
 use ob_types::{Basic, Formal, FormalKind, ObType, Signature, is_admitted};
 use std::alloc::Global;
 

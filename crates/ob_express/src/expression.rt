@@ -1,36 +1,36 @@
 //! Expressions, variables that are written, and actual parameters.
 
 ghost use Rattle.std.specs.Prelude.{◌≡◌, suc, [], option_copied, is_some, IfOk, OnErr, IfErr};
-ghost use Rattle.ob_declare.specs.Rule.{Judges, through};
-ghost use Rattle.ob_parse.specs.declared.tree.Factor.{out-Factor};
-ghost use Rattle.ob_express.specs.Judging.{result_map};
-ghost use Rattle.ob_express.specs.Named.{meant, callable};
-ghost use Rattle.ob_express.specs.Selecting as selecting;
+ghost use Rattle.ob_scope.specs.Rule.{Judges, through};
+ghost use Rattle.ob_tree.specs.declared.tree.Factor.{out-Factor};
+ghost use Rattle.ob_operand.specs.Judging.{result_map};
+ghost use Rattle.ob_operand.specs.Named.{meant, callable};
+ghost use Rattle.ob_operand.specs.Selecting as selecting;
 ghost use Rattle.ob_express.specs.Expressions as spec;
 
-use crate::functions::{one_of, shift_of, takes, two_of};
-use crate::joining::{
+use ob_base::{Boxed, Items};
+use ob_mean::{Argument, Callee, Designator, TypedExpr};
+use ob_operand::functions::{one_of, shift_of, takes, two_of};
+use ob_operand::joining::{
     Joined, add_joining, may_join, mul_joining, negated, product_of, signed, sum_of, with_operand,
 };
-use crate::names::{Called, Named, procedure, read, written};
-use crate::operand::{
+use ob_operand::names::{Called, Named, procedure, read, written};
+use ob_operand::operand::{
     Operand, Variables, fitting, number_of, operand_of_constant, operand_of_variable, truth_number,
     truth_of, value_for,
 };
-use crate::passing::{value_passed, variable_argument};
-use crate::relations::{may_relate, related, relation_of};
-use crate::selecting::{element_of, field_of};
-use ob_base::{Boxed, Items};
-use ob_declare::Site;
-use ob_declare::predeclared::Function;
-use ob_declare::rejected::{Rejected, broken, open};
-use ob_declare::rule::RuleCode;
-use ob_mean::{Argument, Callee, Designator, TypedExpr};
-use ob_parse::tree::{
+use ob_operand::passing::{value_passed, variable_argument};
+use ob_operand::relations::{may_relate, related, relation_of};
+use ob_operand::selecting::{element_of, field_of};
+use ob_scan::Span;
+use ob_scope::Site;
+use ob_scope::predeclared::Function;
+use ob_scope::rejected::{Rejected, broken, open};
+use ob_scope::rule::RuleCode;
+use ob_tree::tree::{
     AddedTerm, Designator as Written, Expr, Factor, NextFactor, Related, Selector, Sign, Simple,
     Term,
 };
-use ob_scan::Span;
 use ob_types::{Basic, Formal, FormalKind, ObType};
 
 fn designator_in(f: &Factor) -> Option<&Written>
@@ -307,7 +307,7 @@ fn selected<'a>(
 
 /// What one selector more selects.
 #[cycle(expression)]
-#[tactic(auto, unfolding(crate::specs::Selecting::selected))]
+#[tactic(auto, unfolding(ob_operand::specs::Selecting::selected))]
 fn next_selected<'a>(
     site: Site<'_>,
     of: &'a ObType,
@@ -348,7 +348,7 @@ fn elements<'a>(
 
 /// What one index more selects.
 #[cycle(expression)]
-#[tactic(auto, unfolding(crate::specs::Selecting::indexed))]
+#[tactic(auto, unfolding(ob_operand::specs::Selecting::indexed))]
 fn element<'a>(
     site: Site<'_>,
     of: &'a ObType,

@@ -1,18 +1,18 @@
 //! What statements take: variables that they write, values, and actual parameters.
 
 ghost use Rattle.std.specs.Prelude.{◌≡◌};
-ghost use Rattle.ob_declare.specs.Rule.{Judges};
+ghost use Rattle.ob_scope.specs.Rule.{Judges};
 ghost use Rattle.ob_express.specs.Expressions as spec;
 
 use crate::expression::{all_passed, expr, target_part};
-use crate::operand::{Operand, Variables, fitting, number_of, truth_of, value_for};
 use ob_base::Items;
-use ob_declare::Site;
-use ob_declare::rejected::Rejected;
-use ob_declare::rule::RuleCode;
 use ob_mean::{Argument, Designator, TypedExpr};
-use ob_parse::tree::{Designator as Written, Expr};
+use ob_operand::operand::{Operand, Variables, fitting, number_of, truth_of, value_for};
 use ob_scan::Span;
+use ob_scope::Site;
+use ob_scope::rejected::Rejected;
+use ob_scope::rule::RuleCode;
+use ob_tree::tree::{Designator as Written, Expr};
 use ob_types::{Basic, Formal, ObType};
 
 /// A variable that may be written, or a part of one, with its type.

@@ -1,21 +1,21 @@
 -- The variables of a module only grow: each rule adds strings of few cells behind those that there are.
 use Rattle.std.proofs.Common.{◌≡◌, ℕ, zero, suc, ◌+◌, ◌++◌, length, Bool, List, [], ◌∷◌, Option, Some, None, is_some, refl, sym, ap, ◌∙◌, subst}
-use Rattle.ob_parse.specs.declared.tree.Branch.{Branch, out-Branch}
-use Rattle.ob_parse.specs.declared.tree.Case.{Case, out-Case}
-use Rattle.ob_parse.specs.declared.tree.Expr.{Expr, out-Expr}
-use Rattle.ob_parse.specs.declared.tree.ForHead.{ForHead}
-use Rattle.ob_parse.specs.declared.tree.LabelRange.{LabelRange}
-use Rattle.ob_parse.specs.declared.tree.Statement.{Statement, out-Statement}
-use Rattle.ob_parse.specs.declared.tree.Statement.TheOpen.{Statement-F}
-use Rattle.ob_parse.specs.declared.tree.Related.{Related, out-Related}
-use Rattle.ob_parse.specs.declared.tree.Simple.{Simple, out-Simple}
-use Rattle.ob_parse.specs.declared.tree.AddedTerm.{AddedTerm, out-AddedTerm}
-use Rattle.ob_parse.specs.declared.tree.Term.{Term, out-Term}
-use Rattle.ob_parse.specs.declared.tree.NextFactor.{NextFactor, out-NextFactor}
-use Rattle.ob_parse.specs.declared.tree.Factor.{Factor, out-Factor}
-use Rattle.ob_parse.specs.declared.tree.Designator.{Designator as Written, out-Designator}
-use Rattle.ob_parse.specs.declared.tree.Selector.{Selector, out-Selector}
-use Rattle.ob_parse.specs.declared.tree.Factor.TheOpen.{Factor-F, Selector-F}
+use Rattle.ob_tree.specs.declared.tree.Branch.{Branch, out-Branch}
+use Rattle.ob_tree.specs.declared.tree.Case.{Case, out-Case}
+use Rattle.ob_tree.specs.declared.tree.Expr.{Expr, out-Expr}
+use Rattle.ob_tree.specs.declared.tree.ForHead.{ForHead}
+use Rattle.ob_tree.specs.declared.tree.LabelRange.{LabelRange}
+use Rattle.ob_tree.specs.declared.tree.Statement.{Statement, out-Statement}
+use Rattle.ob_tree.specs.declared.tree.Statement.TheOpen.{Statement-F}
+use Rattle.ob_tree.specs.declared.tree.Related.{Related, out-Related}
+use Rattle.ob_tree.specs.declared.tree.Simple.{Simple, out-Simple}
+use Rattle.ob_tree.specs.declared.tree.AddedTerm.{AddedTerm, out-AddedTerm}
+use Rattle.ob_tree.specs.declared.tree.Term.{Term, out-Term}
+use Rattle.ob_tree.specs.declared.tree.NextFactor.{NextFactor, out-NextFactor}
+use Rattle.ob_tree.specs.declared.tree.Factor.{Factor, out-Factor}
+use Rattle.ob_tree.specs.declared.tree.Designator.{Designator as Written, out-Designator}
+use Rattle.ob_tree.specs.declared.tree.Selector.{Selector, out-Selector}
+use Rattle.ob_tree.specs.declared.tree.Factor.TheOpen.{Factor-F, Selector-F}
 use Rattle.ob_types.specs.declared.exports.Formal.{Formal}
 use Rattle.ob_types.specs.declared.exports.FormalKind.{FormalKind}
 use Rattle.ob_types.specs.declared.exports.FormalKind.TheVariants as kind
@@ -39,31 +39,31 @@ use Rattle.ob_mean.specs.declared.statement.Branch.{Branch as TypedBranch}
 use Rattle.ob_mean.specs.declared.statement.ForHead.{ForHead as TypedHead}
 use Rattle.ob_mean.specs.declared.statement.TypedStatement.{TypedStatement}
 use Rattle.ob_mean.specs.WellFormed.{VariablesFit}
-use Rattle.ob_declare.specs.declared.predeclared.Function.{Function}
-use Rattle.ob_declare.specs.declared.predeclared.InputName.{InputName}
-use Rattle.ob_declare.specs.declared.predeclared.InputName.TheVariants as in_name
-use Rattle.ob_declare.specs.declared.predeclared.OutputName.{OutputName}
-use Rattle.ob_declare.specs.declared.predeclared.OutputName.TheVariants as out_name
-use Rattle.ob_declare.specs.declared.predeclared.ProperProcedure.{ProperProcedure}
-use Rattle.ob_declare.specs.declared.predeclared.ProperProcedure.TheVariants as procedure
-use Rattle.ob_declare.specs.declared.scope.Scope.{Scope}
-use Rattle.ob_declare.specs.Constants.{FactorLayer, SelectorLayer}
-use Rattle.ob_declare.specs.Imports.{Modules}
-use Rattle.ob_declare.specs.Rule.{Rule, gives}
-use Rattle.ob_express.specs.declared.operand.Operand.{Operand}
-use Rattle.ob_express.specs.declared.operand.Operand.TheVariants as operand
-use Rattle.ob_express.specs.declared.joining.Joined.TheVariants as joined
-use Rattle.ob_express.specs.Operands.{Variables, text_variable, text_place}
-use Rattle.ob_express.specs.Relations.{texts_related, related, relation_of}
-use Rattle.ob_express.specs.Passing.{variable_argument, fixed_text, text_passed, structure_passed, value_passed}
-use Rattle.ob_express.specs.Selecting.{Selected, selected, indexed, selector_layer}
-use Rattle.ob_express.specs.Named.{Meant, Callable}
-use Rattle.ob_express.specs.Named as meaning
+use Rattle.ob_scope.specs.declared.predeclared.Function.{Function}
+use Rattle.ob_scope.specs.declared.predeclared.InputName.{InputName}
+use Rattle.ob_scope.specs.declared.predeclared.InputName.TheVariants as in_name
+use Rattle.ob_scope.specs.declared.predeclared.OutputName.{OutputName}
+use Rattle.ob_scope.specs.declared.predeclared.OutputName.TheVariants as out_name
+use Rattle.ob_scope.specs.declared.predeclared.ProperProcedure.{ProperProcedure}
+use Rattle.ob_scope.specs.declared.predeclared.ProperProcedure.TheVariants as procedure
+use Rattle.ob_scope.specs.declared.scope.Scope.{Scope}
+use Rattle.ob_fold.specs.Constants.{FactorLayer, SelectorLayer}
+use Rattle.ob_scope.specs.Imports.{Modules}
+use Rattle.ob_scope.specs.Rule.{Rule, gives}
+use Rattle.ob_operand.specs.declared.operand.Operand.{Operand}
+use Rattle.ob_operand.specs.declared.operand.Operand.TheVariants as operand
+use Rattle.ob_operand.specs.declared.joining.Joined.TheVariants as joined
+use Rattle.ob_operand.specs.Operands.{Variables, text_variable, text_place}
+use Rattle.ob_operand.specs.Relations.{texts_related, related, relation_of}
+use Rattle.ob_operand.specs.Passing.{variable_argument, fixed_text, text_passed, structure_passed, value_passed}
+use Rattle.ob_operand.specs.Selecting.{Selected, selected, indexed, selector_layer}
+use Rattle.ob_operand.specs.Named.{Meant, Callable}
+use Rattle.ob_operand.specs.Named as meaning
 use Rattle.ob_express.specs.Expressions.{Typed, Joining, Passing, alone, meant_rule, target_rule, two_taken, one_taken, predeclared_rule, one_passed, next_passed, none_left, all_passed, function_rule, call_rule, factor_layer, factor_rule, next_factor, term_rule, added_term, simple_rule, related_rule, expr_rule, variable_actual, value_actual, actual_rule, inner_at, deeper_at, passed_at, expr_at, target_at, actuals_at, value_at, value_for_at, guard_at, number_at, truth_at}
-use Rattle.ob_check.specs.Assignments.{basic_of, assigned, assignment}
-use Rattle.ob_check.specs.Calls.{call_with, procedure_call, call_of, call}
-use Rattle.ob_check.specs.StandardCalls.{none_left as no_actual_left, without_actuals, number_inside, truth_inside, place_at, scalar_at, read_call, in_call, out_char, out_string, out_width, out_int, out_call, adjusted_by, adjusted, asserted, predeclared_call}
-use Rattle.ob_check.specs.Statements.{StatementLayer, for_head, optional, next_branch, branches, if_rule, while_rule, Arms, arm_of, case_of, next_case, arms_of, case_rule, repeat_rule, for_rule, statement_layer, statement_of, next_statement, statements_at}
+use Rattle.ob_statement.specs.Assignments.{basic_of, assigned, assignment}
+use Rattle.ob_statement.specs.Calls.{call_with, procedure_call, call_of, call}
+use Rattle.ob_statement.specs.StandardCalls.{none_left as no_actual_left, without_actuals, number_inside, truth_inside, place_at, scalar_at, read_call, in_call, out_char, out_string, out_width, out_int, out_call, adjusted_by, adjusted, asserted, predeclared_call}
+use Rattle.ob_statement.specs.Statements.{StatementLayer, for_head, optional, next_branch, branches, if_rule, while_rule, Arms, arm_of, case_of, next_case, arms_of, case_rule, repeat_rule, for_rule, statement_layer, statement_of, next_statement, statements_at}
 use Rattle.ob_fit.specs.Fitting.{StartsWith}
 use Rattle.ob_fit.proofs.Rules.{joined_none, joined_thrice, through_keeps}
 use Rattle.ob_fit.proofs.Sizes.{text_few, variables_join}

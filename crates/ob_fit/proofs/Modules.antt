@@ -3,14 +3,14 @@ use Rattle.std.proofs.Common.{◌≡◌, inl, ◌<◌, ℕ, zero, suc, ◌+◌, 
 use Rattle.std.proofs.lemmas.Option.{slice_get_within}
 use Rattle.std.proofs.lemmas.Slice.Eq.{bytes_eq-Decides}
 use Rattle.std.specs.Str.{bytes_eq}
-use Rattle.ob_declare.specs.declared.rule.RuleCode.TheVariants as code
-use Rattle.ob_parse.specs.declared.tree.Declarations.{Declarations, out-Declarations}
-use Rattle.ob_parse.specs.declared.tree.ConstDeclaration.{ConstDeclaration}
-use Rattle.ob_parse.specs.declared.tree.TypeDeclaration.{TypeDeclaration}
-use Rattle.ob_parse.specs.declared.tree.TypedNames.{TypedNames, out-TypedNames}
-use Rattle.ob_parse.specs.declared.tree.IdentDef.{IdentDef}
-use Rattle.ob_parse.specs.declared.tree.Import.{Import}
-use Rattle.ob_parse.specs.declared.tree.Module.{Module}
+use Rattle.ob_scope.specs.declared.rule.RuleCode.TheVariants as code
+use Rattle.ob_tree.specs.declared.tree.Declarations.{Declarations, out-Declarations}
+use Rattle.ob_tree.specs.declared.tree.ConstDeclaration.{ConstDeclaration}
+use Rattle.ob_tree.specs.declared.tree.TypeDeclaration.{TypeDeclaration}
+use Rattle.ob_tree.specs.declared.tree.TypedNames.{TypedNames, out-TypedNames}
+use Rattle.ob_tree.specs.declared.tree.IdentDef.{IdentDef}
+use Rattle.ob_tree.specs.declared.tree.Import.{Import}
+use Rattle.ob_tree.specs.declared.tree.Module.{Module}
 use Rattle.ob_types.specs.declared.structure.ObType.{ObType}
 use Rattle.ob_mean.specs.declared.face.Face.{Face}
 use Rattle.ob_mean.specs.declared.module.ModuleVariable.{ModuleVariable}
@@ -18,30 +18,30 @@ use Rattle.ob_mean.specs.declared.module.ModuleVariable.TheVariants as module_va
 use Rattle.ob_mean.specs.declared.module.TypedModule.{TypedModule}
 use Rattle.ob_mean.specs.declared.module.TypedProcedure.{TypedProcedure}
 use Rattle.ob_mean.specs.WellFormed.{Names, VariablesFit, ProcedureFits, ProceduresFit, IsWellFormed, AllBelow, module_object, own_heading, StartWith, AreHeadings, IsFaceOf}
-use Rattle.ob_declare.specs.declared.block.Declared.{Declared}
-use Rattle.ob_declare.specs.declared.block.Entry.{Entry}
-use Rattle.ob_declare.specs.declared.block.Entry.TheVariants as entry
-use Rattle.ob_declare.specs.declared.block.Standing.TheVariants as standing
-use Rattle.ob_declare.specs.declared.imports.StandardName.{StandardName}
-use Rattle.ob_declare.specs.declared.imports.StandardName.TheVariants as standard
-use Rattle.ob_declare.specs.declared.scope.Scope.{Scope}
+use Rattle.ob_scope.specs.declared.block.Declared.{Declared}
+use Rattle.ob_scope.specs.declared.block.Entry.{Entry}
+use Rattle.ob_scope.specs.declared.block.Entry.TheVariants as entry
+use Rattle.ob_scope.specs.declared.block.Standing.TheVariants as standing
+use Rattle.ob_scope.specs.declared.imports.StandardName.{StandardName}
+use Rattle.ob_scope.specs.declared.imports.StandardName.TheVariants as standard
+use Rattle.ob_scope.specs.declared.scope.Scope.{Scope}
 use Rattle.ob_declare.specs.Declarations as declarations
 use Rattle.ob_declare.specs.Declarations.{one_more, max_count, max_variables, has_mark, own_name, loaded_place, with_module, other_module, imported_as, import_named, import_rule, constant_rule, new_constant, type_rule, new_type, variable_in, variable_rule, typed_variables, variables_rule, declarations_rule}
-use Rattle.ob_declare.specs.Exports.{Modules, module_names}
-use Rattle.ob_declare.specs.Imports.{module_place, standard_named}
+use Rattle.ob_scope.specs.Exports.{Modules, module_names}
+use Rattle.ob_scope.specs.Imports.{module_place, standard_named}
 use Rattle.ob_declare.specs.Interfaces.{exported_procedures, number_of, exported_of, object_of, exports_of}
 use Rattle.ob_types.specs.declared.exports.Exported.{Exported}
-use Rattle.ob_declare.specs.LoadedTree.{LoadedTree}
-use Rattle.ob_declare.specs.Names.{place_in}
-use Rattle.ob_declare.specs.Rule.{gives, there, through}
-use Rattle.ob_declare.specs.Scope.{opening}
-use Rattle.ob_declare.specs.Stack.{is_empty}
+use Rattle.ob_scope.specs.LoadedTree.{LoadedTree}
+use Rattle.ob_scope.specs.Names.{place_in}
+use Rattle.ob_scope.specs.Rule.{gives, there, through}
+use Rattle.ob_scope.specs.Scope.{opening}
+use Rattle.ob_scope.specs.Stack.{is_empty}
 use Rattle.ob_check.specs.declared.checked.Imported.{Imported}
 use Rattle.ob_check.specs.CheckedTree.{CheckedTree}
 use Rattle.ob_check.specs.Modules.{exported_variable, exported_variables, own_variable, own_variables, declared_variables, with_key, imported_by, all_imported, checked_of, body_rule, procedures_rule, checked_rule, module_at}
 use Rattle.ob_check.specs.Procedures.{Checking, counted, procedure_at}
 use Rattle.ob_check.specs.Shapes.{shape_of}
-use Rattle.ob_check.specs.Statements.{statements_at}
+use Rattle.ob_statement.specs.Statements.{statements_at}
 use Rattle.ob_mean.specs.declared.shape.Shape.{Shape}
 use Rattle.ob_mean.specs.declared.face.Heading.{Heading}
 use Rattle.ob_fit.specs.Fitting.{face_of_interface, variable_shape, variable_shapes, procedure_heading, procedure_headings, StartsWith, ScopeFits, heading_of, face_of_loaded, loaded_face, with_face, face_named, faces_of, EachCheckedFits}

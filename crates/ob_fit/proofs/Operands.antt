@@ -1,7 +1,7 @@
 -- Operands fit, and what is made of them.
 use Rattle.std.proofs.Common.{◌≡◌, ℕ, ◌+◌, ◌++◌, length, Bool, true, false, cond, List, [], ◌∷◌, Option, Some, None, refl, sym, ap, ◌∙◌, subst}
-use Rattle.ob_parse.specs.declared.tree.Sign.{Sign}
-use Rattle.ob_parse.specs.declared.tree.Sign.TheVariants as sign
+use Rattle.ob_tree.specs.declared.tree.Sign.{Sign}
+use Rattle.ob_tree.specs.declared.tree.Sign.TheVariants as sign
 use Rattle.ob_scan.specs.declared.token.Span.{Span}
 use Rattle.ob_types.specs.declared.exports.Constant.{Constant}
 use Rattle.ob_types.specs.declared.exports.Constant.TheVariants as constant
@@ -28,23 +28,23 @@ use Rattle.ob_mean.specs.declared.operator.UnaryOperator.TheVariants as one
 use Rattle.ob_mean.specs.declared.shape.Shape.{Shape}
 use Rattle.ob_mean.specs.declared.shape.Shape.TheVariants as shape
 use Rattle.ob_mean.specs.WellFormed.{Names, Of, ExprFits, IndexesFit, IsPassed, IsText, object_of, module_object, elements_in}
-use Rattle.ob_declare.specs.declared.predeclared.Function.{Function}
-use Rattle.ob_declare.specs.declared.predeclared.Function.TheVariants as function
-use Rattle.ob_declare.specs.Rule.{gives}
-use Rattle.ob_declare.specs.declared.rule.RuleCode.TheVariants as code
-use Rattle.ob_express.specs.declared.joining.Joined.{Joined}
-use Rattle.ob_express.specs.declared.joining.Joined.TheVariants as joined
-use Rattle.ob_express.specs.declared.joining.Joining.{Joining}
-use Rattle.ob_express.specs.declared.joining.Joining.TheVariants as joining
-use Rattle.ob_express.specs.declared.operand.Operand.{Operand}
-use Rattle.ob_express.specs.declared.operand.Operand.TheVariants as operand
-use Rattle.ob_express.specs.Operands.{Variables, number_of, truth_of, character_of, only_character, byte_of, value_for, operand_of_constant, operand_of_variable, next_text, with_text, text_variable, text_place}
-use Rattle.ob_express.specs.Joining.{operation, with_number, with_truth, with_operand, sum_of, product_of, sign_of, signed, negated}
-use Rattle.ob_express.specs.Functions.{ordinal_of, is_array, length_of, unary, one_of, two_of}
-use Rattle.ob_express.specs.Relations.{compared, texts_related, values_related, characters_related, related}
-use Rattle.ob_express.specs.Passing.{has_elements, variable_passed, variable_argument, fixed_text, text_passed, structure_passed, value_passed}
-use Rattle.ob_express.specs.Selecting.{element_of}
-use Rattle.ob_check.specs.Assignments.{is_open}
+use Rattle.ob_scope.specs.declared.predeclared.Function.{Function}
+use Rattle.ob_scope.specs.declared.predeclared.Function.TheVariants as function
+use Rattle.ob_scope.specs.Rule.{gives}
+use Rattle.ob_scope.specs.declared.rule.RuleCode.TheVariants as code
+use Rattle.ob_operand.specs.declared.joining.Joined.{Joined}
+use Rattle.ob_operand.specs.declared.joining.Joined.TheVariants as joined
+use Rattle.ob_operand.specs.declared.joining.Joining.{Joining}
+use Rattle.ob_operand.specs.declared.joining.Joining.TheVariants as joining
+use Rattle.ob_operand.specs.declared.operand.Operand.{Operand}
+use Rattle.ob_operand.specs.declared.operand.Operand.TheVariants as operand
+use Rattle.ob_operand.specs.Operands.{Variables, number_of, truth_of, character_of, only_character, byte_of, value_for, operand_of_constant, operand_of_variable, next_text, with_text, text_variable, text_place}
+use Rattle.ob_operand.specs.Joining.{operation, with_number, with_truth, with_operand, sum_of, product_of, sign_of, signed, negated}
+use Rattle.ob_operand.specs.Functions.{ordinal_of, is_array, length_of, unary, one_of, two_of}
+use Rattle.ob_operand.specs.Relations.{compared, texts_related, values_related, characters_related, related}
+use Rattle.ob_operand.specs.Passing.{has_elements, variable_passed, variable_argument, fixed_text, text_passed, structure_passed, value_passed}
+use Rattle.ob_operand.specs.Selecting.{element_of}
+use Rattle.ob_statement.specs.Assignments.{is_open}
 use Rattle.ob_check.specs.Shapes.{shape_of, parameter_of}
 use Rattle.ob_fit.specs.Fitting.{Suits, OperandFits, OperationListFits, ExprListFits, StartsWith}
 use Rattle.ob_fit.proofs.Forms.{unary_fits, chain_fits, every_fits, either_fits}

@@ -1,8 +1,8 @@
 -- What the rules of procedures give fits.
 use Rattle.std.proofs.Common.{◌≡◌, ℕ, zero, suc, ◌+◌, sum, map, ◌++◌, length, Bool, true, false, ◌&&◌, List, [], ◌∷◌, Option, Some, None, is_some, slice_get, refl, sym, ap, ◌∙◌, subst, arith}
 use Rattle.std.proofs.lemmas.List.Sums.{sum_by-cons}
-use Rattle.ob_parse.specs.declared.tree.Procedure.{Procedure, out-Procedure}
-use Rattle.ob_parse.specs.declared.tree.Returned.{Returned}
+use Rattle.ob_tree.specs.declared.tree.Procedure.{Procedure, out-Procedure}
+use Rattle.ob_tree.specs.declared.tree.Returned.{Returned}
 use Rattle.ob_types.specs.declared.exports.Signature.{Signature}
 use Rattle.ob_types.specs.declared.structure.Basic.{Basic}
 use Rattle.ob_mean.specs.declared.expression.TypedExpr.{TypedExpr}
@@ -10,21 +10,21 @@ use Rattle.ob_mean.specs.declared.module.Parameter.{Parameter}
 use Rattle.ob_mean.specs.declared.module.TypedProcedure.{TypedProcedure}
 use Rattle.ob_mean.specs.declared.shape.Shape.{Shape}
 use Rattle.ob_mean.specs.WellFormed.{Names, ListFits, ResultFits, ShapesFit, own_heading, is_there}
-use Rattle.ob_declare.specs.declared.block.Declared.{Declared}
-use Rattle.ob_declare.specs.declared.block.Entry.{Entry}
-use Rattle.ob_declare.specs.declared.block.Entry.TheVariants as entry
+use Rattle.ob_scope.specs.declared.block.Declared.{Declared}
+use Rattle.ob_scope.specs.declared.block.Entry.{Entry}
+use Rattle.ob_scope.specs.declared.block.Entry.TheVariants as entry
 use Rattle.ob_declare.specs.declared.heading.Heading.{Heading}
-use Rattle.ob_declare.specs.declared.scope.Scope.{Scope}
+use Rattle.ob_scope.specs.declared.scope.Scope.{Scope}
 use Rattle.ob_declare.specs.Declarations.{has_mark}
-use Rattle.ob_declare.specs.Exports.{Modules}
+use Rattle.ob_scope.specs.Exports.{Modules}
 use Rattle.ob_declare.specs.Headings.{entered_by, heading_rule, new_procedure, procedure_rule}
-use Rattle.ob_declare.specs.Rule.{Rule, gives, through}
-use Rattle.ob_declare.specs.Scope.{left, left_into}
-use Rattle.ob_declare.specs.Stack.{is_empty}
-use Rattle.ob_express.specs.Operands.{Variables}
+use Rattle.ob_scope.specs.Rule.{Rule, gives, through}
+use Rattle.ob_scope.specs.Scope.{left, left_into}
+use Rattle.ob_scope.specs.Stack.{is_empty}
+use Rattle.ob_operand.specs.Operands.{Variables}
 use Rattle.ob_check.specs.Procedures.{procedures_in, counted, nested, own_shapes, result_at, Checking, typed_procedure, body_of, inside_of, procedure_of, procedure_at}
 use Rattle.ob_check.specs.Shapes.{parameters_of}
-use Rattle.ob_check.specs.Statements.{statements_at}
+use Rattle.ob_statement.specs.Statements.{statements_at}
 use Rattle.ob_fit.specs.Fitting.{StartsWith, ScopeFits, heading_of}
 use Rattle.ob_fit.specs.Solid.{EachSolid}
 use Rattle.ob_fit.proofs.Solid.{SolidEntry}

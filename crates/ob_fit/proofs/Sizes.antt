@@ -19,11 +19,11 @@ use Rattle.ob_mean.specs.Shapes.{zero_of, zeros, at_least_one}
 use Rattle.ob_mean.specs.Texts.{text_row}
 use Rattle.ob_mean.specs.Values.{Value, size, row}
 use Rattle.ob_mean.specs.WellFormed.{cell_limit, ShapesFit, VariablesFit, FacesFit}
-use Rattle.ob_declare.specs.declared.rule.RuleCode.TheVariants as code
+use Rattle.ob_scope.specs.declared.rule.RuleCode.TheVariants as code
 use Rattle.ob_declare.specs.Declarations.{most_cells, cells_behind}
-use Rattle.ob_declare.specs.Exports.{Modules}
-use Rattle.ob_declare.specs.LoadedTree.{LoadedTree}
-use Rattle.ob_declare.specs.Rule.{gives, there}
+use Rattle.ob_scope.specs.Exports.{Modules}
+use Rattle.ob_scope.specs.LoadedTree.{LoadedTree}
+use Rattle.ob_scope.specs.Rule.{gives, there}
 use Rattle.ob_check.specs.declared.checked.Imported.{Imported}
 use Rattle.ob_check.specs.Shapes.{shape_of, shapes_of}
 use Rattle.ob_fit.specs.Fitting.{variable_shape, variable_shapes, face_of_loaded, with_face, face_named, faces_of}

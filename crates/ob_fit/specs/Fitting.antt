@@ -1,7 +1,7 @@
 -- What the static rules go through, beside what a module can name: the parts of a tree that are lists, operands, scopes.
 use Rattle.std.specs.Prelude.{◌≡◌, ℕ, List, [], ◌∷◌, ◌++◌, Option, Some, None, ◌⊎◌, slice_get, is_some, if◌then◌else◌}
 use Rattle.std.specs.Str.{bytes_eq}
-use Rattle.ob_parse.specs.declared.tree.Module.{Module}
+use Rattle.ob_tree.specs.declared.tree.Module.{Module}
 use Rattle.ob_types.specs.declared.exports.Exported.{Exported}
 use Rattle.ob_types.specs.declared.exports.Object.{Object}
 use Rattle.ob_types.specs.declared.exports.Object.TheVariants as exported
@@ -18,15 +18,15 @@ use Rattle.ob_mean.specs.declared.shape.Shape.{Shape}
 use Rattle.ob_mean.specs.declared.statement.Branch.{Branch, out-Branch}
 use Rattle.ob_mean.specs.declared.statement.CaseArm.{CaseArm, out-CaseArm}
 use Rattle.ob_mean.specs.WellFormed.{Names, Object as Named, Of, OpenOf, ExprFits, IndexesFit, ListFits, IsFaceOf, IsWellFormed, object_of, variable_object, called}
-use Rattle.ob_declare.specs.declared.block.Entry.{Entry}
-use Rattle.ob_declare.specs.declared.block.Entry.TheVariants as entry
-use Rattle.ob_declare.specs.declared.scope.Scope.{Scope}
-use Rattle.ob_declare.specs.LoadedTree.{LoadedTree}
-use Rattle.ob_declare.specs.Exports.{Modules}
-use Rattle.ob_declare.specs.Scope.{seen, variable_of}
-use Rattle.ob_express.specs.declared.operand.Operand.{Operand}
-use Rattle.ob_express.specs.declared.operand.Operand.TheVariants as operand
-use Rattle.ob_declare.specs.Rule.{gives}
+use Rattle.ob_scope.specs.declared.block.Entry.{Entry}
+use Rattle.ob_scope.specs.declared.block.Entry.TheVariants as entry
+use Rattle.ob_scope.specs.declared.scope.Scope.{Scope}
+use Rattle.ob_scope.specs.LoadedTree.{LoadedTree}
+use Rattle.ob_scope.specs.Exports.{Modules}
+use Rattle.ob_scope.specs.Scope.{seen, variable_of}
+use Rattle.ob_operand.specs.declared.operand.Operand.{Operand}
+use Rattle.ob_operand.specs.declared.operand.Operand.TheVariants as operand
+use Rattle.ob_scope.specs.Rule.{gives}
 use Rattle.ob_check.specs.declared.checked.Imported.{Imported}
 use Rattle.ob_check.specs.CheckedTree.{CheckedTree}
 use Rattle.ob_check.specs.Modules.{module_at}

@@ -1,7 +1,7 @@
 use Rattle.std.proofs.Common.{[]}
-use Rattle.ob_declare.specs.Rule.{through}
+use Rattle.ob_scope.specs.Rule.{through}
 use Rattle.ob_declare.specs.Headings as spec
-use Rattle.ob_declare.proofs.Exact.{judged_then}
+use Rattle.ob_scope.proofs.Exact.{judged_then}
 use Rattle.ob_declare.proofs.heading.section.Goals as goal
 
 pub returns : goal.returns

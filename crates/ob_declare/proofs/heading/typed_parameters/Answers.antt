@@ -1,7 +1,7 @@
 use Rattle.std.proofs.Common.{rules}
-use Rattle.ob_declare.specs.Scope.{in_heading}
+use Rattle.ob_scope.specs.Scope.{in_heading}
 use Rattle.ob_declare.specs.Headings as spec
-use Rattle.ob_declare.proofs.Exact.{judged_then}
+use Rattle.ob_scope.proofs.Exact.{judged_then}
 use Rattle.ob_declare.proofs.heading.typed_parameters.Goals as goal
 
 pub returns : goal.returns

@@ -1,0 +1,5 @@
+//! DOC
+#![tactic(auto)]
+
+pub mod constant;
+pub mod folding;

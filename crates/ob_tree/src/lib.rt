@@ -1,0 +1,7 @@
+//! DOC
+#![tactic(auto)]
+
+pub mod first_token;
+pub mod tree;
+
+pub use first_token::first_token_law;
