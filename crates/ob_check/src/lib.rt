@@ -1,4 +1,4 @@
-//! The static rules of Oberon-07, and a checker that answers exactly by them.
+//! The static rules of procedures and modules of Oberon-07, and a checker that answers exactly by all rules.
 #![tactic(auto)]
 
 mod checked;

@@ -1,5 +1,5 @@
-//! The static rules of declarations: what is seen at a place, constants, types, variables, headings of procedures, and the
-//! interface of a module.
+//! The static rules of declarations: constants that are named, types, variables, headings of procedures, and the interface of a
+//! module.
 #![tactic(auto)]
 
 mod declaration;

@@ -1,4 +1,5 @@
-//! The static rules of expressions, of variables that are written, and of actual parameters: from syntax trees to typed ones.
+//! The static rules of expressions, of variables that are written, and of lists of actual parameters: from syntax trees to
+//! typed ones.
 #![tactic(auto)]
 
 mod expression;

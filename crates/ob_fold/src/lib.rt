@@ -1,4 +1,4 @@
-//! DOC
+//! The static rules of constants.
 #![tactic(auto)]
 
 pub mod constant;

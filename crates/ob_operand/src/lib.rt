@@ -1,4 +1,4 @@
-//! DOC
+//! The static rules of single operands: names, elements, fields, operators, relations, predeclared functions, parameters.
 #![tactic(auto)]
 
 pub mod functions;

@@ -1,4 +1,4 @@
-//! DOC
+//! What is seen at a place of a text: blocks, scopes, loaded modules, predeclared names; what a broken rule is.
 #![tactic(auto)]
 
 pub mod block;

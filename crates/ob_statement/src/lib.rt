@@ -1,4 +1,4 @@
-//! DOC
+//! The static rules of statements.
 #![tactic(auto)]
 
 pub mod assignment;

@@ -1,4 +1,4 @@
-//! DOC
+//! Syntax trees of Oberon-07, their grammar, and where an expression begins.
 #![tactic(auto)]
 
 pub mod first_token;
