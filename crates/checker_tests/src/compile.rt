@@ -72,6 +72,45 @@ fn a_module_is_compiled_over_another(rt: HostRuntime) -> Result<(), Fail> {
     Ok(())
 }
 
+// ---- strings
+
+/// A module that passes so many strings to an array of 65,536 characters, all of them equal or each another.
+fn passing(alloc: Global, count: u32, equal: bool) -> Result<String, AllocError> {
+    let mut text = String::new(alloc);
+    text.push_str("MODULE A; PROCEDURE P(a: ARRAY 65536 OF CHAR); END P; BEGIN ")?;
+    for i in 0..count {
+        let which = if equal { 0 } else { i };
+        text.push_str(format!(in alloc; "P(\"{which}\"); ")?.as_str())?;
+    }
+    text.push_str("END A.")?;
+    Ok(text)
+}
+
+/// How many cells its code has.
+fn cells_passing(alloc: Global, count: u32, equal: bool) -> Result<usize, Refused> {
+    let text = passing(alloc, count, equal)?;
+    match parse_text(alloc, text.as_str())? {
+        Cell::Module(module) => {
+            let code = code_over(alloc, &Imports::empty(alloc), &module)?;
+            Ok(code.code().cells)
+        }
+        Cell::Commands(_) => Err(Refused::Memory),
+    }
+}
+
+#[test]
+fn equal_strings_are_one_variable(rt: HostRuntime) -> Result<(), Fail> {
+    assert_eq!(rt; cells_passing(rt.alloc(), 3, true)?, 65536);
+    assert_eq!(rt; cells_passing(rt.alloc(), 3, false)?, 196608);
+    Ok(())
+}
+
+#[test]
+fn strings_of_more_than_two_to_the_31_cells_together_compile(rt: HostRuntime) -> Result<(), Fail> {
+    assert_eq!(rt; cells_passing(rt.alloc(), 32769, false)?, 2147549184);
+    Ok(())
+}
+
 // ---- faces
 
 /// The face of a module of this text.

@@ -14,11 +14,11 @@ use crate::procedure::procedures;
 use crate::shapes::shape_of;
 use ob_base::{Items, Refused, Text};
 use ob_declare::{MAX_NESTING, declared_by, exported_procedures, interface_of};
-use ob_mean::{ModuleVariable, TypedModule, TypedProcedure, TypedStatement};
-use ob_operand::Variables;
+use ob_mean::{TypedModule, TypedProcedure, TypedStatement};
 use ob_scope::rejected::{Rejected, told};
 use ob_scope::{Declared, Entry, Imports, LoadedModule, Scope, Site, Standing};
 use ob_statement::statement::optional;
+use ob_strings::Variables;
 use ob_tree::tree::Module;
 use std::alloc::{AllocError, Global};
 
@@ -33,7 +33,7 @@ fn exported_variable(
     let mut so_far = so_far;
     match entry {
         Entry::Variable(of, Standing::Exported(_)) => {
-            so_far.push(ModuleVariable::Declared(shape_of(alloc, made, of)?))?;
+            so_far.declare(shape_of(alloc, made, of)?)?;
             Ok(so_far)
         }
         _ => Ok(so_far),
@@ -48,7 +48,7 @@ fn exported_variables(
 ) -> Result<Variables, AllocError>
     ensures { IfOk result (λ vs. vs ≡ spec.exported_variables declared.now) }
 {
-    let mut so_far = Items::new(alloc);
+    let mut so_far = Variables::new(alloc);
     for d in declared {
         so_far = exported_variable(alloc, made, so_far, &d.entry)?;
     }
@@ -66,7 +66,7 @@ fn own_variable(
     let mut so_far = so_far;
     match entry {
         Entry::Variable(of, Standing::Own(_)) => {
-            so_far.push(ModuleVariable::Declared(shape_of(alloc, made, of)?))?;
+            so_far.declare(shape_of(alloc, made, of)?)?;
             Ok(so_far)
         }
         _ => Ok(so_far),
@@ -164,7 +164,7 @@ fn checked_of(
     let imported = all_imported(alloc, imports, declared)?;
     let tree = TypedModule {
         name: scope.module_name.copy(alloc)?,
-        variables,
+        variables: variables.into_items(),
         procedures,
         exported,
         body,

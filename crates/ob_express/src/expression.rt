@@ -16,8 +16,8 @@ use ob_operand::joining::{
 };
 use ob_operand::names::{Called, Named, procedure, read, written};
 use ob_operand::operand::{
-    Operand, Variables, fitting, number_of, operand_of_constant, operand_of_variable, truth_number,
-    truth_of, value_for,
+    Operand, fitting, number_of, operand_of_constant, operand_of_variable, truth_number, truth_of,
+    value_for,
 };
 use ob_operand::passing::{value_passed, variable_argument};
 use ob_operand::relations::{may_relate, related, relation_of};
@@ -27,6 +27,7 @@ use ob_scope::Site;
 use ob_scope::predeclared::Function;
 use ob_scope::rejected::{Rejected, broken, open};
 use ob_scope::rule::RuleCode;
+use ob_strings::Variables;
 use ob_tree::tree::{
     AddedTerm, Designator as Written, Expr, Factor, NextFactor, Related, Selector, Sign, Simple,
     Term,

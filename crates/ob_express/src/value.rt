@@ -7,11 +7,12 @@ ghost use Rattle.ob_express.specs.Expressions as spec;
 use crate::expression::{all_passed, expr, target_part};
 use ob_base::Items;
 use ob_mean::{Argument, Designator, TypedExpr};
-use ob_operand::operand::{Operand, Variables, fitting, number_of, truth_of, value_for};
+use ob_operand::operand::{Operand, fitting, number_of, truth_of, value_for};
 use ob_scan::Span;
 use ob_scope::Site;
 use ob_scope::rejected::Rejected;
 use ob_scope::rule::RuleCode;
+use ob_strings::Variables;
 use ob_tree::tree::{Designator as Written, Expr};
 use ob_types::{Basic, Formal, ObType};
 

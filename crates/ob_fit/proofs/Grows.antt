@@ -1,5 +1,5 @@
 -- The variables of a module only grow: each rule adds strings of few cells behind those that there are.
-use Rattle.std.proofs.Common.{◌≡◌, ℕ, zero, suc, ◌+◌, ◌++◌, length, Bool, List, [], ◌∷◌, Option, Some, None, is_some, refl, sym, ap, ◌∙◌, subst}
+use Rattle.std.proofs.Common.{◌≡◌, ℕ, zero, suc, ◌+◌, ◌++◌, length, nat_le, Bool, true, List, [], ◌∷◌, Option, Some, None, is_some, refl, sym, ap, ◌∙◌, subst}
 use Rattle.ob_tree.specs.declared.tree.Branch.{Branch, out-Branch}
 use Rattle.ob_tree.specs.declared.tree.Case.{Case, out-Case}
 use Rattle.ob_tree.specs.declared.tree.Expr.{Expr, out-Expr}
@@ -54,6 +54,7 @@ use Rattle.ob_operand.specs.declared.operand.Operand.{Operand}
 use Rattle.ob_operand.specs.declared.operand.Operand.TheVariants as operand
 use Rattle.ob_operand.specs.declared.joining.Joined.TheVariants as joined
 use Rattle.ob_operand.specs.Operands.{Variables, text_variable, text_place}
+use Rattle.ob_strings.specs.Strings.{string_at, with_more}
 use Rattle.ob_operand.specs.Relations.{texts_related, related, relation_of}
 use Rattle.ob_operand.specs.Passing.{variable_argument, fixed_text, text_passed, structure_passed, value_passed}
 use Rattle.ob_operand.specs.Selecting.{Selected, selected, indexed, selector_layer}
@@ -105,9 +106,13 @@ after start vs x p e h = subst (λ q. Extends q.1 start) e h
 
 -- ---- operands
 
+string_grows : (vs : Variables) (t : List ℕ) (n : ℕ) (o : Option ℕ) → nat_le n 2147483647 ≡ true → Extends (with_more o vs (module_variable.Text t n)) vs
+string_grows vs t n (Some i) few = unchanged vs
+string_grows vs t n None few = (module_variable.Text t n ∷ [], refl, (text_few n t few, tt))
+
 text_variable_grows : (vs : Variables) (t : List ℕ) (n : ℕ) (p : Designator × Variables) → gives (text_variable vs t n) p → Extends p.1 vs
 unfolding text_variable
-text_variable_grows vs t n p h = after vs _ _ p h.1 (module_variable.Text t n ∷ [], refl, (text_few n t h.0, tt))
+text_variable_grows vs t n p h = after vs _ _ p h.1 (string_grows vs t n (string_at vs t n) h.0)
 
 place_grows : (vs : Variables) (v : Operand) (p : Designator × Variables) → gives (text_place vs v) p → Extends p.1 vs
 unfolding text_place

@@ -1,5 +1,5 @@
 -- Operands fit, and what is made of them.
-use Rattle.std.proofs.Common.{◌≡◌, ℕ, ◌+◌, ◌++◌, length, Bool, true, false, cond, List, [], ◌∷◌, Option, Some, None, refl, sym, ap, ◌∙◌, subst}
+use Rattle.std.proofs.Common.{◌≡◌, ℕ, ◌+◌, ◌++◌, length, Bool, true, false, cond, List, [], ◌∷◌, Option, Some, None, slice_get, refl, sym, ap, ◌∙◌, subst}
 use Rattle.ob_tree.specs.declared.tree.Sign.{Sign}
 use Rattle.ob_tree.specs.declared.tree.Sign.TheVariants as sign
 use Rattle.ob_scan.specs.declared.token.Span.{Span}
@@ -38,9 +38,11 @@ use Rattle.ob_operand.specs.declared.joining.Joining.{Joining}
 use Rattle.ob_operand.specs.declared.joining.Joining.TheVariants as joining
 use Rattle.ob_operand.specs.declared.operand.Operand.{Operand}
 use Rattle.ob_operand.specs.declared.operand.Operand.TheVariants as operand
-use Rattle.ob_operand.specs.Operands.{Variables, number_of, truth_of, character_of, only_character, byte_of, value_for, operand_of_constant, operand_of_variable, next_text, with_text, text_variable, text_place}
+use Rattle.ob_operand.specs.Operands.{Variables, number_of, truth_of, character_of, only_character, byte_of, value_for, operand_of_constant, operand_of_variable, text_variable, text_place}
 use Rattle.ob_operand.specs.Joining.{operation, with_number, with_truth, with_operand, sum_of, product_of, sign_of, signed, negated}
 use Rattle.ob_operand.specs.Functions.{ordinal_of, is_array, length_of, unary, one_of, two_of}
+use Rattle.ob_strings.specs.Strings.{string_at, number_or, with_more}
+use Rattle.ob_strings.proofs.Numbers.{string_reads}
 use Rattle.ob_operand.specs.Relations.{compared, texts_related, values_related, characters_related, related}
 use Rattle.ob_operand.specs.Passing.{has_elements, variable_passed, variable_argument, fixed_text, text_passed, structure_passed, value_passed}
 use Rattle.ob_operand.specs.Selecting.{element_of}
@@ -218,16 +220,21 @@ two_fits names f line v w x h g k =
 
 -- ---- strings that become variables
 
--- the place of the next string
-text_object : (names : Names) (vs : Variables) (t : List ℕ) (n : ℕ) → StartsWith names.variables (with_text vs t n) → object_of names (next_text vs) ≡ Some (Of (shape.Array n shape.Basic))
-text_object names vs t n h = ap module_object (starts_reads names.variables vs (module_variable.Text t n) h)
+-- what a string's variable is, where it is there already, and where it is one more
+abbrev Stands : Names → Variables → List ℕ → ℕ → Option ℕ → Type 0
+Stands names vs t n o =
+    (slice_get names.variables (number_or o (length vs)) ≡ Some (module_variable.Text t n)) × StartsWith names.variables vs
+
+string_stands : (names : Names) (vs : Variables) (t : List ℕ) (n : ℕ) (o : Option ℕ) → string_at vs t n ≡ o → StartsWith names.variables (with_more o vs (module_variable.Text t n)) → Stands names vs t n o
+string_stands names vs t n (Some i) there h = (ap (λ l. slice_get l i) h.1 ∙ string_reads vs h.0 t n i there, h)
+string_stands names vs t n None there h = (starts_reads names.variables vs (module_variable.Text t n) h, starts_before names.variables vs _ h)
 
 text_variable_fits : (names : Names) (vs : Variables) (t : List ℕ) (n : ℕ) (p : Designator × Variables) → gives (text_variable vs t n) p → StartsWith names.variables p.1 → (IndexesFit names p.0 × (object_of names p.0 ≡ Some (Of (shape.Array n shape.Basic)))) × StartsWith names.variables vs
 unfolding text_variable
 text_variable_fits names vs t n p h s =
     let q = subst (λ x. StartsWith names.variables x.1) (sym h.1) s in (
-      subst (λ x. IndexesFit names x.0 × (object_of names x.0 ≡ Some (Of (shape.Array n shape.Basic)))) h.1 (tt, text_object names vs t n q),
-      starts_before names.variables vs _ q,
+      subst (λ x. IndexesFit names x.0 × (object_of names x.0 ≡ Some (Of (shape.Array n shape.Basic)))) h.1 (tt, ap module_object (string_stands names vs t n (string_at vs t n) refl q).0),
+      (string_stands names vs t n (string_at vs t n) refl q).1,
     )
 
 array_elements : (n : ℕ) (s : Shape) → elements_in (Some (Of (shape.Array n s))) ≡ Some s

@@ -1,6 +1,6 @@
 -- To be believed.
 -- Operands: values of basic type, strings, and structured things (Wirth, The Programming Language Oberon, Oberon-07).
-use Rattle.std.specs.Prelude.{ℕ, ℤ, pos, ◌+◌, List, [], ◌∷◌, ◌++◌, length, Bool, true, false, Option, Some, None, nat_le}
+use Rattle.std.specs.Prelude.{ℕ, ℤ, pos, ◌+◌, List, [], ◌∷◌, length, Bool, true, false, Option, Some, None, nat_le}
 use Rattle.ob_scope.specs.declared.rule.RuleCode.TheVariants as code
 use Rattle.ob_types.specs.declared.exports.Constant.{Constant}
 use Rattle.ob_types.specs.declared.exports.Constant.TheVariants as constant
@@ -16,10 +16,10 @@ use Rattle.ob_mean.specs.declared.expression.Designator.TheVariants as designato
 use Rattle.ob_mean.specs.declared.expression.TypedExpr.{TypedExpr}
 use Rattle.ob_mean.specs.declared.expression.TypedExpr.TheVariants as typed
 use Rattle.ob_mean.specs.declared.expression.Variable.TheVariants as variable
-use Rattle.ob_mean.specs.declared.module.ModuleVariable.{ModuleVariable}
-use Rattle.ob_mean.specs.declared.module.ModuleVariable.TheVariants as module_variable
 use Rattle.ob_mean.specs.declared.operator.UnaryOperator.TheVariants as one
 use Rattle.ob_scope.specs.Rule.{Rule, Given, Breaks, Needs}
+pub use Rattle.ob_strings.specs.Strings.{Variables}
+use Rattle.ob_strings.specs.Strings.{string_number, with_string}
 use Rattle.ob_operand.specs.declared.operand.Operand.{Operand}
 use Rattle.ob_operand.specs.declared.operand.Operand.TheVariants as operand
 
@@ -101,18 +101,6 @@ operand_of_variable t d = operand_layer (out-ObType t) t d
 
 -- ---- strings that become variables
 
--- The variables of the module so far: the declared ones, and behind them the strings that it passes and compares.
-abbrev pub Variables : Type 0
-Variables = List ModuleVariable
-
--- the variable of the next string
-abbrev pub next_text : Variables → Designator
-next_text vs = designator.Whole (variable.OfModule (length vs))
-
--- with one string more, in so many elements
-abbrev pub with_text : Variables → List ℕ → ℕ → Variables
-with_text vs t n = vs ++ module_variable.Text t n ∷ []
-
 abbrev pub is_text_layer : TypeLayer → Bool
 is_text_layer (ObType-F.Basic b) = false
 is_text_layer (ObType-F.Array n e) = is_char e
@@ -127,9 +115,13 @@ is_text t = is_text_layer (out-ObType t)
 abbrev pub max_elements : ℕ
 max_elements = 2147483647
 
--- a string as the next variable, in so many elements
+-- the variable that stands for a string in so many elements
+abbrev pub string_variable : Variables → List ℕ → ℕ → Designator
+string_variable vs t n = designator.Whole (variable.OfModule (string_number vs t n))
+
+-- a string as a variable, in so many elements
 unfoldable pub text_variable : Variables → List ℕ → ℕ → Rule (Designator × Variables)
-text_variable vs t n = Needs (nat_le n max_elements) code.Size (Given (next_text vs, with_text vs t n))
+text_variable vs t n = Needs (nat_le n max_elements) code.Size (Given (string_variable vs t n, with_string vs t n))
 
 -- where a text stands: a string in its length and one element more
 unfoldable pub text_place : Variables → Operand → Rule (Designator × Variables)

@@ -10,4 +10,4 @@ pub mod relations;
 pub mod selecting;
 
 pub use names::{Called, procedure};
-pub use operand::{Operand, Variables};
+pub use operand::Operand;

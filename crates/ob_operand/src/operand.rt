@@ -6,16 +6,14 @@ ghost use Rattle.ob_types.specs.Types.{is_char};
 ghost use Rattle.ob_scope.specs.Rule.{Judges, Given, there};
 ghost use Rattle.ob_operand.specs.Operands as spec;
 
-use ob_base::{Boxed, Items, Text};
-use ob_mean::{Designator, ModuleVariable, TypedExpr, UnaryOperator, Variable};
+use ob_base::{Boxed, Text};
+use ob_mean::{Designator, TypedExpr, UnaryOperator, Variable};
 use ob_scan::Span;
 use ob_scope::rejected::{Rejected, broken};
 use ob_scope::rule::RuleCode;
+use ob_strings::Variables;
 use ob_types::{Basic, Constant, ObType};
 use std::alloc::Global;
-
-/// The variables of a module so far: the declared ones, and behind them the strings that it passes and compares.
-pub type Variables = Items<ModuleVariable>;
 
 /// What an expression is.
 #[derive(Drop)]
@@ -191,7 +189,7 @@ pub fn is_text(of: &ObType) -> bool
 // The most elements of a string that becomes a variable.
 const MAX_ELEMENTS: u32 = 2147483647;
 
-/// A string as the next variable of the module, in so many elements, which are fewer than 2^31.
+/// A string as a variable of the module, in so many elements, which are fewer than 2^31.
 #[tactic(auto, unfolding(crate::specs::Operands::text_variable))]
 pub fn hidden(
     text: Text,
@@ -204,13 +202,11 @@ pub fn hidden(
     if elements > MAX_ELEMENTS {
         return Err(Rejected::Rule(broken(RuleCode::Size, span)));
     }
-    let mut all = variables;
-    let place = Designator::Whole(Variable::OfModule(all.len()));
-    all.push(ModuleVariable::Text(text, elements))?;
-    Ok((place, all))
+    let (number, variables) = variables.string(text, elements)?;
+    Ok((Designator::Whole(Variable::OfModule(number)), variables))
 }
 
-/// A string as the next variable of the module, with an element more than it has characters.
+/// A string as a variable of the module, with an element more than it has characters.
 #[tactic(auto, unfolding(crate::specs::Operands::text_variable))]
 pub fn hidden_with_end(
     text: Text,

@@ -7,12 +7,13 @@ ghost use Rattle.ob_mean.specs.declared.expression.Argument.TheVariants as argum
 ghost use Rattle.ob_operand.specs.Operands.{text_variable};
 ghost use Rattle.ob_operand.specs.Passing as spec;
 
-use crate::operand::{Operand, Variables, fitting, hidden, hidden_with_end, is_char, value_for};
+use crate::operand::{Operand, fitting, hidden, hidden_with_end, is_char, value_for};
 use ob_base::Text;
 use ob_mean::{Argument, Designator};
 use ob_scan::Span;
 use ob_scope::rejected::{Rejected, broken};
 use ob_scope::rule::RuleCode;
+use ob_strings::Variables;
 use ob_types::{ObType, same};
 use std::alloc::Global;
 

@@ -4,12 +4,13 @@ ghost use Rattle.std.specs.Prelude.{◌≡◌};
 ghost use Rattle.ob_scope.specs.Rule.{Judges, Given};
 ghost use Rattle.ob_operand.specs.Relations as spec;
 
-use crate::operand::{Operand, Variables, character_of, fitting, is_text, text_place};
+use crate::operand::{Operand, character_of, fitting, is_text, text_place};
 use ob_base::{Boxed, Items};
 use ob_mean::{Operation, Operator, Relation, TypedExpr};
 use ob_scan::Span;
 use ob_scope::rejected::{Rejected, broken};
 use ob_scope::rule::RuleCode;
+use ob_strings::Variables;
 use ob_tree::tree::Relation as Written;
 use ob_types::Basic;
 use std::alloc::Global;

@@ -6,11 +6,12 @@ ghost use Rattle.ob_statement.specs.Assignments as spec;
 
 use ob_express::{assigned_value, expr, target};
 use ob_mean::{Action, Designator as Place};
-use ob_operand::{Operand, Variables};
+use ob_operand::Operand;
 use ob_scan::Span;
 use ob_scope::Site;
 use ob_scope::rejected::{Rejected, broken};
 use ob_scope::rule::RuleCode;
+use ob_strings::Variables;
 use ob_tree::tree::{Designator, Expr};
 use ob_types::{Basic, ObType, same, string_assignable};
 

@@ -9,11 +9,12 @@ use crate::standard_call::{in_call, out_call, predeclared_call};
 use ob_base::Items;
 use ob_express::actuals as actual_list;
 use ob_mean::{Action, Callee};
-use ob_operand::{Called, Variables, procedure};
+use ob_operand::{Called, procedure};
 use ob_scan::Span;
 use ob_scope::Site;
 use ob_scope::rejected::{Rejected, broken};
 use ob_scope::rule::RuleCode;
+use ob_strings::Variables;
 use ob_tree::tree::{Designator, Expr};
 use ob_types::{Formal, Signature};
 

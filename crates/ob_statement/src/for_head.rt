@@ -8,12 +8,12 @@ use ob_base::Boxed;
 use ob_express::assigned_value;
 use ob_fold::constant::constant;
 use ob_mean::{ForHead as TypedHead, Variable};
-use ob_operand::Variables;
 use ob_scan::Span;
 use ob_scope::predeclared::Predeclared;
 use ob_scope::rejected::{Rejected, broken};
 use ob_scope::rule::RuleCode;
 use ob_scope::{Entry, Scope, Site, Standing, is_writable};
+use ob_strings::Variables;
 use ob_tree::tree::{Expr, ForHead, Ident};
 use ob_types::{Basic, Constant, ObType};
 

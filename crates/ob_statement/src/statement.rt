@@ -16,11 +16,11 @@ use ob_express::{basic_value, guard};
 use ob_mean::{
     Branch as TypedBranch, CaseArm, LabelRange as TypedRange, TypedExpr, TypedStatement,
 };
-use ob_operand::Variables;
 use ob_scan::Span;
 use ob_scope::Site;
 use ob_scope::rejected::{Rejected, broken, open};
 use ob_scope::rule::RuleCode;
+use ob_strings::Variables;
 use ob_tree::tree::{Branch, Case, Expr, ForHead, LabelRange, Statement};
 use ob_types::Basic;
 
