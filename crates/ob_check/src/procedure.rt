@@ -172,31 +172,16 @@ fn body_of(
     let mut done = done;
     let span = p.name.name.span;
     let list = p.body.as_slice();
-    let (statements, variables) = optional(
-        Site {
-            alloc,
-            imports,
-            scope: &scope,
-            levels,
-        },
-        variables,
-        list,
-        span,
-    )?;
+    let site = Site {
+        alloc,
+        imports,
+        scope: &scope,
+        levels,
+    };
+    let (statements, variables) = optional(site, variables, list, span)?;
     let basic = signature.result;
     let value = &p.returned;
-    let (value, variables) = returned(
-        Site {
-            alloc,
-            imports,
-            scope: &scope,
-            levels,
-        },
-        basic,
-        variables,
-        value,
-        span,
-    )?;
+    let (value, variables) = returned(site, basic, variables, value, span)?;
     let procedure = typed_procedure(alloc, signature, &scope, statements, value)?;
     done.push(procedure)?;
     Ok((scope.leave(), done, variables))
