@@ -106,13 +106,13 @@ after start vs x p e h = subst (λ q. Extends q.1 start) e h
 
 -- ---- operands
 
-string_grows : (vs : Variables) (t : List ℕ) (n : ℕ) (o : Option ℕ) → nat_le n 2147483647 ≡ true → Extends (with_more o vs (module_variable.Text t n)) vs
-string_grows vs t n (Some i) few = unchanged vs
-string_grows vs t n None few = (module_variable.Text t n ∷ [], refl, (text_few n t few, tt))
+kept_or_more : (vs : Variables) (t : List ℕ) (n : ℕ) (o : Option ℕ) → nat_le n 2147483647 ≡ true → Extends (with_more o vs (module_variable.Text t n)) vs
+kept_or_more vs t n (Some i) few = unchanged vs
+kept_or_more vs t n None few = (module_variable.Text t n ∷ [], refl, (text_few n t few, tt))
 
 text_variable_grows : (vs : Variables) (t : List ℕ) (n : ℕ) (p : Designator × Variables) → gives (text_variable vs t n) p → Extends p.1 vs
 unfolding text_variable
-text_variable_grows vs t n p h = after vs _ _ p h.1 (string_grows vs t n (string_at vs t n) h.0)
+text_variable_grows vs t n p h = after vs _ _ p h.1 (kept_or_more vs t n (string_at vs t n) h.0)
 
 place_grows : (vs : Variables) (v : Operand) (p : Designator × Variables) → gives (text_place vs v) p → Extends p.1 vs
 unfolding text_place

@@ -126,11 +126,11 @@ exports_few (e ∷ es) h = shapes_join (variable_shape e.object) (variable_shape
 
 face_few : (ms : Modules) (name : List ℕ) → EachSolid ms → FacesFit (with_face (face_named ms name))
 face_few [] name h = tt
-face_few (m ∷ ms) name h = by (bytes_eq m.interface.name name)
+face_few (m ∷ ms) name h = by (bytes_eq m.interface.name name) (face_few ms name h.1)
   where
-    by : (b : Bool) → FacesFit (with_face (cond b (Some (face_of_loaded m)) (face_named ms name)))
-    by true = (exports_few m.interface.exports h.0, tt)
-    by false = face_few ms name h.1
+    by : (b : Bool) → FacesFit (with_face (face_named ms name)) → FacesFit (with_face (cond b (Some (face_of_loaded m)) (face_named ms name)))
+    by true others = (exports_few m.interface.exports h.0, tt)
+    by false others = others
 
 pub faces_few : (ms : Modules) (is : List Imported) → EachSolid ms → FacesFit (faces_of ms is)
 faces_few ms [] h = tt
