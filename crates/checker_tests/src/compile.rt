@@ -77,7 +77,7 @@ fn a_module_is_compiled_over_another(rt: HostRuntime) -> Result<(), Fail> {
 /// A module that passes so many strings to an array of 65,536 characters, all of them equal or each another.
 fn passing(alloc: Global, count: u32, equal: bool) -> Result<String, AllocError> {
     let mut text = String::new(alloc);
-    text.push_str("MODULE A; PROCEDURE P(a: ARRAY 65536 OF CHAR); END P; BEGIN ")?;
+    text.push_str("MODULE A; TYPE T = ARRAY 65536 OF CHAR; PROCEDURE P(a: T); END P; BEGIN ")?;
     for i in 0..count {
         let which = if equal { 0 } else { i };
         text.push_str(format!(in alloc; "P(\"{which}\"); ")?.as_str())?;
