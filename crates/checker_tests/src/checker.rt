@@ -1,8 +1,8 @@
 use ob_base::{Code, Items, Refused, Text};
 use ob_check::{Checked, check};
-use ob_declare::Imports;
 use ob_parse::parse_text;
-use ob_parse::tree::{Cell, Module};
+use ob_scope::Imports;
+use ob_tree::tree::{Cell, Module};
 use std::alloc::Global;
 use std::test::Fail;
 

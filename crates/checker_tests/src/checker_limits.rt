@@ -1,11 +1,11 @@
 use ob_base::{Boxed, Code, Items, Refused, Text};
 use ob_check::check;
-use ob_declare::Imports;
 use ob_parse::parse_text;
-use ob_parse::tree::{
+use ob_scan::Span;
+use ob_scope::Imports;
+use ob_tree::tree::{
     Cell, ConstDeclaration, Declarations, Expr, Factor, Ident, IdentDef, Module, Simple, Term,
 };
-use ob_scan::Span;
 use std::alloc::{AllocError, Global};
 use std::test::Fail;
 

@@ -1,14 +1,14 @@
 ghost use Rattle.ob_fit.specs.Solid.{EachSolid};
 
-use ob_base::{Items, Refused, Shared, Text};
+use ob_base::Refused;
 use ob_check::check;
 use ob_code::checked::Checked;
-use ob_compile::{compile, face_of, faces_of, has_room};
-use ob_declare::Imports;
+use ob_compile::{compile, face_of, faces_of};
 use ob_image::copy_face;
-use ob_mean::{Face, ModuleVariable, Shape, TypedModule};
+use ob_mean::Face;
 use ob_parse::parse_text;
-use ob_parse::tree::{Cell, Module};
+use ob_scope::Imports;
+use ob_tree::tree::{Cell, Module};
 use std::alloc::{AllocError, Global};
 use std::test::Fail;
 
@@ -72,6 +72,45 @@ fn a_module_is_compiled_over_another(rt: HostRuntime) -> Result<(), Fail> {
     Ok(())
 }
 
+// ---- strings
+
+/// A module that passes so many strings to an array of 65,536 characters, all of them equal or each another.
+fn passing(alloc: Global, count: u32, equal: bool) -> Result<String, AllocError> {
+    let mut text = String::new(alloc);
+    text.push_str("MODULE A; TYPE T = ARRAY 65536 OF CHAR; PROCEDURE P(a: T); END P; BEGIN ")?;
+    for i in 0..count {
+        let which = if equal { 0 } else { i };
+        text.push_str(format!(in alloc; "P(\"{which}\"); ")?.as_str())?;
+    }
+    text.push_str("END A.")?;
+    Ok(text)
+}
+
+/// How many cells its code has.
+fn cells_passing(alloc: Global, count: u32, equal: bool) -> Result<usize, Refused> {
+    let text = passing(alloc, count, equal)?;
+    match parse_text(alloc, text.as_str())? {
+        Cell::Module(module) => {
+            let code = code_over(alloc, &Imports::empty(alloc), &module)?;
+            Ok(code.code().cells)
+        }
+        Cell::Commands(_) => Err(Refused::Memory),
+    }
+}
+
+#[test]
+fn equal_strings_are_one_variable(rt: HostRuntime) -> Result<(), Fail> {
+    assert_eq!(rt; cells_passing(rt.alloc(), 3, true)?, 65536);
+    assert_eq!(rt; cells_passing(rt.alloc(), 3, false)?, 196608);
+    Ok(())
+}
+
+#[test]
+fn strings_of_more_than_two_to_the_31_cells_together_compile(rt: HostRuntime) -> Result<(), Fail> {
+    assert_eq!(rt; cells_passing(rt.alloc(), 32769, false)?, 2147549184);
+    Ok(())
+}
+
 // ---- faces
 
 /// The face of a module of this text.
@@ -103,43 +142,5 @@ fn a_face_has_what_is_exported(rt: HostRuntime) -> Result<(), Fail> {
         sizes(&face(rt.alloc(), "MODULE A; VAR x: INTEGER; END A.")?),
         (0, 0, 0)
     );
-    Ok(())
-}
-
-// ---- room
-
-/// So many arrays of so many basic values.
-fn rows(alloc: Global, count: u32, length: u32) -> Result<Shape, AllocError> {
-    let row = Shape::Array(length, Shared::new(alloc, Shape::Basic)?);
-    Ok(Shape::Array(count, Shared::new(alloc, row)?))
-}
-
-/// Whether there is room for a module with such a variable and a basic one.
-fn has_room_for(alloc: Global, count: u32, length: u32) -> Result<bool, AllocError> {
-    let mut variables = Items::new(alloc);
-    variables.push(ModuleVariable::Declared(Shape::Basic))?;
-    variables.push(ModuleVariable::Declared(rows(alloc, count, length)?))?;
-    let tree = TypedModule {
-        name: Text::from_slice(alloc, b"A")?,
-        variables,
-        procedures: Items::new(alloc),
-        exported: Items::new(alloc),
-        body: Items::new(alloc),
-    };
-    Ok(has_room(&[], &tree))
-}
-
-#[test]
-fn cells_have_addresses_below_the_limit(rt: HostRuntime) -> Result<(), Fail> {
-    for (count, length, room) in [
-        (1, 2147483646, true),
-        (1, 2147483647, false),
-        (65536, 32767, true),
-        (65536, 32768, false),
-        (4294967295, 4294967295, false),
-        (0, 4294967295, true),
-    ] {
-        assert_eq!(rt; has_room_for(rt.alloc(), count, length)?, room);
-    }
     Ok(())
 }

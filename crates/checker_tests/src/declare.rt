@@ -1,11 +1,9 @@
 use ob_base::{Code, Refused, Text};
-use ob_declare::rejected::Rejected;
-use ob_declare::{
-    Entered, Entry, Imports, Scope, Standing, declare_all, declare_module, enter_procedure,
-    interface_of,
-};
+use ob_declare::{Entered, declare_all, declare_module, enter_procedure, interface_of};
 use ob_parse::parse_text;
-use ob_parse::tree::{Cell, Module, Procedure};
+use ob_scope::rejected::Rejected;
+use ob_scope::{Entry, Imports, Scope, Standing};
+use ob_tree::tree::{Cell, Module, Procedure};
 use ob_types::Interface;
 use std::alloc::{AllocError, Global};
 use std::test::Fail;

@@ -1,15 +1,17 @@
-use ob_base::{Code, Items, Refused};
-use ob_declare::rejected::{Rejected, told};
-use ob_declare::{Imports, Scope, declare_module, enter_procedure};
+use ob_base::{Code, Refused};
+use ob_declare::{declare_module, enter_procedure};
 use ob_express::{
-    Called, Operand, actual, actuals, assigned_value, basic_value, expr, guard, number, procedure,
-    target, truth,
+    actual, actuals, assigned_value, basic_value, expr, guard, number, target, truth,
 };
 use ob_mean::{
     Argument, Callee, Designator, ModuleVariable, Operation, Operator, TypedExpr, Variable,
 };
+use ob_operand::{Called, Operand, procedure};
 use ob_parse::parse_text;
-use ob_parse::tree::{Cell, Designator as Written, Expr, Module, Statement};
+use ob_scope::rejected::{Rejected, told};
+use ob_scope::{Imports, Scope, Site};
+use ob_strings::Variables;
+use ob_tree::tree::{Cell, Designator as Written, Expr, Module, Statement};
 use ob_types::{Basic, Formal, FormalKind, ObType};
 use std::alloc::Global;
 use std::test::Fail;
@@ -24,6 +26,16 @@ fn module_of(alloc: Global, statement: &str) -> Result<Module, Refused> {
     match parse_text(alloc, text.as_str())? {
         Cell::Module(module) => Ok(module),
         Cell::Commands(_) => Err(Refused::Memory),
+    }
+}
+
+/// A place in this scope, with nothing nested yet.
+fn site_of<'a>(alloc: Global, imports: &'a Imports, scope: &'a Scope) -> Site<'a> {
+    Site {
+        alloc,
+        imports,
+        scope,
+        levels: 199,
     }
 }
 
@@ -69,7 +81,7 @@ fn basic_of(alloc: Global, text: &str) -> Result<Basic, Refused> {
     let scope = scope_of(alloc, &module)?;
     let (_, e) = assigned(&module)?;
     let imports = Imports::empty(alloc);
-    let (basic, _, _) = basic_value(alloc, &imports, &scope, 199, Items::new(alloc), e)?;
+    let (basic, _, _) = basic_value(site_of(alloc, &imports, &scope), Variables::new(alloc), e)?;
     Ok(basic)
 }
 
@@ -172,8 +184,8 @@ fn assigns_difference(alloc: Global, module: &Module) -> Result<bool, Refused> {
     let scope = scope_of(alloc, module)?;
     let (_, e) = assigned(module)?;
     let imports = Imports::empty(alloc);
-    let none = Items::new(alloc);
-    let (value, _) = assigned_value(alloc, &imports, &scope, 199, Basic::Integer, none, e)?;
+    let none = Variables::new(alloc);
+    let (value, _) = assigned_value(site_of(alloc, &imports, &scope), Basic::Integer, none, e)?;
     Ok(is_difference(&value))
 }
 
@@ -190,8 +202,8 @@ fn truth_codes(alloc: Global, text: &str) -> Result<(Option<Code>, Option<Code>)
     let scope = scope_of(alloc, &module)?;
     let (_, e) = assigned(&module)?;
     let imports = Imports::empty(alloc);
-    let guarding = guard(alloc, &imports, &scope, 199, Items::new(alloc), e);
-    let asserted = truth(alloc, &imports, &scope, 199, Items::new(alloc), e);
+    let guarding = guard(site_of(alloc, &imports, &scope), Variables::new(alloc), e);
+    let asserted = truth(site_of(alloc, &imports, &scope), Variables::new(alloc), e);
     Ok((code_of(guarding), code_of(asserted)))
 }
 
@@ -209,14 +221,11 @@ fn value_codes(alloc: Global, text: &str) -> Result<(Option<Code>, Option<Code>)
     let scope = scope_of(alloc, &module)?;
     let (_, e) = assigned(&module)?;
     let imports = Imports::empty(alloc);
-    let counted = number(alloc, &imports, &scope, 199, Items::new(alloc), e);
+    let counted = number(site_of(alloc, &imports, &scope), Variables::new(alloc), e);
     let character = assigned_value(
-        alloc,
-        &imports,
-        &scope,
-        199,
+        site_of(alloc, &imports, &scope),
         Basic::Char,
-        Items::new(alloc),
+        Variables::new(alloc),
         e,
     );
     Ok((code_of(counted), code_of(character)))
@@ -250,7 +259,7 @@ fn target_code(alloc: Global, statement: &str) -> Result<(Option<Code>, bool), R
     let scope = scope_of(alloc, &module)?;
     let (d, _) = assigned(&module)?;
     let imports = Imports::empty(alloc);
-    match target(alloc, &imports, &scope, 199, Items::new(alloc), d) {
+    match target(site_of(alloc, &imports, &scope), Variables::new(alloc), d) {
         Ok((of, _, _)) => Ok((None, is_char(&of))),
         Err(rejected) => Ok((fault_in(told(rejected)), false)),
     }
@@ -315,18 +324,15 @@ fn passes_string(alloc: Global, scope: &Scope, d: &Written, es: &[Expr]) -> Resu
                 return Ok(false);
             }
             let formals = signature.formals.as_slice();
-            let none = Items::new(alloc);
+            let none = Variables::new(alloc);
             let (passed, variables) = actuals(
-                alloc,
-                &imports,
-                scope,
-                199,
+                site_of(alloc, &imports, scope),
                 formals,
                 d.name.span,
                 none,
                 es,
             )?;
-            Ok(is_hidden(passed.as_slice(), variables.as_slice()))
+            Ok(is_hidden(passed.as_slice(), variables.into_items().as_slice()))
         }
         _ => Ok(false),
     }
@@ -364,7 +370,7 @@ fn is_first_place(argument: &Argument) -> bool {
 /// Whether an expression is x, as an operand.
 fn is_read(alloc: Global, scope: &Scope, e: &Expr) -> Result<bool, Refused> {
     let imports = Imports::empty(alloc);
-    let (operand, _) = expr(alloc, &imports, scope, 199, Items::new(alloc), e)?;
+    let (operand, _) = expr(site_of(alloc, &imports, scope), Variables::new(alloc), e)?;
     Ok(is_first_number(&operand))
 }
 
@@ -375,8 +381,14 @@ fn is_passed(alloc: Global, scope: &Scope, d: &Written, e: &Expr) -> Result<bool
         kind: FormalKind::Variable,
         of: ObType::Basic(Basic::Integer),
     };
-    let none = Items::new(alloc);
-    let (passed, _) = actual(alloc, &imports, scope, 199, none, &formal, d.name.span, e)?;
+    let none = Variables::new(alloc);
+    let (passed, _) = actual(
+        site_of(alloc, &imports, scope),
+        none,
+        &formal,
+        d.name.span,
+        e,
+    )?;
     Ok(is_first_place(&passed))
 }
 

@@ -3,9 +3,9 @@
 
 use ob_base::{Code, Items, Refused};
 use ob_check::check;
-use ob_declare::Imports;
 use ob_parse::parse_text;
-use ob_parse::tree::Cell;
+use ob_scope::Imports;
+use ob_tree::tree::Cell;
 use std::alloc::Global;
 use std::test::Fail;
 

@@ -13,7 +13,7 @@ ghost use Rattle.jk_world.specs.Counts.{TellCounts};
 ghost use Rattle.jk_world.specs.Requests.{IsShownRight};
 ghost use Rattle.jk_world.specs.Parents.{ParentsFit};
 ghost use Rattle.jk_world.specs.Answers.{AreShownOnce};
-ghost use Rattle.ob_parse.specs.declared.tree.Cell.{Cell};
+ghost use Rattle.ob_tree.specs.declared.tree.Cell.{Cell};
 ghost use Rattle.ob_session.specs.Session.{Session};
 ghost use Rattle.ob_cell.specs.Oberon.{spoken_oberon};
 

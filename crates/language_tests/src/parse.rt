@@ -1,6 +1,6 @@
 use ob_base::{Code, Refused};
 use ob_parse::parse_text;
-use ob_parse::tree::{Cell, Module, Statement};
+use ob_tree::tree::{Cell, Module, Statement};
 use std::alloc::{AllocError, Global};
 use std::test::Fail;
 

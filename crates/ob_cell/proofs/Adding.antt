@@ -3,9 +3,9 @@ use Rattle.std.proofs.Common.{◌≡◌, ℕ, zero, suc, Bool, cond, ◌||◌, L
 use Rattle.std.specs.List.{list_any}
 use Rattle.std.specs.Str.{bytes_eq}
 use Rattle.std.proofs.lemmas.Option.{slice_get-map}
-use Rattle.ob_declare.specs.Exports.{Modules as Loaded, module_names}
-use Rattle.ob_declare.specs.Names.{place_in}
-use Rattle.ob_declare.specs.Imports.{added, module_place}
+use Rattle.ob_scope.specs.Exports.{Modules as Loaded, module_names}
+use Rattle.ob_scope.specs.Names.{place_in}
+use Rattle.ob_scope.specs.Imports.{added, module_place}
 use Rattle.ob_session.specs.Session.{Import, Module, name_of, find_module}
 use Rattle.ob_link.specs.Reaching as found
 use Rattle.ob_cell.specs.Texts as meaning

@@ -16,17 +16,17 @@ use Rattle.ob_mean.specs.declared.face.Heading.{Heading}
 use Rattle.ob_mean.specs.declared.module.TypedProcedure.{TypedProcedure}
 use Rattle.ob_mean.specs.WellFormed.{AreHeadings, IsFaceOf, own_heading}
 use Rattle.ob_parse.specs.CellText.{IsCellOf}
-use Rattle.ob_parse.specs.declared.tree.Cell.TheVariants as cells
-use Rattle.ob_parse.specs.declared.tree.Module as tree
+use Rattle.ob_tree.specs.declared.tree.Cell.TheVariants as cells
+use Rattle.ob_tree.specs.declared.tree.Module as tree
 use Rattle.ob_types.specs.InterfaceTree.{InterfaceTree}
-use Rattle.ob_declare.specs.declared.block.Declared.{Declared}
-use Rattle.ob_declare.specs.declared.block.Entry.{Entry}
-use Rattle.ob_declare.specs.declared.block.Entry.TheVariants as entry
-use Rattle.ob_declare.specs.Exports.{Modules as Loaded, module_names}
-use Rattle.ob_declare.specs.Imports.{module_place, reaches}
-use Rattle.ob_declare.specs.LoadedTree.{LoadedTree}
-use Rattle.ob_declare.specs.Names.{place_in, is_among}
-use Rattle.ob_declare.specs.Rule.{gives}
+use Rattle.ob_scope.specs.declared.block.Declared.{Declared}
+use Rattle.ob_scope.specs.declared.block.Entry.{Entry}
+use Rattle.ob_scope.specs.declared.block.Entry.TheVariants as entry
+use Rattle.ob_scope.specs.Exports.{Modules as Loaded, module_names}
+use Rattle.ob_scope.specs.Imports.{module_place, reaches}
+use Rattle.ob_scope.specs.LoadedTree.{LoadedTree}
+use Rattle.ob_scope.specs.Names.{place_in, is_among}
+use Rattle.ob_scope.specs.Rule.{gives}
 use Rattle.ob_check.specs.CheckedTree.{CheckedTree}
 use Rattle.ob_check.specs.declared.checked.Imported.{Imported}
 use Rattle.ob_check.specs.Modules.{with_key, imported_by, all_imported, module_at}

@@ -3,32 +3,32 @@ use Rattle.std.proofs.Common.{ℕ, zero, suc, true, false, List, [], ◌∷◌, 
 use Rattle.ob_scan.specs.declared.token.Kind.TheVariants as kinds
 use Rattle.ob_scan.specs.declared.token.Symbol.{Symbol}
 use Rattle.ob_scan.specs.declared.token.Symbol.TheVariants as s
-use Rattle.ob_parse.specs.declared.tree.AddedTerm.{AddedTerm, out-AddedTerm}
-use Rattle.ob_parse.specs.declared.tree.Branch.{Branch, out-Branch}
-use Rattle.ob_parse.specs.declared.tree.Case.{Case, out-Case}
-use Rattle.ob_parse.specs.declared.tree.Designator.{Designator, out-Designator}
-use Rattle.ob_parse.specs.declared.tree.Expr.{Expr, out-Expr}
-use Rattle.ob_parse.specs.declared.tree.Factor.{Factor, out-Factor}
-use Rattle.ob_parse.specs.declared.tree.Factor.TheOpen.{Factor-F, Selector-F}
-use Rattle.ob_parse.specs.declared.tree.ForHead.{ForHead}
-use Rattle.ob_parse.specs.declared.tree.IdentDef.{IdentDef}
-use Rattle.ob_parse.specs.declared.tree.Label.{Label}
-use Rattle.ob_parse.specs.declared.tree.Label.TheVariants as labels
-use Rattle.ob_parse.specs.declared.tree.LabelRange.{LabelRange}
-use Rattle.ob_parse.specs.declared.tree.NextFactor.{NextFactor, out-NextFactor}
-use Rattle.ob_parse.specs.declared.tree.Qualident.{Qualident}
-use Rattle.ob_parse.specs.declared.tree.Related.{Related, out-Related}
-use Rattle.ob_parse.specs.declared.tree.Selector.{Selector, out-Selector}
-use Rattle.ob_parse.specs.declared.tree.Simple.{Simple, out-Simple}
-use Rattle.ob_parse.specs.declared.tree.Statement.{Statement, out-Statement}
-use Rattle.ob_parse.specs.declared.tree.Statement.TheOpen.{Statement-F}
-use Rattle.ob_parse.specs.declared.tree.Term.{Term, out-Term}
-use Rattle.ob_parse.specs.Expression as p
-use Rattle.ob_parse.specs.Expression.{FactorLayer, SelectorLayer, mul_symbol, add_symbol, relation_symbol, sign_phrase, sign_symbol}
-use Rattle.ob_parse.specs.Name as n
-use Rattle.ob_parse.specs.Phrase.{Phrase, ◌⨾◌, symbol_at, symbol, ident}
-use Rattle.ob_parse.specs.Statement as st
-use Rattle.ob_parse.specs.Statement.{StatementLayer}
+use Rattle.ob_tree.specs.declared.tree.AddedTerm.{AddedTerm, out-AddedTerm}
+use Rattle.ob_tree.specs.declared.tree.Branch.{Branch, out-Branch}
+use Rattle.ob_tree.specs.declared.tree.Case.{Case, out-Case}
+use Rattle.ob_tree.specs.declared.tree.Designator.{Designator, out-Designator}
+use Rattle.ob_tree.specs.declared.tree.Expr.{Expr, out-Expr}
+use Rattle.ob_tree.specs.declared.tree.Factor.{Factor, out-Factor}
+use Rattle.ob_tree.specs.declared.tree.Factor.TheOpen.{Factor-F, Selector-F}
+use Rattle.ob_tree.specs.declared.tree.ForHead.{ForHead}
+use Rattle.ob_tree.specs.declared.tree.IdentDef.{IdentDef}
+use Rattle.ob_tree.specs.declared.tree.Label.{Label}
+use Rattle.ob_tree.specs.declared.tree.Label.TheVariants as labels
+use Rattle.ob_tree.specs.declared.tree.LabelRange.{LabelRange}
+use Rattle.ob_tree.specs.declared.tree.NextFactor.{NextFactor, out-NextFactor}
+use Rattle.ob_tree.specs.declared.tree.Qualident.{Qualident}
+use Rattle.ob_tree.specs.declared.tree.Related.{Related, out-Related}
+use Rattle.ob_tree.specs.declared.tree.Selector.{Selector, out-Selector}
+use Rattle.ob_tree.specs.declared.tree.Simple.{Simple, out-Simple}
+use Rattle.ob_tree.specs.declared.tree.Statement.{Statement, out-Statement}
+use Rattle.ob_tree.specs.declared.tree.Statement.TheOpen.{Statement-F}
+use Rattle.ob_tree.specs.declared.tree.Term.{Term, out-Term}
+use Rattle.ob_tree.specs.Expression as p
+use Rattle.ob_tree.specs.Expression.{FactorLayer, SelectorLayer, mul_symbol, add_symbol, relation_symbol, sign_phrase, sign_symbol}
+use Rattle.ob_tree.specs.Name as n
+use Rattle.ob_tree.specs.Phrase.{Phrase, ◌⨾◌, symbol_at, symbol, ident}
+use Rattle.ob_tree.specs.Statement as st
+use Rattle.ob_tree.specs.Statement.{StatementLayer}
 use Rattle.ob_cell.proofs.Tokens.{Keeps, then, one, empty, never, sign, mark, name, deeper, every, perhaps, between, list_of, behind_word}
 
 -- ---- names and labels

@@ -3,16 +3,16 @@ use Rattle.std.proofs.Common.{◌≡◌, ℕ, Bool, true, false, cond, List, [],
 use Rattle.std.specs.Prelude.{IsSome, IfOk, IfErr, IsErrAnd, ◌≢◌}
 use Rattle.std.specs.Str.{bytes_eq}
 use Rattle.ob_base.specs.declared.fault.Code.{Code}
-use Rattle.ob_declare.specs.declared.rule.RuleCode.{RuleCode}
+use Rattle.ob_scope.specs.declared.rule.RuleCode.{RuleCode}
 use Rattle.ob_base.specs.declared.fault.Refused.{Refused}
 use Rattle.ob_base.specs.declared.fault.Refused.TheVariants as refused
-use Rattle.ob_parse.specs.declared.tree.Cell.TheVariants as cells
-use Rattle.ob_parse.specs.declared.tree.Module as tree
+use Rattle.ob_tree.specs.declared.tree.Cell.TheVariants as cells
+use Rattle.ob_tree.specs.declared.tree.Module as tree
 use Rattle.ob_mean.specs.declared.face.Face.{Face}
 use Rattle.ob_mean.specs.Values.{Value}
-use Rattle.ob_declare.specs.Exports.{Modules as Loaded}
-use Rattle.ob_declare.specs.Rule.{answer, gives, ◌>>=◌}
-use Rattle.ob_declare.proofs.Exact.{only}
+use Rattle.ob_scope.specs.Exports.{Modules as Loaded}
+use Rattle.ob_scope.specs.Rule.{answer, gives, ◌>>=◌}
+use Rattle.ob_scope.proofs.Exact.{only}
 use Rattle.ob_check.specs.CheckedTree.{CheckedTree}
 use Rattle.ob_check.specs.Codes.{IsAnswer, IsRefused}
 use Rattle.ob_check.specs.declared.checked.Imported.{Imported}

@@ -4,31 +4,31 @@ use Rattle.ob_scan.specs.declared.token.Symbol.{Symbol}
 use Rattle.ob_scan.specs.declared.token.Symbol.TheVariants as s
 use Rattle.ob_scan.specs.declared.token.Token.{Token}
 use Rattle.ob_scan.specs.Places.{start_of_text}
-use Rattle.ob_parse.specs.declared.tree.Cell.TheVariants as cells
-use Rattle.ob_parse.specs.declared.tree.ConstDeclaration.{ConstDeclaration}
-use Rattle.ob_parse.specs.declared.tree.Declarations.{Declarations, out-Declarations}
-use Rattle.ob_parse.specs.declared.tree.FormalSection.{FormalSection}
-use Rattle.ob_parse.specs.declared.tree.FormalType.{FormalType, out-FormalType}
-use Rattle.ob_parse.specs.declared.tree.FormalType.TheOpen.{FormalType-F}
-use Rattle.ob_parse.specs.declared.tree.Formals.{Formals}
-use Rattle.ob_parse.specs.declared.tree.Ident.{Ident}
-use Rattle.ob_parse.specs.declared.tree.IdentDef.{IdentDef}
-use Rattle.ob_parse.specs.declared.tree.Import.{Import}
-use Rattle.ob_parse.specs.declared.tree.Module.{Module}
-use Rattle.ob_parse.specs.declared.tree.Procedure.{Procedure, out-Procedure}
-use Rattle.ob_parse.specs.declared.tree.Returned.{Returned}
-use Rattle.ob_parse.specs.declared.tree.TypeDeclaration.{TypeDeclaration}
-use Rattle.ob_parse.specs.declared.tree.TypedNames.{TypedNames, out-TypedNames}
-use Rattle.ob_parse.specs.declared.tree.TypeExpr.{TypeExpr, out-TypeExpr}
-use Rattle.ob_parse.specs.declared.tree.TypeExpr.TheOpen.{TypeExpr-F}
+use Rattle.ob_tree.specs.declared.tree.Cell.TheVariants as cells
+use Rattle.ob_tree.specs.declared.tree.ConstDeclaration.{ConstDeclaration}
+use Rattle.ob_tree.specs.declared.tree.Declarations.{Declarations, out-Declarations}
+use Rattle.ob_tree.specs.declared.tree.FormalSection.{FormalSection}
+use Rattle.ob_tree.specs.declared.tree.FormalType.{FormalType, out-FormalType}
+use Rattle.ob_tree.specs.declared.tree.FormalType.TheOpen.{FormalType-F}
+use Rattle.ob_tree.specs.declared.tree.Formals.{Formals}
+use Rattle.ob_tree.specs.declared.tree.Ident.{Ident}
+use Rattle.ob_tree.specs.declared.tree.IdentDef.{IdentDef}
+use Rattle.ob_tree.specs.declared.tree.Import.{Import}
+use Rattle.ob_tree.specs.declared.tree.Module.{Module}
+use Rattle.ob_tree.specs.declared.tree.Procedure.{Procedure, out-Procedure}
+use Rattle.ob_tree.specs.declared.tree.Returned.{Returned}
+use Rattle.ob_tree.specs.declared.tree.TypeDeclaration.{TypeDeclaration}
+use Rattle.ob_tree.specs.declared.tree.TypedNames.{TypedNames, out-TypedNames}
+use Rattle.ob_tree.specs.declared.tree.TypeExpr.{TypeExpr, out-TypeExpr}
+use Rattle.ob_tree.specs.declared.tree.TypeExpr.TheOpen.{TypeExpr-F}
 use Rattle.ob_parse.specs.CellText.{IsCellOf}
-use Rattle.ob_parse.specs.Declaration as d
-use Rattle.ob_parse.specs.Expression as expression
+use Rattle.ob_tree.specs.Declaration as d
+use Rattle.ob_tree.specs.Expression as expression
 use Rattle.ob_parse.specs.Grammar as grammar
-use Rattle.ob_parse.specs.Name as n
-use Rattle.ob_parse.specs.Phrase.{Phrase, ◌⨾◌, symbol_at, symbol, ident, each, separated, listed, optional}
-use Rattle.ob_parse.specs.Statement as st
-use Rattle.ob_parse.specs.Structure as t
+use Rattle.ob_tree.specs.Name as n
+use Rattle.ob_tree.specs.Phrase.{Phrase, ◌⨾◌, symbol_at, symbol, ident, each, separated, listed, optional}
+use Rattle.ob_tree.specs.Statement as st
+use Rattle.ob_tree.specs.Structure as t
 use Rattle.ob_load.specs.Words.{IsWord}
 use Rattle.ob_cell.proofs.Tokens.{TokenWords, token_words, Keeps, then, never, sign, mark, name, deeper, every, perhaps, between, list_of, behind_word}
 use Rattle.ob_cell.proofs.Passed as passed

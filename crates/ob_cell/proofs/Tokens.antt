@@ -11,8 +11,8 @@ use Rattle.ob_scan.specs.declared.token.Span.{Span}
 use Rattle.ob_scan.specs.declared.token.Symbol.{Symbol}
 use Rattle.ob_scan.specs.declared.token.Token.{Token}
 use Rattle.ob_scan.specs.Tokens.{WordKind, NumberKind, StandsAs, Scans, done, next, class_at, suffix_of}
-use Rattle.ob_parse.specs.Phrase.{Phrase, ◌⨾◌, nothing, symbol_at, symbol, ident, each, maybe, separated, listed, opens, optional}
-use Rattle.ob_parse.specs.declared.tree.Ident.{Ident}
+use Rattle.ob_tree.specs.Phrase.{Phrase, ◌⨾◌, nothing, symbol_at, symbol, ident, each, maybe, separated, listed, opens, optional}
+use Rattle.ob_tree.specs.declared.tree.Ident.{Ident}
 use Rattle.ob_load.specs.Words.{IsWord}
 
 abbrev pub KindWord : Kind → Type 0

@@ -1,26 +1,26 @@
 -- The interface of a checked module has names that are words, and its imports don't reach it.
 use Rattle.std.proofs.Common.{◌≡◌, ℕ, zero, suc, ◌++◌, Bool, true, false, List, [], ◌∷◌, refl, sym, ap, ◌∙◌, subst}
 use Rattle.std.specs.Prelude.{◌&&◌}
-use Rattle.ob_parse.specs.declared.tree.ConstDeclaration.{ConstDeclaration}
-use Rattle.ob_parse.specs.declared.tree.Declarations.{Declarations, out-Declarations}
-use Rattle.ob_parse.specs.declared.tree.IdentDef.{IdentDef}
-use Rattle.ob_parse.specs.declared.tree.Module.{Module}
-use Rattle.ob_parse.specs.declared.tree.Procedure.{Procedure, out-Procedure}
-use Rattle.ob_parse.specs.declared.tree.TypeDeclaration.{TypeDeclaration}
-use Rattle.ob_parse.specs.declared.tree.TypedNames.{TypedNames, out-TypedNames}
+use Rattle.ob_tree.specs.declared.tree.ConstDeclaration.{ConstDeclaration}
+use Rattle.ob_tree.specs.declared.tree.Declarations.{Declarations, out-Declarations}
+use Rattle.ob_tree.specs.declared.tree.IdentDef.{IdentDef}
+use Rattle.ob_tree.specs.declared.tree.Module.{Module}
+use Rattle.ob_tree.specs.declared.tree.Procedure.{Procedure, out-Procedure}
+use Rattle.ob_tree.specs.declared.tree.TypeDeclaration.{TypeDeclaration}
+use Rattle.ob_tree.specs.declared.tree.TypedNames.{TypedNames, out-TypedNames}
 use Rattle.ob_types.specs.declared.exports.Signature.{Signature}
 use Rattle.ob_types.specs.declared.structure.ObType.{ObType}
-use Rattle.ob_declare.specs.declared.block.Declared.{Declared}
-use Rattle.ob_declare.specs.declared.block.Entry.TheVariants as entry
+use Rattle.ob_scope.specs.declared.block.Declared.{Declared}
+use Rattle.ob_scope.specs.declared.block.Entry.TheVariants as entry
 use Rattle.ob_declare.specs.declared.heading.Entered.{Entered}
-use Rattle.ob_declare.specs.declared.scope.Scope.{Scope}
+use Rattle.ob_scope.specs.declared.scope.Scope.{Scope}
 use Rattle.ob_declare.specs.Declarations.{new_constant, constant_rule, new_type, type_rule, exported_variable, own_variable, local_variable, variable_in, variable_rule, typed_variables, variables_rule, declarations_rule, max_nesting, has_mark}
-use Rattle.ob_declare.specs.Exports.{Modules}
+use Rattle.ob_scope.specs.Exports.{Modules}
 use Rattle.ob_declare.specs.Headings.{new_procedure, procedure_rule}
 use Rattle.ob_declare.specs.Interfaces.{interface_of}
-use Rattle.ob_declare.specs.Rule.{gives}
-use Rattle.ob_declare.specs.Scope.{left, left_into}
-use Rattle.ob_declare.specs.Stack.{is_empty}
+use Rattle.ob_scope.specs.Rule.{gives}
+use Rattle.ob_scope.specs.Scope.{left, left_into}
+use Rattle.ob_scope.specs.Stack.{is_empty}
 use Rattle.ob_check.specs.CheckedTree.{CheckedTree}
 use Rattle.ob_check.specs.Modules.{all_imported, body_rule, procedures_rule, checked_rule, module_at}
 use Rattle.ob_check.specs.Procedures.{Checking, procedures_in, body_of, inside_of, procedure_of, procedure_at}

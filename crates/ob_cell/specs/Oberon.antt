@@ -2,9 +2,9 @@
 -- The meaning of the texts of Oberon, as a kernel speaks of a language (Wirth, The Programming Language Oberon, Oberon-07).
 use Rattle.std.specs.Prelude.{◌≡◌, ◌⊎◌, ℕ, List, Option, Some, None}
 use Rattle.ob_base.specs.declared.fault.Code.{Code}
-use Rattle.ob_parse.specs.declared.tree.Cell.{Cell}
+use Rattle.ob_tree.specs.declared.tree.Cell.{Cell}
 use Rattle.ob_parse.specs.CellText.{IsCellOf, Breaks}
-use Rattle.ob_declare.specs.Rule.{gives}
+use Rattle.ob_scope.specs.Rule.{gives}
 use Rattle.ob_session.specs.Session.{Session, opening}
 use Rattle.ob_session.specs.Cells as cells
 use Rattle.ob_session.specs.Cells.{CellMeaning, Checked, checked_meaning, unlinked}

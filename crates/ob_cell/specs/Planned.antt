@@ -2,10 +2,10 @@
 use Rattle.std.specs.Prelude.{◌≡◌, ℕ, List, map, option_map, Option, Some, None, Ok}
 use Rattle.ob_base.specs.declared.fault.Refused.{Refused}
 use Rattle.ob_base.specs.declared.fault.Refused.TheVariants as refused
-use Rattle.ob_parse.specs.declared.tree.Cell.{Cell}
+use Rattle.ob_tree.specs.declared.tree.Cell.{Cell}
 use Rattle.ob_mean.specs.declared.face.Face.{Face}
 use Rattle.ob_mean.specs.WellFormed.{IsFaceOf, IsWellFormed}
-use Rattle.ob_declare.specs.Rule.{answer}
+use Rattle.ob_scope.specs.Rule.{answer}
 use Rattle.ob_fit.specs.Fitting.{face_of_interface}
 use Rattle.ob_types.specs.Solid.{ExportsSolid}
 use Rattle.ob_session.specs.Session.{Session, Module, Import, name_of, find_module, link_fault}

@@ -6,15 +6,15 @@ use Rattle.std.specs.Prelude.{◌≡◌, ℕ, zero, suc, Bool, false, ◌||◌, 
 use Rattle.std.specs.List.{list_any}
 use Rattle.std.specs.Str.{bytes_eq}
 use Rattle.ob_base.specs.declared.fault.Code.{Code}
-use Rattle.ob_declare.specs.declared.rule.RuleCode.{RuleCode}
+use Rattle.ob_scope.specs.declared.rule.RuleCode.{RuleCode}
 use Rattle.ob_inout.specs.Reading.{Line}
-use Rattle.ob_parse.specs.declared.tree.Cell.{Cell}
-use Rattle.ob_parse.specs.declared.tree.Cell.TheVariants as cells
-use Rattle.ob_parse.specs.declared.tree.Command.{Command}
+use Rattle.ob_tree.specs.declared.tree.Cell.{Cell}
+use Rattle.ob_tree.specs.declared.tree.Cell.TheVariants as cells
+use Rattle.ob_tree.specs.declared.tree.Command.{Command}
 use Rattle.ob_parse.specs.TreeOf.{cell_of}
-use Rattle.ob_declare.specs.LoadedTree.{LoadedTree}
-use Rattle.ob_declare.specs.Rule.{Rule, Given, Then, answer}
-use Rattle.ob_declare.specs.RuleCodes.{code_of}
+use Rattle.ob_scope.specs.LoadedTree.{LoadedTree}
+use Rattle.ob_scope.specs.Rule.{Rule, Given, Then, answer}
+use Rattle.ob_scope.specs.RuleCodes.{code_of}
 use Rattle.ob_check.specs.CheckedTree.{CheckedTree}
 use Rattle.ob_check.specs.declared.checked.Imported.{Imported}
 use Rattle.ob_check.specs.Modules.{module_at}

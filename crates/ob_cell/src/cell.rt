@@ -13,7 +13,7 @@ use crate::module::module_plan;
 use crate::planned::Plan;
 use ob_base::Refused;
 use ob_link::Modules;
-use ob_parse::tree::Cell;
+use ob_tree::tree::Cell;
 use std::alloc::Global;
 
 /// What a cell comes to before it runs, in a session of these modules: a module that keeps the rules and links is compiled,

@@ -1,7 +1,7 @@
 //! Cells that are commands.
 
 ghost use Rattle.std.specs.Prelude.{◌≡◌, map, IfOk};
-ghost use Rattle.ob_parse.specs.declared.tree.Cell.TheVariants as cells;
+ghost use Rattle.ob_tree.specs.declared.tree.Cell.TheVariants as cells;
 ghost use Rattle.ob_mean.specs.Values.{Value};
 ghost use Rattle.ob_cell.specs.Texts as meaning;
 ghost use Rattle.ob_link.specs.Looking.{in_store};
@@ -9,7 +9,7 @@ ghost use Rattle.ob_cell.specs.Planned.{IsPlanned};
 
 use crate::planned::Plan;
 use ob_link::{CommandName, Modules, Ready};
-use ob_parse::tree::Command;
+use ob_tree::tree::Command;
 use std::alloc::{AllocError, Global};
 
 fn names_of(alloc: Global, commands: &[Command]) -> Result<Vec<CommandName>, AllocError>

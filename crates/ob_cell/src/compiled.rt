@@ -10,7 +10,7 @@ use crate::planned::Planned;
 use ob_base::Items;
 use ob_check::{Checked, Imported};
 use ob_compile::{compile, face_of, faces_of};
-use ob_declare::Imports;
+use ob_scope::Imports;
 use ob_link::{KeyedImport, SessionModule};
 use ob_mean::Face;
 use std::alloc::{AllocError, Global};
@@ -46,7 +46,7 @@ fn items_of(alloc: Global, faces: Vec<Face>) -> Result<Items<Face>, AllocError>
 ///
 /// # Errors
 ///
-/// Want of memory; and where variables have more cells than there are addresses.
+/// Want of memory; and where something has 2^64 cells or more.
 pub fn compiled(
     alloc: Global,
     loaded: &Imports,

@@ -1,14 +1,14 @@
 //! The modules that are loaded, as the static rules see them.
 
 ghost use Rattle.std.specs.Prelude.{◌≡◌, [], ◌∷◌, map, None, IfOk, if◌then◌else◌};
-ghost use Rattle.ob_declare.specs.Imports.{added, module_place};
+ghost use Rattle.ob_scope.specs.Imports.{added, module_place};
 ghost use Rattle.ob_cell.specs.Texts as meaning;
 ghost use Rattle.ob_link.specs.Modules.{AllDistinct};
 
 use ob_base::Text;
-use ob_declare::Imports;
+use ob_scope::Imports;
 use ob_link::{Modules, SessionModule};
-use ob_parse::tree::{Import, Module};
+use ob_tree::tree::{Import, Module};
 use std::alloc::{AllocError, Global};
 
 // A name alone.

@@ -1,7 +1,7 @@
 //! Cells that are modules.
 
 ghost use Rattle.std.specs.Prelude.{ℕ, List, IfOk, IfErr};
-ghost use Rattle.ob_parse.specs.declared.tree.Cell.TheVariants as cells;
+ghost use Rattle.ob_tree.specs.declared.tree.Cell.TheVariants as cells;
 ghost use Rattle.ob_mean.specs.Values.{Value};
 ghost use Rattle.ob_link.specs.Looking.{in_store};
 ghost use Rattle.ob_link.specs.Modules.{AllSolid, AllDistinct};
@@ -15,13 +15,13 @@ use crate::planned::Plan;
 use ob_base::Refused;
 use ob_check::check;
 use ob_link::{LinkFault, Modules};
-use ob_parse::tree::Module;
+use ob_tree::tree::Module;
 use std::alloc::Global;
 
 /// The module, checked, and compiled where it links.
 ///
-/// `Refused::Fault` has the code of a broken rule and the place of a token there; `Refused::Memory` where memory was refused,
-/// or where variables have more cells than there are addresses.
+/// `Refused::Fault` has the code of a broken rule and the place of a token there; `Refused::Memory` where memory was refused, or
+/// where something has 2^64 cells or more.
 #[tactic(none)]
 pub fn module_plan(alloc: Global, modules: &Modules, tree: &Module) -> Result<Plan, Refused>
     requires solid { AllSolid modules.now }

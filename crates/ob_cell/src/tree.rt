@@ -3,7 +3,7 @@
 ghost use Rattle.std.specs.Prelude.{◌≡◌, ℕ, List};
 ghost use Rattle.ob_cell.specs.Oberon.{IsTreeOf};
 
-use ob_parse::tree::Cell;
+use ob_tree::tree::Cell;
 use std::marker::Model;
 
 /// A tree that is some text's. Contracts see the tree.
@@ -14,8 +14,8 @@ pub struct Tree {
 
 impl Model for Tree {
     ghost use Rattle.std.specs.Prelude.{ℕ, List};
-    ghost use Rattle.ob_parse.specs.contracts.tree.Cell as tree;
-    ghost use Rattle.ob_parse.specs.declared.tree.Cell.{Cell};
+    ghost use Rattle.ob_tree.specs.contracts.tree.Cell as tree;
+    ghost use Rattle.ob_tree.specs.declared.tree.Cell.{Cell};
     ghost use Rattle.ob_cell.specs.Oberon.{IsTreeOf};
 
     ghost Value = { Cell };

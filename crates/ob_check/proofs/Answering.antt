@@ -3,13 +3,13 @@ use Rattle.std.proofs.Common.{◌≡◌, true, Result, Ok, Err, refl, sym, ◌�
 use Rattle.std.specs.Prelude.{IfOk, IfErr}
 use Rattle.ob_base.specs.declared.fault.Refused.{Refused}
 use Rattle.ob_base.specs.declared.fault.Refused.TheVariants as refused
-use Rattle.ob_declare.specs.declared.rejected.Rejected.{Rejected}
-use Rattle.ob_declare.specs.declared.rejected.Rejected.TheVariants as rejected
-use Rattle.ob_declare.specs.declared.rule.RuleCode.{RuleCode}
-use Rattle.ob_declare.specs.declared.rule.RuleCode.TheVariants as rule
-use Rattle.ob_declare.specs.Rule.{Rule, Judges, gives, answer}
-use Rattle.ob_declare.specs.RuleCodes.{code_of}
-use Rattle.ob_declare.proofs.Exact as exact
+use Rattle.ob_scope.specs.declared.rejected.Rejected.{Rejected}
+use Rattle.ob_scope.specs.declared.rejected.Rejected.TheVariants as rejected
+use Rattle.ob_scope.specs.declared.rule.RuleCode.{RuleCode}
+use Rattle.ob_scope.specs.declared.rule.RuleCode.TheVariants as rule
+use Rattle.ob_scope.specs.Rule.{Rule, Judges, gives, answer}
+use Rattle.ob_scope.specs.RuleCodes.{code_of}
+use Rattle.ob_scope.proofs.Exact as exact
 use Rattle.ob_check.specs.Codes.{AnswersTree, FaultsOnly, HasRuleCode, IsAnswer, is_rule_code, told_of}
 
 told_answers : {A : Type 0} (r : Rule A) (x : Result A Rejected) → Judges r x → IsAnswer (answer r) (told_of x)

@@ -1,3 +1,2 @@
 pub mod ShapeForms
-pub mod Ranges
 pub mod Answering

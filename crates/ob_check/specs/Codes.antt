@@ -4,11 +4,11 @@ use Rattle.ob_base.specs.declared.fault.Code.{Code}
 use Rattle.ob_base.specs.declared.fault.Code.TheVariants as code
 use Rattle.ob_base.specs.declared.fault.Refused.{Refused}
 use Rattle.ob_base.specs.declared.fault.Refused.TheVariants as refused
-use Rattle.ob_declare.specs.declared.rejected.Rejected.{Rejected}
-use Rattle.ob_declare.specs.declared.rule.RuleCode.{RuleCode}
-use Rattle.ob_declare.specs.Rule.{Rule, gives, breaks_code}
-use Rattle.ob_declare.specs.RuleCodes.{code_of}
-use Rattle.ob_declare.specs.Told.{told}
+use Rattle.ob_scope.specs.declared.rejected.Rejected.{Rejected}
+use Rattle.ob_scope.specs.declared.rule.RuleCode.{RuleCode}
+use Rattle.ob_scope.specs.Rule.{Rule, gives, breaks_code}
+use Rattle.ob_scope.specs.RuleCodes.{code_of}
+use Rattle.ob_scope.specs.Told.{told}
 
 -- the tree that the rules give is the answer, unless memory runs out
 abbrev pub AnswersTree : {A : Type 0} → A → Result A Refused → Type 0

@@ -1,9 +1,3 @@
-pub mod Assignments
-pub mod StandardCalls
-pub mod Calls
-pub mod Labels
-pub mod LabelIndex
-pub mod Statements
 pub mod Shapes
 pub mod Procedures
 pub mod CheckedTree

@@ -1,23 +1,23 @@
 -- To be believed.
 -- Modules (Wirth, The Programming Language Oberon, Oberon-07): the typed module, its interface, and what it imports.
 use Rattle.std.specs.Prelude.{List, [], ◌∷◌, ◌++◌, Option, Some, None, slice_get}
-use Rattle.ob_parse.specs.declared.tree.Declarations.{out-Declarations}
-use Rattle.ob_parse.specs.declared.tree.Module.{Module}
+use Rattle.ob_tree.specs.declared.tree.Declarations.{out-Declarations}
+use Rattle.ob_tree.specs.declared.tree.Module.{Module}
 use Rattle.ob_types.specs.InterfaceText.{interface_text}
 use Rattle.ob_mean.specs.declared.module.ModuleVariable.{ModuleVariable}
 use Rattle.ob_mean.specs.declared.module.ModuleVariable.TheVariants as variable
 use Rattle.ob_mean.specs.declared.module.TypedProcedure.{TypedProcedure}
 use Rattle.ob_mean.specs.declared.statement.TypedStatement.{TypedStatement}
-use Rattle.ob_declare.specs.declared.block.Declared.{Declared}
-use Rattle.ob_declare.specs.declared.block.Entry.{Entry}
-use Rattle.ob_declare.specs.declared.block.Entry.TheVariants as entry
-use Rattle.ob_declare.specs.declared.block.Standing.TheVariants as standing
-use Rattle.ob_declare.specs.declared.scope.Scope.{Scope}
+use Rattle.ob_scope.specs.declared.block.Declared.{Declared}
+use Rattle.ob_scope.specs.declared.block.Entry.{Entry}
+use Rattle.ob_scope.specs.declared.block.Entry.TheVariants as entry
+use Rattle.ob_scope.specs.declared.block.Standing.TheVariants as standing
+use Rattle.ob_scope.specs.declared.scope.Scope.{Scope}
 use Rattle.ob_declare.specs.Declarations as declarations
-use Rattle.ob_declare.specs.Imports.{Modules}
+use Rattle.ob_scope.specs.Imports.{Modules}
 use Rattle.ob_declare.specs.Interfaces.{interface_of, exported_procedures}
-use Rattle.ob_declare.specs.LoadedTree.{LoadedTree}
-use Rattle.ob_declare.specs.Rule.{Rule, Given, Then, through}
+use Rattle.ob_scope.specs.LoadedTree.{LoadedTree}
+use Rattle.ob_scope.specs.Rule.{Rule, Given, Then, through}
 use Rattle.ob_check.specs.Procedures.{Checking, body_at, procedure_at}
 use Rattle.ob_check.specs.CheckedTree.{CheckedTree}
 use Rattle.ob_check.specs.Shapes.{shape_of}

@@ -2,32 +2,32 @@
 -- Procedures (Wirth, The Programming Language Oberon, Oberon-07), with those in them. They are numbered as their ends follow each
 -- other: a procedure comes behind those in it. The number says how many more constructs may nest.
 use Rattle.std.specs.Prelude.{ℕ, zero, suc, ◌+◌, sum, List, [], ◌∷◌, ◌++◌, length, map, Option, Some, None, nat_le, if◌then◌else◌}
-use Rattle.ob_declare.specs.declared.rule.RuleCode.TheVariants as code
-use Rattle.ob_parse.specs.declared.tree.Declarations.{out-Declarations}
-use Rattle.ob_parse.specs.declared.tree.Procedure.{Procedure, out-Procedure}
-use Rattle.ob_parse.specs.declared.tree.Returned.{Returned}
-use Rattle.ob_parse.specs.declared.tree.Statement.{Statement}
+use Rattle.ob_scope.specs.declared.rule.RuleCode.TheVariants as code
+use Rattle.ob_tree.specs.declared.tree.Declarations.{out-Declarations}
+use Rattle.ob_tree.specs.declared.tree.Procedure.{Procedure, out-Procedure}
+use Rattle.ob_tree.specs.declared.tree.Returned.{Returned}
+use Rattle.ob_tree.specs.declared.tree.Statement.{Statement}
 use Rattle.ob_types.specs.declared.exports.Signature.{Signature}
 use Rattle.ob_types.specs.declared.structure.Basic.{Basic}
 use Rattle.ob_mean.specs.declared.expression.TypedExpr.{TypedExpr}
 use Rattle.ob_mean.specs.declared.module.TypedProcedure.{TypedProcedure}
 use Rattle.ob_mean.specs.declared.shape.Shape.{Shape}
 use Rattle.ob_mean.specs.declared.statement.TypedStatement.{TypedStatement}
-use Rattle.ob_declare.specs.declared.block.Declared.{Declared}
-use Rattle.ob_declare.specs.declared.block.Entry.{Entry}
-use Rattle.ob_declare.specs.declared.block.Entry.TheVariants as entry
-use Rattle.ob_declare.specs.declared.block.Standing.TheVariants as standing
+use Rattle.ob_scope.specs.declared.block.Declared.{Declared}
+use Rattle.ob_scope.specs.declared.block.Entry.{Entry}
+use Rattle.ob_scope.specs.declared.block.Entry.TheVariants as entry
+use Rattle.ob_scope.specs.declared.block.Standing.TheVariants as standing
 use Rattle.ob_declare.specs.declared.heading.Entered.{Entered}
-use Rattle.ob_declare.specs.declared.scope.Scope.{Scope}
+use Rattle.ob_scope.specs.declared.scope.Scope.{Scope}
 use Rattle.ob_declare.specs.Declarations.{declarations_rule}
 use Rattle.ob_declare.specs.Headings.{procedure_rule}
-use Rattle.ob_declare.specs.Imports.{Modules}
-use Rattle.ob_declare.specs.Rule.{Rule, Given, Breaks, Then, through}
-use Rattle.ob_declare.specs.Scope.{left}
+use Rattle.ob_scope.specs.Imports.{Modules}
+use Rattle.ob_scope.specs.Rule.{Rule, Given, Breaks, Then, through}
+use Rattle.ob_scope.specs.Scope.{left}
 use Rattle.ob_express.specs.Expressions.{value_for_at}
-use Rattle.ob_express.specs.Operands.{Variables}
+use Rattle.ob_operand.specs.Operands.{Variables}
 use Rattle.ob_check.specs.Shapes.{shape_of, parameters_of}
-use Rattle.ob_check.specs.Statements.{optional, statements_at}
+use Rattle.ob_statement.specs.Statements.{optional, statements_at}
 
 -- the procedures in a procedure
 abbrev pub procedures_in : Procedure → List Procedure

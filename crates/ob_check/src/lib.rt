@@ -1,18 +1,11 @@
-//! The static rules of Oberon-07, and a checker that answers exactly by them.
+//! The static rules of procedures and modules of Oberon-07, and a checker that answers exactly by all rules.
 #![tactic(auto)]
 
-mod assignment;
-mod call;
 mod checked;
-mod for_head;
-mod label;
-mod labels;
 mod made;
 mod module;
 mod procedure;
 mod shapes;
-mod standard_call;
-mod statement;
 
 pub use checked::{Checked, Imported};
 pub use made::Made;

@@ -1,8 +1,8 @@
 //! Modules.
 
 ghost use Rattle.std.specs.Prelude.{◌≡◌, ◌++◌, [], option_copied, IfOk, IfErr};
-ghost use Rattle.ob_parse.specs.declared.tree.Declarations.{out-Declarations};
-ghost use Rattle.ob_declare.specs.Rule.{Judges, gives, answer};
+ghost use Rattle.ob_tree.specs.declared.tree.Declarations.{out-Declarations};
+ghost use Rattle.ob_scope.specs.Rule.{Judges, gives, answer};
 ghost use Rattle.ob_check.specs.CheckedTree.{CheckedTree};
 ghost use Rattle.ob_check.specs.Codes as codes;
 ghost use Rattle.ob_check.specs.Codes.{AnswersTree, FaultsOnly, HasRuleCode, IsAnswer};
@@ -12,16 +12,14 @@ use crate::checked::{Checked, Imported};
 use crate::made::Made;
 use crate::procedure::procedures;
 use crate::shapes::shape_of;
-use crate::statement::optional;
 use ob_base::{Items, Refused, Text};
-use ob_declare::rejected::{Rejected, told};
-use ob_declare::{
-    Declared, Entry, Imports, LoadedModule, MAX_NESTING, Scope, Standing, declared_by,
-    exported_procedures, interface_of,
-};
-use ob_express::Variables;
-use ob_mean::{ModuleVariable, TypedModule, TypedProcedure, TypedStatement};
-use ob_parse::tree::Module;
+use ob_declare::{MAX_NESTING, declared_by, exported_procedures, interface_of};
+use ob_mean::{TypedModule, TypedProcedure, TypedStatement};
+use ob_scope::rejected::{Rejected, told};
+use ob_scope::{Declared, Entry, Imports, LoadedModule, Scope, Site, Standing};
+use ob_statement::statement::optional;
+use ob_strings::Variables;
+use ob_tree::tree::Module;
 use std::alloc::{AllocError, Global};
 
 fn exported_variable(
@@ -35,7 +33,7 @@ fn exported_variable(
     let mut so_far = so_far;
     match entry {
         Entry::Variable(of, Standing::Exported(_)) => {
-            so_far.push(ModuleVariable::Declared(shape_of(alloc, made, of)?))?;
+            so_far.declare(shape_of(alloc, made, of)?)?;
             Ok(so_far)
         }
         _ => Ok(so_far),
@@ -50,7 +48,7 @@ fn exported_variables(
 ) -> Result<Variables, AllocError>
     ensures { IfOk result (λ vs. vs ≡ spec.exported_variables declared.now) }
 {
-    let mut so_far = Items::new(alloc);
+    let mut so_far = Variables::new(alloc);
     for d in declared {
         so_far = exported_variable(alloc, made, so_far, &d.entry)?;
     }
@@ -68,7 +66,7 @@ fn own_variable(
     let mut so_far = so_far;
     match entry {
         Entry::Variable(of, Standing::Own(_)) => {
-            so_far.push(ModuleVariable::Declared(shape_of(alloc, made, of)?))?;
+            so_far.declare(shape_of(alloc, made, of)?)?;
             Ok(so_far)
         }
         _ => Ok(so_far),
@@ -166,7 +164,7 @@ fn checked_of(
     let imported = all_imported(alloc, imports, declared)?;
     let tree = TypedModule {
         name: scope.module_name.copy(alloc)?,
-        variables,
+        variables: variables.into_items(),
         procedures,
         exported,
         body,
@@ -188,7 +186,17 @@ fn with_body(
 {
     let list = tree.body.as_slice();
     let span = tree.name.span;
-    let (body, variables) = optional(alloc, imports, &scope, MAX_NESTING, variables, list, span)?;
+    let (body, variables) = optional(
+        Site {
+            alloc,
+            imports,
+            scope: &scope,
+            levels: MAX_NESTING,
+        },
+        variables,
+        list,
+        span,
+    )?;
     let checked = checked_of(alloc, imports, &scope, done, body, variables)?;
     Ok(checked)
 }

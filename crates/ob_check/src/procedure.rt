@@ -1,23 +1,23 @@
 //! Procedures.
 
 ghost use Rattle.std.specs.Prelude.{◌≡◌, ◌++◌, ◌+◌, suc, sum, map, length, IfOk, IfSome, IfNone};
-ghost use Rattle.ob_parse.specs.declared.tree.Procedure.{out-Procedure};
-ghost use Rattle.ob_declare.specs.Rule.{Judges, through};
+ghost use Rattle.ob_tree.specs.declared.tree.Procedure.{out-Procedure};
+ghost use Rattle.ob_scope.specs.Rule.{Judges, through};
 ghost use Rattle.ob_check.specs.Procedures as spec;
 
 use crate::made::Made;
 use crate::shapes::{parameters_of, shape_of};
-use crate::statement::optional;
 use ob_base::Items;
-use ob_declare::rejected::{Rejected, broken, open};
-use ob_declare::rule::RuleCode;
-use ob_declare::{
-    Declared, Entered, Entry, Imports, Scope, Standing, declare_all, enter_procedure,
-};
-use ob_express::{Variables, assigned_value};
+use ob_declare::{Entered, declare_all, enter_procedure};
+use ob_express::assigned_value;
 use ob_mean::{Shape, TypedExpr, TypedProcedure, TypedStatement};
-use ob_parse::tree::{Procedure, Returned};
 use ob_scan::Span;
+use ob_scope::rejected::{Rejected, broken, open};
+use ob_scope::rule::RuleCode;
+use ob_scope::{Declared, Entry, Imports, Scope, Site, Standing};
+use ob_statement::statement::optional;
+use ob_strings::Variables;
+use ob_tree::tree::{Procedure, Returned};
 use ob_types::{Basic, Signature};
 use std::alloc::{AllocError, Global};
 
@@ -113,16 +113,13 @@ fn own_shapes(
 /// What stands behind RETURN, in a function alone.
 #[tactic(auto, unfolding(crate::specs::Procedures::result_at))]
 fn returned(
-    alloc: Global,
-    imports: &Imports,
-    scope: &Scope,
-    levels: u32,
+    site: Site<'_>,
     basic: Option<Basic>,
     variables: Variables,
     value: &Option<Returned>,
     span: Span,
 ) -> Result<(Option<TypedExpr>, Variables), Rejected>
-    ensures { Judges (spec.result_at imports.now scope.now levels basic variables value.now) result }
+    ensures { Judges (spec.result_at site.entry.imports.now site.entry.scope.now site.entry.levels basic variables value.now) result }
 {
     match (basic, value) {
         (None, None) => Ok((None, variables)),
@@ -130,9 +127,7 @@ fn returned(
         (Some(_), None) => Err(Rejected::Rule(broken(RuleCode::Parameters, span))),
         (Some(basic), Some(r)) => {
             let e = r.value.get();
-            let (e, variables) = assigned_value(
-                alloc, imports, scope, levels, basic, variables, e,
-            )?;
+            let (e, variables) = assigned_value(site, basic, variables, e)?;
             Ok((Some(e), variables))
         }
     }
@@ -177,12 +172,16 @@ fn body_of(
     let mut done = done;
     let span = p.name.name.span;
     let list = p.body.as_slice();
-    let (statements, variables) = optional(alloc, imports, &scope, levels, variables, list, span)?;
+    let site = Site {
+        alloc,
+        imports,
+        scope: &scope,
+        levels,
+    };
+    let (statements, variables) = optional(site, variables, list, span)?;
     let basic = signature.result;
     let value = &p.returned;
-    let (value, variables) = returned(
-        alloc, imports, &scope, levels, basic, variables, value, span,
-    )?;
+    let (value, variables) = returned(site, basic, variables, value, span)?;
     let procedure = typed_procedure(alloc, signature, &scope, statements, value)?;
     done.push(procedure)?;
     Ok((scope.leave(), done, variables))

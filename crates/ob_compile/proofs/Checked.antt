@@ -3,14 +3,14 @@ use Rattle.std.proofs.Common.{◌≡◌, ℕ, zero, suc, Bool, true, false, cond
 use Rattle.std.specs.Prelude.{IsSome}
 use Rattle.std.specs.Str.{bytes_eq}
 use Rattle.std.proofs.lemmas.Slice.Eq.{bytes_eq-Decides}
-use Rattle.ob_parse.specs.declared.tree.Module.{Module}
+use Rattle.ob_tree.specs.declared.tree.Module.{Module}
 use Rattle.ob_mean.specs.declared.face.Face.{Face}
-use Rattle.ob_declare.specs.declared.block.Declared.{Declared}
-use Rattle.ob_declare.specs.declared.block.Entry.{Entry}
-use Rattle.ob_declare.specs.declared.block.Entry.TheVariants as entry
-use Rattle.ob_declare.specs.Exports.{Modules}
-use Rattle.ob_declare.specs.LoadedTree.{LoadedTree}
-use Rattle.ob_declare.specs.Rule.{gives}
+use Rattle.ob_scope.specs.declared.block.Declared.{Declared}
+use Rattle.ob_scope.specs.declared.block.Entry.{Entry}
+use Rattle.ob_scope.specs.declared.block.Entry.TheVariants as entry
+use Rattle.ob_scope.specs.Exports.{Modules}
+use Rattle.ob_scope.specs.LoadedTree.{LoadedTree}
+use Rattle.ob_scope.specs.Rule.{gives}
 use Rattle.ob_check.specs.declared.checked.Imported.{Imported}
 use Rattle.ob_check.specs.CheckedTree.{CheckedTree}
 use Rattle.ob_check.specs.Modules.{all_imported, body_rule, checked_rule, imported_by, module_at, procedures_rule, with_key}
@@ -82,4 +82,4 @@ their_faces ms (i ∷ is) h = first_face ms i is (faces_of ms is) (face_named ms
 pub each_compilable : EachCheckedIsCompilable
 each_compilable ms m c solid h =
     let f = each_checked ms m c solid h in
-    record { known = their_faces ms c.imports (imports_loaded ms m c h); fits = f.0; face = f.1; solid = f.2 }
+    record { known = their_faces ms c.imports (imports_loaded ms m c h); formed = f.0; face = f.1; solid = f.2 }

@@ -1,8 +1,8 @@
 -- The types that loaded modules export have cells after each load.
 use Rattle.std.proofs.Common.{Bool, true, false, cond, [], ◌∷◌}
 use Rattle.std.specs.Str.{bytes_eq}
-use Rattle.ob_declare.specs.Exports.{Modules}
-use Rattle.ob_declare.specs.Imports.{added}
+use Rattle.ob_scope.specs.Exports.{Modules}
+use Rattle.ob_scope.specs.Imports.{added}
 use Rattle.ob_fit.specs.Solid.{EachSolid}
 use Rattle.ob_compile.specs.Compilable.{EachLoadStaysSolid}
 

@@ -6,7 +6,7 @@ ghost use Rattle.ob_fit.specs.Fitting as spec;
 use crate::face::face_of;
 use ob_base::Text;
 use ob_check::Imported;
-use ob_declare::{Imports, LoadedModule};
+use ob_scope::{Imports, LoadedModule};
 use ob_mean::Face;
 use std::alloc::{AllocError, Global};
 

@@ -2,14 +2,14 @@
 
 ghost use Rattle.ob_compile.specs.Compilable.{EachCheckedIsCompilable, EachLoadStaysSolid};
 
-/// Where the types that the loaded modules export have cells, a module that the static rules give can be compiled: each of its
-/// imports is loaded and has its face, the tree fits what is known of them, what its own interface says is so of it, and the types
-/// that it exports have cells too.
+/// Where the types that the loaded modules export have cells and the variables fewer than 2^31, a module that the static rules give
+/// can be compiled: each of its imports is loaded and has its face, the tree is well formed over what is known of them, what its
+/// own interface says is so of it, and what it exports is so too.
 pub fn checked_law()
     ensures { EachCheckedIsCompilable }
 {}
 
-/// The types that the loaded modules export have cells after one more is loaded whose exported types have.
+/// What the loaded modules export is so after one more is loaded of which it is so.
 pub fn load_law()
     ensures { EachLoadStaysSolid }
 {}

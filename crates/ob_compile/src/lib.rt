@@ -6,10 +6,8 @@ mod face;
 mod imports;
 mod laws;
 mod module;
-mod room;
 
 pub use face::face_of;
 pub use imports::faces_of;
 pub use laws::{checked_law, load_law};
 pub use module::compile;
-pub use room::has_room;

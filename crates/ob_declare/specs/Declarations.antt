@@ -3,32 +3,32 @@
 -- Programming Language Oberon, Oberon-07).
 use Rattle.std.specs.Prelude.{ℕ, ◌+◌, List, [], ◌∷◌, ◌++◌, Bool, true, false, not, Option, Some, None, is_some, nat_le, nat_lt, slice_get, if◌then◌else◌}
 use Rattle.std.specs.Str.{bytes_eq}
-use Rattle.ob_declare.specs.declared.rule.RuleCode.TheVariants as code
-use Rattle.ob_parse.specs.declared.tree.ConstDeclaration.{ConstDeclaration}
-use Rattle.ob_parse.specs.declared.tree.Declarations.{Declarations, out-Declarations}
-use Rattle.ob_parse.specs.declared.tree.Ident.{Ident}
-use Rattle.ob_parse.specs.declared.tree.IdentDef.{IdentDef}
-use Rattle.ob_parse.specs.declared.tree.Import.{Import}
-use Rattle.ob_parse.specs.declared.tree.Module.{Module}
-use Rattle.ob_parse.specs.declared.tree.TypeDeclaration.{TypeDeclaration}
-use Rattle.ob_parse.specs.declared.tree.TypedNames.{TypedNames, out-TypedNames}
+use Rattle.ob_scope.specs.declared.rule.RuleCode.TheVariants as code
+use Rattle.ob_tree.specs.declared.tree.ConstDeclaration.{ConstDeclaration}
+use Rattle.ob_tree.specs.declared.tree.Declarations.{Declarations, out-Declarations}
+use Rattle.ob_tree.specs.declared.tree.Ident.{Ident}
+use Rattle.ob_tree.specs.declared.tree.IdentDef.{IdentDef}
+use Rattle.ob_tree.specs.declared.tree.Import.{Import}
+use Rattle.ob_tree.specs.declared.tree.Module.{Module}
+use Rattle.ob_tree.specs.declared.tree.TypeDeclaration.{TypeDeclaration}
+use Rattle.ob_tree.specs.declared.tree.TypedNames.{TypedNames, out-TypedNames}
 use Rattle.ob_types.specs.declared.structure.ObType.{ObType}
 use Rattle.ob_types.specs.Types.{cells}
-use Rattle.ob_declare.specs.declared.block.Declared.{Declared}
-use Rattle.ob_declare.specs.declared.block.Entry.{Entry}
-use Rattle.ob_declare.specs.declared.block.Entry.TheVariants as entry
-use Rattle.ob_declare.specs.declared.block.Standing.TheVariants as standing
-use Rattle.ob_declare.specs.declared.imports.StandardName.{StandardName}
-use Rattle.ob_declare.specs.declared.imports.StandardName.TheVariants as standard
-use Rattle.ob_declare.specs.declared.scope.Scope.{Scope}
-use Rattle.ob_declare.specs.Block.{find}
-use Rattle.ob_declare.specs.Exports.{Modules}
-use Rattle.ob_declare.specs.Imports.{module_place, reaches, standard_named}
-use Rattle.ob_declare.specs.Names.{is_among}
-use Rattle.ob_declare.specs.Rule.{Rule, Given, Breaks, Then, Needs, there, through}
-use Rattle.ob_declare.specs.Constants.{constant_at}
-use Rattle.ob_declare.specs.Scope.{opening, with_entry, naming}
-use Rattle.ob_declare.specs.Stack.{is_empty}
+use Rattle.ob_scope.specs.declared.block.Declared.{Declared}
+use Rattle.ob_scope.specs.declared.block.Entry.{Entry}
+use Rattle.ob_scope.specs.declared.block.Entry.TheVariants as entry
+use Rattle.ob_scope.specs.declared.block.Standing.TheVariants as standing
+use Rattle.ob_scope.specs.declared.imports.StandardName.{StandardName}
+use Rattle.ob_scope.specs.declared.imports.StandardName.TheVariants as standard
+use Rattle.ob_scope.specs.declared.scope.Scope.{Scope}
+use Rattle.ob_scope.specs.Block.{find}
+use Rattle.ob_scope.specs.Exports.{Modules}
+use Rattle.ob_scope.specs.Imports.{module_place, reaches, standard_named}
+use Rattle.ob_scope.specs.Names.{is_among}
+use Rattle.ob_scope.specs.Rule.{Rule, Given, Breaks, Then, Needs, there, through}
+use Rattle.ob_fold.specs.Constants.{constant_at}
+use Rattle.ob_scope.specs.Scope.{opening, with_entry, naming}
+use Rattle.ob_scope.specs.Stack.{is_empty}
 use Rattle.ob_declare.specs.WrittenTypes.{type_at}
 
 -- how many constructs nest

@@ -1,33 +1,33 @@
 -- To be believed.
 -- Headings of procedures: their formal parameters and results (Wirth, The Programming Language Oberon, Oberon-07).
 use Rattle.std.specs.Prelude.{ℕ, zero, suc, List, [], ◌∷◌, ◌++◌, length, Bool, true, false, Option, Some, None, is_some}
-use Rattle.ob_declare.specs.declared.rule.RuleCode.TheVariants as code
-use Rattle.ob_parse.specs.declared.tree.Formals.{Formals}
-use Rattle.ob_parse.specs.declared.tree.FormalSection.{FormalSection}
-use Rattle.ob_parse.specs.declared.tree.FormalType.{FormalType, out-FormalType}
-use Rattle.ob_parse.specs.declared.tree.FormalType.TheOpen.{FormalType-F}
-use Rattle.ob_parse.specs.declared.tree.Ident.{Ident}
-use Rattle.ob_parse.specs.declared.tree.Procedure.{Procedure, out-Procedure}
-use Rattle.ob_parse.specs.declared.tree.Qualident.{Qualident}
+use Rattle.ob_scope.specs.declared.rule.RuleCode.TheVariants as code
+use Rattle.ob_tree.specs.declared.tree.Formals.{Formals}
+use Rattle.ob_tree.specs.declared.tree.FormalSection.{FormalSection}
+use Rattle.ob_tree.specs.declared.tree.FormalType.{FormalType, out-FormalType}
+use Rattle.ob_tree.specs.declared.tree.FormalType.TheOpen.{FormalType-F}
+use Rattle.ob_tree.specs.declared.tree.Ident.{Ident}
+use Rattle.ob_tree.specs.declared.tree.Procedure.{Procedure, out-Procedure}
+use Rattle.ob_tree.specs.declared.tree.Qualident.{Qualident}
 use Rattle.ob_types.specs.declared.exports.FormalKind.{FormalKind}
 use Rattle.ob_types.specs.declared.exports.FormalKind.TheVariants as kind
 use Rattle.ob_types.specs.declared.structure.Basic.{Basic}
 use Rattle.ob_types.specs.declared.structure.ObType.{ObType}
 use Rattle.ob_types.specs.declared.structure.ObType.TheVariants.{Basic as OfBasic, Open}
 use Rattle.ob_types.specs.Types.{is_admitted}
-use Rattle.ob_declare.specs.declared.block.Declared.{Declared}
-use Rattle.ob_declare.specs.declared.block.Entry.TheVariants as entry
-use Rattle.ob_declare.specs.declared.block.Standing.{Standing}
-use Rattle.ob_declare.specs.declared.block.Standing.TheVariants as standing
+use Rattle.ob_scope.specs.declared.block.Declared.{Declared}
+use Rattle.ob_scope.specs.declared.block.Entry.TheVariants as entry
+use Rattle.ob_scope.specs.declared.block.Standing.{Standing}
+use Rattle.ob_scope.specs.declared.block.Standing.TheVariants as standing
 use Rattle.ob_declare.specs.declared.heading.Entered.{Entered}
 use Rattle.ob_declare.specs.declared.heading.Heading.{Heading}
 use Rattle.ob_declare.specs.declared.heading.Parameters.{Parameters}
-use Rattle.ob_declare.specs.declared.scope.Scope.{Scope}
-use Rattle.ob_declare.specs.Block.{find}
+use Rattle.ob_scope.specs.declared.scope.Scope.{Scope}
+use Rattle.ob_scope.specs.Block.{find}
 use Rattle.ob_declare.specs.Declarations.{is_new, has_mark, new_name}
-use Rattle.ob_declare.specs.Exports.{Modules}
-use Rattle.ob_declare.specs.Rule.{Rule, Given, Breaks, Then, Needs, through}
-use Rattle.ob_declare.specs.Scope.{with_entry, in_heading, entered}
+use Rattle.ob_scope.specs.Exports.{Modules}
+use Rattle.ob_scope.specs.Rule.{Rule, Given, Breaks, Then, Needs, through}
+use Rattle.ob_scope.specs.Scope.{with_entry, in_heading, entered}
 use Rattle.ob_declare.specs.WrittenTypes.{type_named}
 
 -- ---- types of formal parameters

@@ -5,9 +5,9 @@ use Rattle.ob_types.specs.InterfaceTree.{InterfaceTree}
 use Rattle.ob_types.specs.declared.exports.Exported.{Exported}
 use Rattle.ob_types.specs.declared.exports.Object.{Object}
 use Rattle.ob_types.specs.declared.exports.Object.TheVariants as object
-use Rattle.ob_declare.specs.declared.block.Declared.{Declared}
-use Rattle.ob_declare.specs.declared.block.Entry.{Entry}
-use Rattle.ob_declare.specs.declared.block.Entry.TheVariants as entry
+use Rattle.ob_scope.specs.declared.block.Declared.{Declared}
+use Rattle.ob_scope.specs.declared.block.Entry.{Entry}
+use Rattle.ob_scope.specs.declared.block.Entry.TheVariants as entry
 
 -- what other modules see of a declaration
 abbrev pub object_of : Entry → Option Object

@@ -1,17 +1,3 @@
-pub mod RuleCodes
-pub mod Told
-pub mod Rule
-pub mod Stack
-pub mod Names
-pub mod Block
-pub mod LoadedTree
-pub mod Exports
-pub mod Predeclared
-pub mod Scope
-pub mod Folding
-pub mod Imports
-pub mod Tables
-pub mod Constants
 pub mod WrittenTypes
 pub mod Declarations
 pub mod Headings

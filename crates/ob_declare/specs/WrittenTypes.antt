@@ -2,15 +2,15 @@
 -- Types as they are written (Wirth, The Programming Language Oberon, Oberon-07). A record type is named by its module, the
 -- procedures round its declaration, the declared name, and how many words RECORD stand before it in that declaration.
 use Rattle.std.specs.Prelude.{ℕ, zero, suc, ◌+◌, ◌*◌, ℤ, pos, negsuc, List, [], ◌∷◌, ◌++◌, length, map, reverse, Bool, true, false, not, Option, Some, None, ◌&&◌, is_some, nat_le, nat_lt, if◌then◌else◌}
-use Rattle.ob_declare.specs.declared.rule.RuleCode.{RuleCode}
-use Rattle.ob_declare.specs.declared.rule.RuleCode.TheVariants as code
-use Rattle.ob_parse.specs.declared.tree.Expr.{Expr}
-use Rattle.ob_parse.specs.declared.tree.Ident.{Ident}
-use Rattle.ob_parse.specs.declared.tree.IdentDef.{IdentDef}
-use Rattle.ob_parse.specs.declared.tree.Qualident.{Qualident}
-use Rattle.ob_parse.specs.declared.tree.TypeExpr.{TypeExpr, out-TypeExpr}
-use Rattle.ob_parse.specs.declared.tree.TypedNames.{TypedNames, out-TypedNames}
-use Rattle.ob_parse.specs.declared.tree.TypeExpr.TheOpen.{TypeExpr-F}
+use Rattle.ob_scope.specs.declared.rule.RuleCode.{RuleCode}
+use Rattle.ob_scope.specs.declared.rule.RuleCode.TheVariants as code
+use Rattle.ob_tree.specs.declared.tree.Expr.{Expr}
+use Rattle.ob_tree.specs.declared.tree.Ident.{Ident}
+use Rattle.ob_tree.specs.declared.tree.IdentDef.{IdentDef}
+use Rattle.ob_tree.specs.declared.tree.Qualident.{Qualident}
+use Rattle.ob_tree.specs.declared.tree.TypeExpr.{TypeExpr, out-TypeExpr}
+use Rattle.ob_tree.specs.declared.tree.TypedNames.{TypedNames, out-TypedNames}
+use Rattle.ob_tree.specs.declared.tree.TypeExpr.TheOpen.{TypeExpr-F}
 use Rattle.ob_types.specs.declared.exports.Constant.{Constant}
 use Rattle.ob_types.specs.declared.exports.Constant.TheVariants as constant
 use Rattle.ob_types.specs.declared.exports.Object.{Object}
@@ -21,20 +21,20 @@ use Rattle.ob_types.specs.declared.structure.ObType.TheVariants.{Basic as OfBasi
 use Rattle.ob_types.specs.declared.structure.RecordName.{RecordName}
 use Rattle.ob_types.specs.declared.structure.RecordType.{roll-RecordType}
 use Rattle.ob_types.specs.Types.{cells, levels, max_cells, max_levels, is_admitted}
-use Rattle.ob_declare.specs.declared.block.Entry.{Entry}
-use Rattle.ob_declare.specs.declared.block.Entry.TheVariants as entry
+use Rattle.ob_scope.specs.declared.block.Entry.{Entry}
+use Rattle.ob_scope.specs.declared.block.Entry.TheVariants as entry
 use Rattle.ob_declare.specs.declared.written_type.Written.{Written}
 use Rattle.ob_declare.specs.declared.written_type.Fields.{Fields}
-use Rattle.ob_declare.specs.declared.predeclared.Predeclared.{Predeclared}
-use Rattle.ob_declare.specs.declared.predeclared.Predeclared.TheVariants as predeclared
-use Rattle.ob_declare.specs.declared.scope.Scope.{Scope}
-use Rattle.ob_declare.specs.Exports.{Modules}
-use Rattle.ob_declare.specs.Imports.{exported_at}
-use Rattle.ob_declare.specs.Names.{is_among}
-use Rattle.ob_declare.specs.Predeclared.{absent, input_named, output_named, is_input, is_output}
-use Rattle.ob_declare.specs.Scope.{seen, outer}
-use Rattle.ob_declare.specs.Rule.{Rule, Given, Breaks, Then, Needs, there, through}
-use Rattle.ob_declare.specs.Constants.{constant_at}
+use Rattle.ob_scope.specs.declared.predeclared.Predeclared.{Predeclared}
+use Rattle.ob_scope.specs.declared.predeclared.Predeclared.TheVariants as predeclared
+use Rattle.ob_scope.specs.declared.scope.Scope.{Scope}
+use Rattle.ob_scope.specs.Exports.{Modules}
+use Rattle.ob_scope.specs.Imports.{exported_at}
+use Rattle.ob_scope.specs.Names.{is_among}
+use Rattle.ob_scope.specs.Predeclared.{absent, input_named, output_named, is_input, is_output}
+use Rattle.ob_scope.specs.Scope.{seen, outer}
+use Rattle.ob_scope.specs.Rule.{Rule, Given, Breaks, Then, Needs, there, through}
+use Rattle.ob_fold.specs.Constants.{constant_at}
 
 -- ---- names of types
 

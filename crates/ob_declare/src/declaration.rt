@@ -1,26 +1,27 @@
 //! Imports and declarations.
 
 ghost use Rattle.std.specs.Prelude.{◌≡◌, ◌≤◌, [], false, None, IfOk};
-ghost use Rattle.ob_declare.specs.declared.rule.RuleCode.TheVariants as code;
-ghost use Rattle.ob_declare.specs.Block.{find};
-ghost use Rattle.ob_declare.specs.Scope.{with_entry};
-ghost use Rattle.ob_declare.specs.Rule.{Judges, Given, gives, AnswersTree, BrokenOnly, there, through};
+ghost use Rattle.ob_scope.specs.declared.rule.RuleCode.TheVariants as code;
+ghost use Rattle.ob_scope.specs.Block.{find};
+ghost use Rattle.ob_scope.specs.Scope.{with_entry};
+ghost use Rattle.ob_scope.specs.Rule.{Judges, Given, gives, AnswersTree, BrokenOnly, there, through};
 ghost use Rattle.ob_declare.specs.Declarations as spec;
-ghost use Rattle.ob_declare.specs.declared.scope.Scope.{Scope};
+ghost use Rattle.ob_scope.specs.declared.scope.Scope.{Scope};
 
-use crate::block::{Block, Entry, Standing};
-use crate::constant::constant;
-use crate::imports::{Imports, StandardName, standard_named};
-use crate::names::Names;
-use crate::rejected::{Rejected, broken};
-use crate::rule::RuleCode;
-use crate::scope::Scope;
 use crate::written_type::written_type;
 use ob_base::Text;
-use ob_parse::tree::{
+use ob_fold::constant::constant;
+use ob_scan::Span;
+use ob_scope::block::{Block, Entry, Standing};
+use ob_scope::imports::{Imports, StandardName, standard_named};
+use ob_scope::names::Names;
+use ob_scope::rejected::{Rejected, broken};
+use ob_scope::rule::RuleCode;
+use ob_scope::scope::Scope;
+use ob_scope::site::Site;
+use ob_tree::tree::{
     ConstDeclaration, Declarations, Ident, IdentDef, Import, Module, TypeDeclaration, TypedNames,
 };
-use ob_scan::Span;
 use ob_types::{ObType, zero_size};
 use std::alloc::Global;
 
@@ -243,7 +244,15 @@ fn new_constant(
 {
     let mut so_far = so_far;
     let name = &d.name.name;
-    let value = constant(alloc, modules, &so_far, nesting, d.value.get())?;
+    let value = constant(
+        Site {
+            alloc,
+            imports: modules,
+            scope: &so_far,
+            levels: nesting,
+        },
+        d.value.get(),
+    )?;
     let mark = d.name.mark.is_some();
     so_far.declare(alloc, &name.name, mark, Entry::Constant(value))?;
     Ok(so_far)

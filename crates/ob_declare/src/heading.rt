@@ -1,23 +1,24 @@
 //! Headings of procedures.
 
 ghost use Rattle.std.specs.Prelude.{◌≡◌, [], None, IfOk};
-ghost use Rattle.ob_declare.specs.Block.{find};
-ghost use Rattle.ob_parse.specs.declared.tree.Procedure.{out-Procedure};
-ghost use Rattle.ob_declare.specs.Rule.{Judges, through};
-ghost use Rattle.ob_declare.specs.Scope.{in_heading};
+ghost use Rattle.ob_scope.specs.Block.{find};
+ghost use Rattle.ob_tree.specs.declared.tree.Procedure.{out-Procedure};
+ghost use Rattle.ob_scope.specs.Rule.{Judges, through};
+ghost use Rattle.ob_scope.specs.Scope.{in_heading};
 ghost use Rattle.ob_declare.specs.Headings as spec;
 
-use crate::block::{Block, Entry, Standing};
 use crate::declaration::new_name;
-use crate::imports::Imports;
-use crate::names::Names;
-use crate::rejected::{Rejected, broken, open};
-use crate::rule::RuleCode;
-use crate::scope::Scope;
 use crate::written_type::type_in_heading;
 use ob_base::{Boxed, Items, Shared};
-use ob_parse::tree::{FormalSection, FormalType, Formals, Ident, Procedure, Qualident};
 use ob_scan::Span;
+use ob_scope::block::{Block, Entry, Standing};
+use ob_scope::imports::Imports;
+use ob_scope::names::Names;
+use ob_scope::rejected::{Rejected, broken, open};
+use ob_scope::rule::RuleCode;
+use ob_scope::scope::Scope;
+use ob_scope::site::Site;
+use ob_tree::tree::{FormalSection, FormalType, Formals, Ident, Procedure, Qualident};
 use ob_types::{Basic, Formal, FormalKind, ObType, Signature, is_admitted};
 use std::alloc::Global;
 
@@ -57,29 +58,14 @@ fn open_of(alloc: Global, element: ObType, span: Span) -> Result<ObType, Rejecte
 /// The type of a formal parameter behind these. `levels` says how many more constructs may nest.
 #[cycle(formal)]
 #[tactic(auto, unfolding(crate::specs::Headings::formal_at, crate::specs::Headings::formal_rule))]
-fn formal_type(
-    alloc: Global,
-    modules: &Imports,
-    scope: &Scope,
-    parameters: &Block,
-    levels: u32,
-    of: &FormalType,
-) -> Result<ObType, Rejected>
-    ensures { Judges (spec.formal_at modules.now (in_heading scope.now parameters.now) levels of.now) result }
+fn formal_type(site: Site<'_>, parameters: &Block, of: &FormalType) -> Result<ObType, Rejected>
+    ensures { Judges (spec.formal_at site.entry.imports.now (in_heading site.entry.scope.now parameters.now) site.entry.levels of.now) result }
 {
     match of {
-        FormalType::Named(name) => type_in_heading(modules, scope, parameters, name),
+        FormalType::Named(name) => type_in_heading(site.imports, site.scope, parameters, name),
         FormalType::Open(span, element) => {
-            let element = inner_formal(
-                alloc,
-                modules,
-                scope,
-                parameters,
-                levels,
-                *span,
-                element.get(),
-            )?;
-            open_of(alloc, element, *span)
+            let element = inner_formal(site, parameters, *span, element.get())?;
+            open_of(site.alloc, element, *span)
         }
     }
 }
@@ -88,18 +74,22 @@ fn formal_type(
 #[cycle(formal)]
 #[tactic(auto, unfolding(crate::specs::Headings::inner_formal, crate::specs::Headings::formal_at))]
 fn inner_formal(
-    alloc: Global,
-    modules: &Imports,
-    scope: &Scope,
+    site: Site<'_>,
     parameters: &Block,
-    levels: u32,
     span: Span,
     of: &FormalType,
 ) -> Result<ObType, Rejected>
-    ensures { Judges (spec.inner_formal modules.now (in_heading scope.now parameters.now) levels of.now) result }
+    ensures { Judges (spec.inner_formal site.entry.imports.now (in_heading site.entry.scope.now parameters.now) site.entry.levels of.now) result }
 {
-    let inside = open(levels, span)?;
-    formal_type(alloc, modules, scope, parameters, inside, of)
+    let inside = open(site.levels, span)?;
+    formal_type(
+        Site {
+            levels: inside,
+            ..site
+        },
+        parameters,
+        of,
+    )
 }
 
 fn kind_of(by_reference: bool) -> FormalKind
@@ -197,50 +187,34 @@ fn parameters_of(
 /// Parameters of one type, whose names are new.
 #[tactic(auto, unfolding(crate::specs::Headings::typed_parameters))]
 fn typed_parameters(
-    alloc: Global,
-    modules: &Imports,
-    levels: u32,
-    scope: &Scope,
+    site: Site<'_>,
     so_far: Parameters,
     x: &FormalSection,
 ) -> Result<Parameters, Rejected>
-    ensures { Judges (spec.typed_parameters modules.now levels scope.now so_far x.now) result }
+    ensures { Judges (spec.typed_parameters site.entry.imports.now site.entry.levels site.entry.scope.now so_far x.now) result }
 {
-    let of = formal_type(alloc, modules, scope, &so_far.block, levels, x.of.get())?;
-    parameters_of(alloc, &of, so_far, x)
+    let of = formal_type(site, &so_far.block, x.of.get())?;
+    parameters_of(site.alloc, &of, so_far, x)
 }
 
 /// Parameters of one type.
 #[tactic(auto, unfolding(crate::specs::Headings::section_rule))]
-fn section(
-    alloc: Global,
-    modules: &Imports,
-    levels: u32,
-    scope: &Scope,
-    so_far: Parameters,
-    x: &FormalSection,
-) -> Result<Parameters, Rejected>
-    ensures { Judges (spec.section_rule modules.now levels scope.now so_far x.now) result }
+fn section(site: Site<'_>, so_far: Parameters, x: &FormalSection) -> Result<Parameters, Rejected>
+    ensures { Judges (spec.section_rule site.entry.imports.now site.entry.levels site.entry.scope.now so_far x.now) result }
 {
-    let _names = parameter_names(alloc, &so_far.block, x.names.as_slice())?;
-    typed_parameters(alloc, modules, levels, scope, so_far, x)
+    let _names = parameter_names(site.alloc, &so_far.block, x.names.as_slice())?;
+    typed_parameters(site, so_far, x)
 }
 
-fn sections(
-    alloc: Global,
-    modules: &Imports,
-    levels: u32,
-    scope: &Scope,
-    list: &[FormalSection],
-) -> Result<Parameters, Rejected>
-    ensures { Judges (through (spec.section_rule modules.now levels scope.now) spec.no_parameters list.now) result }
+fn sections(site: Site<'_>, list: &[FormalSection]) -> Result<Parameters, Rejected>
+    ensures { Judges (through (spec.section_rule site.entry.imports.now site.entry.levels site.entry.scope.now) spec.no_parameters list.now) result }
 {
     let mut so_far = Parameters {
-        formals: Items::new(alloc),
-        block: Block::new(alloc),
+        formals: Items::new(site.alloc),
+        block: Block::new(site.alloc),
     };
     for x in list {
-        so_far = section(alloc, modules, levels, scope, so_far, x)?;
+        so_far = section(site, so_far, x)?;
     }
     Ok(so_far)
 }
@@ -276,17 +250,11 @@ fn result_type(
 }
 
 #[tactic(auto, unfolding(crate::specs::Headings::formals_rule))]
-fn formals(
-    alloc: Global,
-    modules: &Imports,
-    levels: u32,
-    scope: &Scope,
-    formals: &Formals,
-) -> Result<Heading, Rejected>
-    ensures { Judges (spec.formals_rule modules.now levels scope.now formals.now) result }
+fn formals(site: Site<'_>, formals: &Formals) -> Result<Heading, Rejected>
+    ensures { Judges (spec.formals_rule site.entry.imports.now site.entry.levels site.entry.scope.now formals.now) result }
 {
-    let parameters = sections(alloc, modules, levels, scope, formals.sections.as_slice())?;
-    let result_type = result_type(modules, scope, &parameters.block, &formals.result)?;
+    let parameters = sections(site, formals.sections.as_slice())?;
+    let result_type = result_type(site.imports, site.scope, &parameters.block, &formals.result)?;
     Ok(Heading {
         signature: Signature {
             formals: parameters.formals,
@@ -298,24 +266,18 @@ fn formals(
 
 /// The heading of a procedure with these formal parameters, or without any.
 #[tactic(auto, unfolding(crate::specs::Headings::heading_rule))]
-fn written_heading(
-    alloc: Global,
-    modules: &Imports,
-    levels: u32,
-    scope: &Scope,
-    list: &Option<Boxed<Formals>>,
-) -> Result<Heading, Rejected>
-    ensures { Judges (spec.heading_rule modules.now levels scope.now list.now) result }
+fn written_heading(site: Site<'_>, list: &Option<Boxed<Formals>>) -> Result<Heading, Rejected>
+    ensures { Judges (spec.heading_rule site.entry.imports.now site.entry.levels site.entry.scope.now list.now) result }
 {
     match list {
         None => Ok(Heading {
             signature: Signature {
-                formals: Items::new(alloc),
+                formals: Items::new(site.alloc),
                 result: None,
             },
-            block: Block::new(alloc),
+            block: Block::new(site.alloc),
         }),
-        Some(list) => formals(alloc, modules, levels, scope, list.get()),
+        Some(list) => formals(site, list.get()),
     }
 }
 
@@ -334,7 +296,15 @@ fn new_procedure(
 {
     let mut scope = scope;
     let name = &p.name.name.name;
-    let heading = written_heading(alloc, modules, levels, &scope, &p.formals)?;
+    let heading = written_heading(
+        Site {
+            alloc,
+            imports: modules,
+            scope: &scope,
+            levels,
+        },
+        &p.formals,
+    )?;
     let signature = heading.signature.copy(alloc)?;
     let entry = Entry::Procedure(heading.signature, number);
     scope.declare(alloc, name, p.name.mark.is_some(), entry)?;

@@ -3,8 +3,8 @@
 ghost use Rattle.std.specs.Prelude.{◌≡◌, ◌++◌, IfOk, option_to_list};
 ghost use Rattle.ob_declare.specs.Interfaces as spec;
 
-use crate::block::{Block, Declared, Entry};
 use ob_base::{Items, Text};
+use ob_scope::block::{Block, Declared, Entry};
 use ob_types::{Exported, Interface, Object};
 use std::alloc::{AllocError, Global};
 

@@ -1,21 +1,22 @@
 //! Types as they are written.
 
 ghost use Rattle.std.specs.Prelude.{◌≡◌, ◌<◌, ◌++◌, [], length, map, reverse, option_copied, IfOk};
-ghost use Rattle.ob_declare.specs.Rule.{Judges, through};
-ghost use Rattle.ob_declare.specs.Scope.{in_heading};
+ghost use Rattle.ob_scope.specs.Rule.{Judges, through};
+ghost use Rattle.ob_scope.specs.Scope.{in_heading};
 ghost use Rattle.ob_declare.specs.WrittenTypes as spec;
 
-use crate::block::{Block, Entry};
-use crate::constant::constant;
-use crate::imports::Imports;
-use crate::names::Names;
-use crate::predeclared::{Predeclared, absent, input_named, is_input, is_output, output_named};
-use crate::rejected::{Rejected, broken, open};
-use crate::rule::RuleCode;
-use crate::scope::Scope;
 use ob_base::{Items, Shared, SharedItems};
-use ob_parse::tree::{Expr, Ident, IdentDef, Qualident, TypeExpr, TypedNames};
+use ob_fold::constant::constant;
 use ob_scan::Span;
+use ob_scope::block::{Block, Entry};
+use ob_scope::imports::Imports;
+use ob_scope::names::Names;
+use ob_scope::predeclared::{Predeclared, absent, input_named, is_input, is_output, output_named};
+use ob_scope::rejected::{Rejected, broken, open};
+use ob_scope::rule::RuleCode;
+use ob_scope::scope::Scope;
+use ob_scope::site::Site;
+use ob_tree::tree::{Expr, Ident, IdentDef, Qualident, TypeExpr, TypedNames};
 use ob_types::{
     Constant, Field, MAX_CELLS, MAX_LEVELS, ObType, Object, RecordName, RecordType, is_admitted,
     levels, zero_size,
@@ -187,7 +188,15 @@ fn inner_constant(
     ensures { Judges (spec.inner_constant modules.now scope.now nesting e.now) result }
 {
     let inside = open(nesting, e.first_token())?;
-    constant(alloc, modules, scope, inside, e)
+    constant(
+        Site {
+            alloc,
+            imports: modules,
+            scope,
+            levels: inside,
+        },
+        e,
+    )
 }
 
 /// One length more.

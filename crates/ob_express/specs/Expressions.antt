@@ -2,20 +2,20 @@
 -- Expressions, variables that are written, and actual parameters (Wirth, The Programming Language Oberon, Oberon-07). The
 -- number says how many more constructs may nest. The variables of the module grow by the strings that are passed and compared, from left to right.
 use Rattle.std.specs.Prelude.{ℕ, zero, suc, List, [], ◌∷◌, ◌++◌, Bool, Option, Some, None, is_some}
-use Rattle.ob_declare.specs.declared.rule.RuleCode.TheVariants as code
+use Rattle.ob_scope.specs.declared.rule.RuleCode.TheVariants as code
 use Rattle.ob_scan.specs.declared.token.Span.{Span}
-use Rattle.ob_parse.specs.declared.tree.Sign.{Sign}
-use Rattle.ob_parse.specs.declared.tree.Expr.{Expr, out-Expr}
-use Rattle.ob_parse.specs.declared.tree.Related.{Related, out-Related}
-use Rattle.ob_parse.specs.declared.tree.Simple.{Simple, out-Simple}
-use Rattle.ob_parse.specs.declared.tree.AddedTerm.{AddedTerm, out-AddedTerm}
-use Rattle.ob_parse.specs.declared.tree.Term.{Term, out-Term}
-use Rattle.ob_parse.specs.declared.tree.NextFactor.{NextFactor, out-NextFactor}
-use Rattle.ob_parse.specs.declared.tree.Factor.{Factor, out-Factor}
-use Rattle.ob_parse.specs.declared.tree.Designator.{Designator as Written, out-Designator}
-use Rattle.ob_parse.specs.declared.tree.Selector.{Selector}
-use Rattle.ob_parse.specs.declared.tree.Factor.TheOpen.{Factor-F}
-use Rattle.ob_parse.specs.FirstToken.{first_of}
+use Rattle.ob_tree.specs.declared.tree.Sign.{Sign}
+use Rattle.ob_tree.specs.declared.tree.Expr.{Expr, out-Expr}
+use Rattle.ob_tree.specs.declared.tree.Related.{Related, out-Related}
+use Rattle.ob_tree.specs.declared.tree.Simple.{Simple, out-Simple}
+use Rattle.ob_tree.specs.declared.tree.AddedTerm.{AddedTerm, out-AddedTerm}
+use Rattle.ob_tree.specs.declared.tree.Term.{Term, out-Term}
+use Rattle.ob_tree.specs.declared.tree.NextFactor.{NextFactor, out-NextFactor}
+use Rattle.ob_tree.specs.declared.tree.Factor.{Factor, out-Factor}
+use Rattle.ob_tree.specs.declared.tree.Designator.{Designator as Written, out-Designator}
+use Rattle.ob_tree.specs.declared.tree.Selector.{Selector}
+use Rattle.ob_tree.specs.declared.tree.Factor.TheOpen.{Factor-F}
+use Rattle.ob_tree.specs.FirstToken.{first_of}
 use Rattle.ob_types.specs.declared.exports.Formal.{Formal}
 use Rattle.ob_types.specs.declared.exports.FormalKind.{FormalKind}
 use Rattle.ob_types.specs.declared.exports.FormalKind.TheVariants as kind
@@ -27,24 +27,24 @@ use Rattle.ob_mean.specs.declared.expression.Callee.{Callee}
 use Rattle.ob_mean.specs.declared.expression.Designator.TheVariants as designator
 use Rattle.ob_mean.specs.declared.expression.TypedExpr.{TypedExpr}
 use Rattle.ob_mean.specs.declared.expression.TypedExpr.TheVariants as typed
-use Rattle.ob_declare.specs.declared.predeclared.Function.{Function}
-use Rattle.ob_declare.specs.declared.scope.Scope.{Scope}
-use Rattle.ob_declare.specs.Constants.{FactorLayer}
-use Rattle.ob_declare.specs.Imports.{Modules}
-use Rattle.ob_declare.specs.Rule.{Rule, Given, Breaks, Then, Needs, there, through}
-use Rattle.ob_express.specs.declared.operand.Operand.{Operand}
-use Rattle.ob_express.specs.declared.operand.Operand.TheVariants as operand
-use Rattle.ob_express.specs.declared.joining.Joined.{Joined}
-use Rattle.ob_express.specs.declared.joining.Joined.TheVariants as joined
-use Rattle.ob_express.specs.Operands.{Variables, number_of, truth_of, value_for, truth_number, operand_of_constant, operand_of_variable}
-use Rattle.ob_express.specs.Joining.{add_joining, mul_joining, may_join, with_operand, sum_of, product_of, signed, negated}
-use Rattle.ob_express.specs.Relations.{relation_of, may_relate, related}
-use Rattle.ob_express.specs.Functions.{takes, shift_of, one_of, two_of}
-use Rattle.ob_express.specs.Selecting.{Selected, selected, indexed}
-use Rattle.ob_express.specs.Named.{Meant, Callable, Writable}
-use Rattle.ob_express.specs.Named as meaning
-use Rattle.ob_express.specs.Names.{read_at, written_at, called_at}
-use Rattle.ob_express.specs.Passing.{variable_argument, value_passed}
+use Rattle.ob_scope.specs.declared.predeclared.Function.{Function}
+use Rattle.ob_scope.specs.declared.scope.Scope.{Scope}
+use Rattle.ob_fold.specs.Constants.{FactorLayer}
+use Rattle.ob_scope.specs.Imports.{Modules}
+use Rattle.ob_scope.specs.Rule.{Rule, Given, Breaks, Then, Needs, there, through}
+use Rattle.ob_operand.specs.declared.operand.Operand.{Operand}
+use Rattle.ob_operand.specs.declared.operand.Operand.TheVariants as operand
+use Rattle.ob_operand.specs.declared.joining.Joined.{Joined}
+use Rattle.ob_operand.specs.declared.joining.Joined.TheVariants as joined
+use Rattle.ob_operand.specs.Operands.{Variables, number_of, truth_of, value_for, truth_number, operand_of_constant, operand_of_variable}
+use Rattle.ob_operand.specs.Joining.{add_joining, mul_joining, may_join, with_operand, sum_of, product_of, signed, negated}
+use Rattle.ob_operand.specs.Relations.{relation_of, may_relate, related}
+use Rattle.ob_operand.specs.Functions.{takes, shift_of, one_of, two_of}
+use Rattle.ob_operand.specs.Selecting.{Selected, selected, indexed}
+use Rattle.ob_operand.specs.Named.{Meant, Callable, Writable}
+use Rattle.ob_operand.specs.Named as meaning
+use Rattle.ob_operand.specs.Names.{read_at, written_at, called_at}
+use Rattle.ob_operand.specs.Passing.{variable_argument, value_passed}
 
 -- ---- a designator alone
 

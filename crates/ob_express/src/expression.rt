@@ -1,38 +1,38 @@
 //! Expressions, variables that are written, and actual parameters.
 
 ghost use Rattle.std.specs.Prelude.{◌≡◌, suc, [], option_copied, is_some, IfOk, OnErr, IfErr};
-ghost use Rattle.ob_declare.specs.Rule.{Judges, through};
-ghost use Rattle.ob_parse.specs.declared.tree.Factor.{out-Factor};
-ghost use Rattle.ob_express.specs.Judging.{result_map};
-ghost use Rattle.ob_express.specs.Named.{meant, callable};
-ghost use Rattle.ob_express.specs.Selecting as selecting;
+ghost use Rattle.ob_scope.specs.Rule.{Judges, through};
+ghost use Rattle.ob_tree.specs.declared.tree.Factor.{out-Factor};
+ghost use Rattle.ob_operand.specs.Judging.{result_map};
+ghost use Rattle.ob_operand.specs.Named.{meant, callable};
+ghost use Rattle.ob_operand.specs.Selecting as selecting;
 ghost use Rattle.ob_express.specs.Expressions as spec;
 
-use crate::functions::{one_of, shift_of, takes, two_of};
-use crate::joining::{
+use ob_base::{Boxed, Items};
+use ob_mean::{Argument, Callee, Designator, TypedExpr};
+use ob_operand::functions::{one_of, shift_of, takes, two_of};
+use ob_operand::joining::{
     Joined, add_joining, may_join, mul_joining, negated, product_of, signed, sum_of, with_operand,
 };
-use crate::names::{Called, Named, procedure, read, written};
-use crate::operand::{
-    Operand, Variables, fitting, number_of, operand_of_constant, operand_of_variable, truth_number,
-    truth_of, value_for,
+use ob_operand::names::{Called, Named, procedure, read, written};
+use ob_operand::operand::{
+    Operand, fitting, number_of, operand_of_constant, operand_of_variable, truth_number, truth_of,
+    value_for,
 };
-use crate::passing::{value_passed, variable_argument};
-use crate::relations::{may_relate, related, relation_of};
-use crate::selecting::{element_of, field_of};
-use ob_base::{Boxed, Items};
-use ob_declare::predeclared::Function;
-use ob_declare::rejected::{Rejected, broken, open};
-use ob_declare::rule::RuleCode;
-use ob_declare::{Imports, Scope};
-use ob_mean::{Argument, Callee, Designator, TypedExpr};
-use ob_parse::tree::{
+use ob_operand::passing::{value_passed, variable_argument};
+use ob_operand::relations::{may_relate, related, relation_of};
+use ob_operand::selecting::{element_of, field_of};
+use ob_scan::Span;
+use ob_scope::Site;
+use ob_scope::predeclared::Function;
+use ob_scope::rejected::{Rejected, broken, open};
+use ob_scope::rule::RuleCode;
+use ob_strings::Variables;
+use ob_tree::tree::{
     AddedTerm, Designator as Written, Expr, Factor, NextFactor, Related, Selector, Sign, Simple,
     Term,
 };
-use ob_scan::Span;
 use ob_types::{Basic, Formal, FormalKind, ObType};
-use std::alloc::Global;
 
 fn designator_in(f: &Factor) -> Option<&Written>
     ensures { option_copied result ≡ spec.designator_in (out-Factor f.now) }
@@ -94,31 +94,25 @@ fn is_alone(e: &Expr) -> bool
 #[cycle(expression)]
 #[tactic(auto, unfolding(crate::specs::Expressions::expr_rule, crate::specs::Expressions::expr_at))]
 pub fn expr(
-    alloc: Global,
-    imports: &Imports,
-    scope: &Scope,
-    levels: u32,
+    site: Site<'_>,
     variables: Variables,
     e: &Expr,
 ) -> Result<(Operand, Variables), Rejected>
-    ensures { Judges (spec.expr_at imports.now scope.now levels variables e.now) result }
+    ensures { Judges (spec.expr_at site.entry.imports.now site.entry.scope.now site.entry.levels variables e.now) result }
 {
-    let (left, variables) = simple(alloc, imports, scope, levels, variables, &e.left)?;
-    relation(alloc, imports, scope, levels, left, variables, &e.right)
+    let (left, variables) = simple(site, variables, &e.left)?;
+    relation(site, left, variables, &e.right)
 }
 
 #[cycle(expression)]
 #[tactic(auto, unfolding(crate::specs::Expressions::related_rule))]
 fn relation(
-    alloc: Global,
-    imports: &Imports,
-    scope: &Scope,
-    levels: u32,
+    site: Site<'_>,
     left: Operand,
     variables: Variables,
     right: &Option<Related>,
 ) -> Result<(Operand, Variables), Rejected>
-    ensures { Judges (spec.related_at imports.now scope.now levels (left, variables) right.now) result }
+    ensures { Judges (spec.related_at site.entry.imports.now site.entry.scope.now site.entry.levels (left, variables) right.now) result }
 {
     match right {
         None => Ok((left, variables)),
@@ -126,16 +120,9 @@ fn relation(
             if !may_relate(relation_of(right.relation), &left) {
                 return Err(Rejected::Rule(broken(RuleCode::Types, right.span)));
             }
-            let (other, variables) = simple(
-                alloc,
-                imports,
-                scope,
-                levels,
-                variables,
-                &right.simple,
-            )?;
+            let (other, variables) = simple(site, variables, &right.simple)?;
             related(
-                alloc,
+                site.alloc,
                 relation_of(right.relation),
                 right.span,
                 variables,
@@ -149,45 +136,31 @@ fn relation(
 #[cycle(expression)]
 #[tactic(auto, unfolding(crate::specs::Expressions::simple_rule))]
 fn simple(
-    alloc: Global,
-    imports: &Imports,
-    scope: &Scope,
-    levels: u32,
+    site: Site<'_>,
     variables: Variables,
     x: &Simple,
 ) -> Result<(Operand, Variables), Rejected>
-    ensures { Judges (spec.simple_at imports.now scope.now levels variables x.now) result }
+    ensures { Judges (spec.simple_at site.entry.imports.now site.entry.scope.now site.entry.levels variables x.now) result }
 {
-    let (first, variables) = term(alloc, imports, scope, levels, variables, &x.first)?;
-    let first = Joined::One(signed(alloc, x.sign, first)?);
-    let (all, variables) = added_terms(
-        alloc,
-        imports,
-        scope,
-        levels,
-        first,
-        variables,
-        x.others.as_slice(),
-    )?;
-    Ok((sum_of(alloc, all)?, variables))
+    let (first, variables) = term(site, variables, &x.first)?;
+    let first = Joined::One(signed(site.alloc, x.sign, first)?);
+    let (all, variables) = added_terms(site, first, variables, x.others.as_slice())?;
+    Ok((sum_of(site.alloc, all)?, variables))
 }
 
 #[cycle(expression)]
 fn added_terms(
-    alloc: Global,
-    imports: &Imports,
-    scope: &Scope,
-    levels: u32,
+    site: Site<'_>,
     first: Joined,
     variables: Variables,
     others: &[AddedTerm],
 ) -> Result<(Joined, Variables), Rejected>
-    ensures { Judges (through (spec.added_term_at imports.now scope.now levels) (first, variables) others.now) (result_map (λ p. (p.0, p.1)) result) }
+    ensures { Judges (through (spec.added_term_at site.entry.imports.now site.entry.scope.now site.entry.levels) (first, variables) others.now) (result_map (λ p. (p.0, p.1)) result) }
 {
     let mut so_far = (first, variables);
     for x in others {
         let (left, variables) = so_far;
-        so_far = added_term(alloc, imports, scope, levels, left, variables, x)?;
+        so_far = added_term(site, left, variables, x)?;
     }
     Ok(so_far)
 }
@@ -195,65 +168,44 @@ fn added_terms(
 #[cycle(expression)]
 #[tactic(auto, unfolding(crate::specs::Expressions::added_term))]
 fn added_term(
-    alloc: Global,
-    imports: &Imports,
-    scope: &Scope,
-    levels: u32,
+    site: Site<'_>,
     left: Joined,
     variables: Variables,
     x: &AddedTerm,
 ) -> Result<(Joined, Variables), Rejected>
-    ensures { Judges (spec.added_term_at imports.now scope.now levels (left, variables) x.now) (result_map (λ p. (p.0, p.1)) result) }
+    ensures { Judges (spec.added_term_at site.entry.imports.now site.entry.scope.now site.entry.levels (left, variables) x.now) (result_map (λ p. (p.0, p.1)) result) }
 {
     if !may_join(add_joining(x.operator), &left) {
         return Err(Rejected::Rule(broken(RuleCode::Types, x.span)));
     }
-    let (right, variables) = term(alloc, imports, scope, levels, variables, &x.term)?;
-    let all = with_operand(alloc, add_joining(x.operator), x.span, left, right)?;
+    let (right, variables) = term(site, variables, &x.term)?;
+    let all = with_operand(site.alloc, add_joining(x.operator), x.span, left, right)?;
     Ok((all, variables))
 }
 
 #[cycle(expression)]
 #[tactic(auto, unfolding(crate::specs::Expressions::term_rule))]
-fn term(
-    alloc: Global,
-    imports: &Imports,
-    scope: &Scope,
-    levels: u32,
-    variables: Variables,
-    t: &Term,
-) -> Result<(Operand, Variables), Rejected>
-    ensures { Judges (spec.term_at imports.now scope.now levels variables t.now) result }
+fn term(site: Site<'_>, variables: Variables, t: &Term) -> Result<(Operand, Variables), Rejected>
+    ensures { Judges (spec.term_at site.entry.imports.now site.entry.scope.now site.entry.levels variables t.now) result }
 {
-    let (first, variables) = factor(alloc, imports, scope, levels, variables, &t.first)?;
-    let (all, variables) = next_factors(
-        alloc,
-        imports,
-        scope,
-        levels,
-        Joined::One(first),
-        variables,
-        t.others.as_slice(),
-    )?;
-    Ok((product_of(alloc, all)?, variables))
+    let (first, variables) = factor(site, variables, &t.first)?;
+    let (all, variables) = next_factors(site, Joined::One(first), variables, t.others.as_slice())?;
+    Ok((product_of(site.alloc, all)?, variables))
 }
 
 #[cycle(expression)]
 fn next_factors(
-    alloc: Global,
-    imports: &Imports,
-    scope: &Scope,
-    levels: u32,
+    site: Site<'_>,
     first: Joined,
     variables: Variables,
     others: &[NextFactor],
 ) -> Result<(Joined, Variables), Rejected>
-    ensures { Judges (through (spec.next_factor_at imports.now scope.now levels) (first, variables) others.now) (result_map (λ p. (p.0, p.1)) result) }
+    ensures { Judges (through (spec.next_factor_at site.entry.imports.now site.entry.scope.now site.entry.levels) (first, variables) others.now) (result_map (λ p. (p.0, p.1)) result) }
 {
     let mut so_far = (first, variables);
     for x in others {
         let (left, variables) = so_far;
-        so_far = next_factor(alloc, imports, scope, levels, left, variables, x)?;
+        so_far = next_factor(site, left, variables, x)?;
     }
     Ok(so_far)
 }
@@ -261,75 +213,52 @@ fn next_factors(
 #[cycle(expression)]
 #[tactic(auto, unfolding(crate::specs::Expressions::next_factor))]
 fn next_factor(
-    alloc: Global,
-    imports: &Imports,
-    scope: &Scope,
-    levels: u32,
+    site: Site<'_>,
     left: Joined,
     variables: Variables,
     x: &NextFactor,
 ) -> Result<(Joined, Variables), Rejected>
-    ensures { Judges (spec.next_factor_at imports.now scope.now levels (left, variables) x.now) (result_map (λ p. (p.0, p.1)) result) }
+    ensures { Judges (spec.next_factor_at site.entry.imports.now site.entry.scope.now site.entry.levels (left, variables) x.now) (result_map (λ p. (p.0, p.1)) result) }
 {
     if !may_join(mul_joining(x.operator), &left) {
         return Err(Rejected::Rule(broken(RuleCode::Types, x.span)));
     }
-    let (right, variables) = factor(alloc, imports, scope, levels, variables, &x.factor)?;
-    let all = with_operand(alloc, mul_joining(x.operator), x.span, left, right)?;
+    let (right, variables) = factor(site, variables, &x.factor)?;
+    let all = with_operand(site.alloc, mul_joining(x.operator), x.span, left, right)?;
     Ok((all, variables))
 }
 
 #[cycle(expression)]
 #[tactic(auto, unfolding(crate::specs::Expressions::factor_rule))]
 fn factor(
-    alloc: Global,
-    imports: &Imports,
-    scope: &Scope,
-    levels: u32,
+    site: Site<'_>,
     variables: Variables,
     f: &Factor,
 ) -> Result<(Operand, Variables), Rejected>
-    ensures { Judges (spec.factor_at imports.now scope.now levels variables f.now) result }
+    ensures { Judges (spec.factor_at site.entry.imports.now site.entry.scope.now site.entry.levels variables f.now) result }
 {
     match f {
         Factor::Integer(number, _) => {
             let value = TypedExpr::Constant(*number);
             Ok((Operand::Value(Basic::Integer, value), variables))
         }
-        Factor::Text(chars, _) => Ok((Operand::Text(chars.copy(alloc)?), variables)),
+        Factor::Text(chars, _) => Ok((Operand::Text(chars.copy(site.alloc)?), variables)),
         Factor::Truth(truth, _) => {
             let value = TypedExpr::Constant(truth_number(*truth));
             Ok((Operand::Value(Basic::Boolean, value), variables))
         }
         Factor::Value(d) => {
-            let named = read(imports, scope, d)?;
-            value_named(alloc, imports, scope, levels, variables, named)
+            let named = read(site.imports, site.scope, d)?;
+            value_named(site, variables, named)
         }
         Factor::Call(d, actuals) => {
-            let function = procedure(imports, scope, d)?;
-            call(
-                alloc,
-                imports,
-                scope,
-                levels,
-                variables,
-                function,
-                d.name.span,
-                actuals.as_slice(),
-            )
+            let function = procedure(site.imports, site.scope, d)?;
+            call(site, variables, function, d.name.span, actuals.as_slice())
         }
-        Factor::Parens(span, e) => nested(alloc, imports, scope, levels, *span, variables, e.get()),
+        Factor::Parens(span, e) => nested(site, *span, variables, e.get()),
         Factor::Not(span, f) => {
-            let (operand, variables) = deeper(
-                alloc,
-                imports,
-                scope,
-                levels,
-                *span,
-                variables,
-                f.get(),
-            )?;
-            Ok((negated(alloc, *span, operand)?, variables))
+            let (operand, variables) = deeper(site, *span, variables, f.get())?;
+            Ok((negated(site.alloc, *span, operand)?, variables))
         }
     }
 }
@@ -338,26 +267,21 @@ fn factor(
 #[cycle(expression)]
 #[tactic(auto, unfolding(crate::specs::Expressions::meant_rule))]
 fn value_named(
-    alloc: Global,
-    imports: &Imports,
-    scope: &Scope,
-    levels: u32,
+    site: Site<'_>,
     variables: Variables,
     named: Named,
 ) -> Result<(Operand, Variables), Rejected>
-    ensures { Judges (spec.meant_at imports.now scope.now levels (meant named.entry) variables) result }
+    ensures { Judges (spec.meant_at site.entry.imports.now site.entry.scope.now site.entry.levels (meant named.entry) variables) result }
 {
     match named {
-        Named::Constant(constant) => Ok((operand_of_constant(alloc, constant)?, variables)),
+        Named::Constant(constant) => Ok((operand_of_constant(site.alloc, constant)?, variables)),
         Named::InputDone => {
             let value = TypedExpr::InputDone;
             Ok((Operand::Value(Basic::Boolean, value), variables))
         }
         Named::Variable(of, variable, behind) => {
             let whole = Designator::Whole(variable);
-            let (of, place, variables) = selected(
-                alloc, imports, scope, levels, of, whole, variables, behind,
-            )?;
+            let (of, place, variables) = selected(site, of, whole, variables, behind)?;
             Ok((operand_of_variable(of, place)?, variables))
         }
     }
@@ -366,106 +290,83 @@ fn value_named(
 /// What selectors select.
 #[cycle(expression)]
 fn selected<'a>(
-    alloc: Global,
-    imports: &Imports,
-    scope: &Scope,
-    levels: u32,
+    site: Site<'_>,
     of: &'a ObType,
     whole: Designator,
     variables: Variables,
     selectors: &[Selector],
 ) -> Result<(&'a ObType, Designator, Variables), Rejected>
-    ensures { Judges (through (spec.selected_at imports.now scope.now levels) (of.now, whole, variables) selectors.now) (result_map (λ p. (p.0.now, p.1, p.2)) result) }
+    ensures { Judges (through (spec.selected_at site.entry.imports.now site.entry.scope.now site.entry.levels) (of.now, whole, variables) selectors.now) (result_map (λ p. (p.0.now, p.1, p.2)) result) }
 {
     let mut so_far = (of, whole, variables);
     for selector in selectors {
         let (of, place, variables) = so_far;
-        so_far = next_selected(
-            alloc, imports, scope, levels, of, place, variables, selector,
-        )?;
+        so_far = next_selected(site, of, place, variables, selector)?;
     }
     Ok(so_far)
 }
 
 /// What one selector more selects.
 #[cycle(expression)]
-#[tactic(auto, unfolding(crate::specs::Selecting::selected))]
+#[tactic(auto, unfolding(ob_operand::specs::Selecting::selected))]
 fn next_selected<'a>(
-    alloc: Global,
-    imports: &Imports,
-    scope: &Scope,
-    levels: u32,
+    site: Site<'_>,
     of: &'a ObType,
     place: Designator,
     variables: Variables,
     selector: &Selector,
 ) -> Result<(&'a ObType, Designator, Variables), Rejected>
-    ensures { Judges (spec.selected_at imports.now scope.now levels (of.now, place, variables) selector.now) (result_map (λ p. (p.0.now, p.1, p.2)) result) }
+    ensures { Judges (spec.selected_at site.entry.imports.now site.entry.scope.now site.entry.levels (of.now, place, variables) selector.now) (result_map (λ p. (p.0.now, p.1, p.2)) result) }
 {
     match selector {
         Selector::Field(name) => {
-            let (number, of) = field_of(scope, of, name)?;
-            let part = Designator::Field(Boxed::new(alloc, place)?, number);
+            let (number, of) = field_of(site.scope, of, name)?;
+            let part = Designator::Field(Boxed::new(site.alloc, place)?, number);
             Ok((of, part, variables))
         }
-        Selector::Index(indexes) => elements(
-            alloc,
-            imports,
-            scope,
-            levels,
-            of,
-            place,
-            variables,
-            indexes.as_slice(),
-        ),
+        Selector::Index(indexes) => elements(site, of, place, variables, indexes.as_slice()),
     }
 }
 
 /// What indexes select.
 #[cycle(expression)]
 fn elements<'a>(
-    alloc: Global,
-    imports: &Imports,
-    scope: &Scope,
-    levels: u32,
+    site: Site<'_>,
     of: &'a ObType,
     place: Designator,
     variables: Variables,
     indexes: &[Expr],
 ) -> Result<(&'a ObType, Designator, Variables), Rejected>
-    ensures { Judges (through (spec.indexed_at imports.now scope.now levels) (of.now, place, variables) indexes.now) (result_map (λ p. (p.0.now, p.1, p.2)) result) }
+    ensures { Judges (through (spec.indexed_at site.entry.imports.now site.entry.scope.now site.entry.levels) (of.now, place, variables) indexes.now) (result_map (λ p. (p.0.now, p.1, p.2)) result) }
 {
     let mut so_far = (of, place, variables);
     for e in indexes {
         let (of, place, variables) = so_far;
-        so_far = element(alloc, imports, scope, levels, of, place, variables, e)?;
+        so_far = element(site, of, place, variables, e)?;
     }
     Ok(so_far)
 }
 
 /// What one index more selects.
 #[cycle(expression)]
-#[tactic(auto, unfolding(crate::specs::Selecting::indexed))]
+#[tactic(auto, unfolding(ob_operand::specs::Selecting::indexed))]
 fn element<'a>(
-    alloc: Global,
-    imports: &Imports,
-    scope: &Scope,
-    levels: u32,
+    site: Site<'_>,
     of: &'a ObType,
     place: Designator,
     variables: Variables,
     e: &Expr,
 ) -> Result<(&'a ObType, Designator, Variables), Rejected>
-    ensures { Judges (spec.indexed_at imports.now scope.now levels (of.now, place, variables) e.now) (result_map (λ p. (p.0.now, p.1, p.2)) result) }
+    ensures { Judges (spec.indexed_at site.entry.imports.now site.entry.scope.now site.entry.levels (of.now, place, variables) e.now) (result_map (λ p. (p.0.now, p.1, p.2)) result) }
 {
     let span = e.first_token();
     let of = element_of(of, span)?;
-    let (operand, variables) = nested(alloc, imports, scope, levels, span, variables, e)?;
+    let (operand, variables) = nested(site, span, variables, e)?;
     let index = fitting(number_of(operand), RuleCode::Types, span)?;
     let part = Designator::Element(
-        Boxed::new(alloc, place)?,
+        Boxed::new(site.alloc, place)?,
         span.line,
-        Boxed::new(alloc, index)?,
+        Boxed::new(site.alloc, index)?,
     );
     Ok((of, part, variables))
 }
@@ -474,23 +375,17 @@ fn element<'a>(
 #[cycle(expression)]
 #[tactic(auto, unfolding(crate::specs::Expressions::call_rule))]
 fn call(
-    alloc: Global,
-    imports: &Imports,
-    scope: &Scope,
-    levels: u32,
+    site: Site<'_>,
     variables: Variables,
     function: Called,
     span: Span,
     actuals: &[Expr],
 ) -> Result<(Operand, Variables), Rejected>
-    ensures { Judges (spec.call_at imports.now scope.now levels (callable function.entry) span.line variables actuals.now) result }
+    ensures { Judges (spec.call_at site.entry.imports.now site.entry.scope.now site.entry.levels (callable function.entry) span.line variables actuals.now) result }
 {
     match function {
         Called::Procedure(signature, callee) => function_call(
-            alloc,
-            imports,
-            scope,
-            levels,
+            site,
             variables,
             signature.result,
             callee,
@@ -498,11 +393,7 @@ fn call(
             span,
             actuals,
         ),
-        Called::Function(function) => {
-            predeclared_call(
-                alloc, imports, scope, levels, variables, function, span, actuals,
-            )
-        }
+        Called::Function(function) => { predeclared_call(site, variables, function, span, actuals) }
         Called::Proper(_) | Called::Input(_) | Called::Output(_) => {
             Err(Rejected::Rule(broken(RuleCode::Parameters, span)))
         }
@@ -512,10 +403,7 @@ fn call(
 #[cycle(expression)]
 #[tactic(auto, unfolding(crate::specs::Expressions::function_rule))]
 fn function_call(
-    alloc: Global,
-    imports: &Imports,
-    scope: &Scope,
-    levels: u32,
+    site: Site<'_>,
     variables: Variables,
     result_type: Option<Basic>,
     callee: Callee,
@@ -523,14 +411,12 @@ fn function_call(
     span: Span,
     actuals: &[Expr],
 ) -> Result<(Operand, Variables), Rejected>
-    ensures { Judges (spec.function_at imports.now scope.now levels result_type callee formals.now span.line variables actuals.now) result }
+    ensures { Judges (spec.function_at site.entry.imports.now site.entry.scope.now site.entry.levels result_type callee formals.now span.line variables actuals.now) result }
 {
     match result_type {
         None => Err(Rejected::Rule(broken(RuleCode::Parameters, span))),
         Some(basic) => {
-            let (passed, variables) = all_passed(
-                alloc, imports, scope, levels, formals, span, variables, actuals,
-            )?;
+            let (passed, variables) = all_passed(site, formals, span, variables, actuals)?;
             let value = TypedExpr::Function(callee, span.line, passed);
             Ok((Operand::Value(basic, value), variables))
         }
@@ -540,28 +426,23 @@ fn function_call(
 #[cycle(expression)]
 #[tactic(auto, unfolding(crate::specs::Expressions::predeclared_rule))]
 fn predeclared_call(
-    alloc: Global,
-    imports: &Imports,
-    scope: &Scope,
-    levels: u32,
+    site: Site<'_>,
     variables: Variables,
     function: Function,
     span: Span,
     actuals: &[Expr],
 ) -> Result<(Operand, Variables), Rejected>
-    ensures { Judges (spec.predeclared_at imports.now scope.now levels function span.line variables actuals.now) result }
+    ensures { Judges (spec.predeclared_at site.entry.imports.now site.entry.scope.now site.entry.levels function span.line variables actuals.now) result }
 {
     match actuals {
         [] => Err(Rejected::Rule(broken(RuleCode::Parameters, span))),
         [one, behind @ ..] => {
             let alone = is_alone(one);
-            let (value, variables) = nested(alloc, imports, scope, levels, span, variables, one)?;
+            let (value, variables) = nested(site, span, variables, one)?;
             if !takes(function, alone, &value) {
                 return Err(Rejected::Rule(broken(RuleCode::Parameters, one.first_token())));
             }
-            one_taken(
-                alloc, imports, scope, levels, variables, function, alone, value, span, behind,
-            )
+            one_taken(site, variables, function, alone, value, span, behind)
         }
     }
 }
@@ -570,10 +451,7 @@ fn predeclared_call(
 #[cycle(expression)]
 #[tactic(auto, unfolding(crate::specs::Expressions::one_taken, crate::specs::Expressions::two_taken))]
 fn one_taken(
-    alloc: Global,
-    imports: &Imports,
-    scope: &Scope,
-    levels: u32,
+    site: Site<'_>,
     variables: Variables,
     function: Function,
     alone: bool,
@@ -581,11 +459,11 @@ fn one_taken(
     span: Span,
     actuals: &[Expr],
 ) -> Result<(Operand, Variables), Rejected>
-    ensures { Judges (spec.one_taken_at imports.now scope.now levels function span.line alone (left, variables) actuals.now) result }
+    ensures { Judges (spec.one_taken_at site.entry.imports.now site.entry.scope.now site.entry.levels function span.line alone (left, variables) actuals.now) result }
 {
     match actuals {
         [] => {
-            let value = one_of(alloc, function, span, alone, left)?;
+            let value = one_of(site.alloc, function, span, alone, left)?;
             Ok((value, variables))
         }
         [two, behind @ ..] => {
@@ -593,10 +471,10 @@ fn one_taken(
             if shift_of(function).is_none() {
                 return Err(Rejected::Rule(broken(RuleCode::Parameters, second)));
             }
-            let (right, variables) = nested(alloc, imports, scope, levels, span, variables, two)?;
+            let (right, variables) = nested(site, span, variables, two)?;
             match behind {
                 [] => {
-                    let value = two_of(alloc, function, span, left, right, second)?;
+                    let value = two_of(site.alloc, function, span, left, right, second)?;
                     Ok((value, variables))
                 }
                 [three, ..] => Err(Rejected::Rule(broken(
@@ -612,20 +490,15 @@ fn one_taken(
 #[cycle(expression)]
 #[tactic(auto, unfolding(crate::specs::Expressions::all_passed, crate::specs::Expressions::none_left))]
 pub fn all_passed(
-    alloc: Global,
-    imports: &Imports,
-    scope: &Scope,
-    levels: u32,
+    site: Site<'_>,
     formals: &[Formal],
     span: Span,
     variables: Variables,
     actuals: &[Expr],
 ) -> Result<(Items<Argument>, Variables), Rejected>
-    ensures { Judges (spec.all_passed (spec.passed_at imports.now scope.now levels) variables formals.now actuals.now) result }
+    ensures { Judges (spec.all_passed (spec.passed_at site.entry.imports.now site.entry.scope.now site.entry.levels) variables formals.now actuals.now) result }
 {
-    let (passed, variables, left) = passed_in_turn(
-        alloc, imports, scope, levels, formals, span, variables, actuals,
-    )?;
+    let (passed, variables, left) = passed_in_turn(site, formals, span, variables, actuals)?;
     match left {
         [] => Ok((passed, variables)),
         [_, ..] => Err(Rejected::Rule(broken(RuleCode::Parameters, span))),
@@ -635,23 +508,18 @@ pub fn all_passed(
 /// Actual parameters for the first formal ones, and those that are left.
 #[cycle(expression)]
 fn passed_in_turn<'a>(
-    alloc: Global,
-    imports: &Imports,
-    scope: &Scope,
-    levels: u32,
+    site: Site<'_>,
     formals: &'a [Formal],
     span: Span,
     variables: Variables,
     actuals: &[Expr],
 ) -> Result<(Items<Argument>, Variables, &'a [Formal]), Rejected>
-    ensures { Judges (through (spec.next_passed_at imports.now scope.now levels) ([], variables, formals.now) actuals.now) (result_map (λ p. (p.0, p.1, p.2.now)) result) }
+    ensures { Judges (through (spec.next_passed_at site.entry.imports.now site.entry.scope.now site.entry.levels) ([], variables, formals.now) actuals.now) (result_map (λ p. (p.0, p.1, p.2.now)) result) }
 {
-    let mut so_far = (Items::new(alloc), variables, formals);
+    let mut so_far = (Items::new(site.alloc), variables, formals);
     for e in actuals {
         let (passed, variables, left) = so_far;
-        so_far = next_passed(
-            alloc, imports, scope, levels, passed, variables, left, span, e,
-        )?;
+        so_far = next_passed(site, passed, variables, left, span, e)?;
     }
     Ok(so_far)
 }
@@ -660,24 +528,19 @@ fn passed_in_turn<'a>(
 #[cycle(expression)]
 #[tactic(auto, unfolding(crate::specs::Expressions::one_passed))]
 fn next_passed<'a>(
-    alloc: Global,
-    imports: &Imports,
-    scope: &Scope,
-    levels: u32,
+    site: Site<'_>,
     so_far: Items<Argument>,
     variables: Variables,
     formals: &'a [Formal],
     span: Span,
     e: &Expr,
 ) -> Result<(Items<Argument>, Variables, &'a [Formal]), Rejected>
-    ensures { Judges (spec.next_passed_at imports.now scope.now levels (so_far, variables, formals.now) e.now) (result_map (λ p. (p.0, p.1, p.2.now)) result) }
+    ensures { Judges (spec.next_passed_at site.entry.imports.now site.entry.scope.now site.entry.levels (so_far, variables, formals.now) e.now) (result_map (λ p. (p.0, p.1, p.2.now)) result) }
 {
     match formals {
         [] => Err(Rejected::Rule(broken(RuleCode::Parameters, e.first_token()))),
         [formal, left @ ..] => {
-            let (argument, variables) = actual(
-                alloc, imports, scope, levels, variables, formal, span, e,
-            )?;
+            let (argument, variables) = actual(site, variables, formal, span, e)?;
             let mut passed = so_far;
             passed.push(argument)?;
             Ok((passed, variables, left))
@@ -689,23 +552,20 @@ fn next_passed<'a>(
 #[cycle(expression)]
 #[tactic(auto, unfolding(crate::specs::Expressions::passed_at))]
 pub fn actual(
-    alloc: Global,
-    imports: &Imports,
-    scope: &Scope,
-    levels: u32,
+    site: Site<'_>,
     variables: Variables,
     formal: &Formal,
     span: Span,
     e: &Expr,
 ) -> Result<(Argument, Variables), Rejected>
-    ensures { Judges (spec.passed_at imports.now scope.now levels formal.now variables e.now) result }
+    ensures { Judges (spec.passed_at site.entry.imports.now site.entry.scope.now site.entry.levels formal.now variables e.now) result }
 {
-    let inside = open(levels, span)?;
+    let inside = open(site.levels, span)?;
     actual_of_kind(
-        alloc,
-        imports,
-        scope,
-        inside,
+        Site {
+            levels: inside,
+            ..site
+        },
         variables,
         formal.kind,
         &formal.of,
@@ -716,45 +576,39 @@ pub fn actual(
 #[cycle(expression)]
 #[tactic(auto, unfolding(crate::specs::Expressions::actual_rule))]
 fn actual_of_kind(
-    alloc: Global,
-    imports: &Imports,
-    scope: &Scope,
-    levels: u32,
+    site: Site<'_>,
     variables: Variables,
     kind: FormalKind,
     formal: &ObType,
     e: &Expr,
 ) -> Result<(Argument, Variables), Rejected>
-    ensures { Judges (spec.actual_rule (spec.expr_within imports.now scope.now levels) (spec.target_within imports.now scope.now levels) kind formal.now variables e.now) result }
+    ensures { Judges (spec.actual_rule (spec.expr_within site.entry.imports.now site.entry.scope.now site.entry.levels) (spec.target_within site.entry.imports.now site.entry.scope.now site.entry.levels) kind formal.now variables e.now) result }
 {
     match kind {
         FormalKind::Variable => {
             let d = alone(e);
             let span = e.first_token();
-            variable_actual(alloc, imports, scope, levels, variables, formal, d, span)
+            variable_actual(site, variables, formal, d, span)
         }
-        FormalKind::Value => value_actual(alloc, imports, scope, levels, variables, formal, e),
+        FormalKind::Value => value_actual(site, variables, formal, e),
     }
 }
 
 #[cycle(expression)]
 #[tactic(auto, unfolding(crate::specs::Expressions::variable_actual, crate::specs::Expressions::target_at))]
 fn variable_actual(
-    alloc: Global,
-    imports: &Imports,
-    scope: &Scope,
-    levels: u32,
+    site: Site<'_>,
     variables: Variables,
     formal: &ObType,
     d: Option<&Written>,
     span: Span,
 ) -> Result<(Argument, Variables), Rejected>
-    ensures { Judges (spec.variable_actual (spec.target_within imports.now scope.now levels) formal.now variables (option_copied d.entry)) result }
+    ensures { Judges (spec.variable_actual (spec.target_within site.entry.imports.now site.entry.scope.now site.entry.levels) formal.now variables (option_copied d.entry)) result }
 {
     match d {
         None => Err(Rejected::Rule(broken(RuleCode::ReadOnly, span))),
         Some(d) => {
-            let (of, place, variables) = target_part(alloc, imports, scope, levels, variables, d)?;
+            let (of, place, variables) = target_part(site, variables, d)?;
             variable_argument(variables, formal, of, place, span)
         }
     }
@@ -763,19 +617,16 @@ fn variable_actual(
 #[cycle(expression)]
 #[tactic(auto, unfolding(crate::specs::Expressions::value_actual, crate::specs::Expressions::expr_at))]
 fn value_actual(
-    alloc: Global,
-    imports: &Imports,
-    scope: &Scope,
-    levels: u32,
+    site: Site<'_>,
     variables: Variables,
     formal: &ObType,
     e: &Expr,
 ) -> Result<(Argument, Variables), Rejected>
-    ensures { Judges (spec.value_actual (spec.expr_within imports.now scope.now levels) formal.now variables e.now) result }
+    ensures { Judges (spec.value_actual (spec.expr_within site.entry.imports.now site.entry.scope.now site.entry.levels) formal.now variables e.now) result }
 {
-    let (operand, variables) = expr(alloc, imports, scope, levels, variables, e)?;
+    let (operand, variables) = expr(site, variables, e)?;
     value_passed(
-        alloc,
+        site.alloc,
         variables,
         formal,
         is_alone(e),
@@ -788,59 +639,55 @@ fn value_actual(
 #[cycle(expression)]
 #[tactic(auto, unfolding(crate::specs::Expressions::target_at, crate::specs::Expressions::target_rule))]
 pub fn target_part<'a>(
-    alloc: Global,
-    imports: &'a Imports,
-    scope: &'a Scope,
-    levels: u32,
+    site: Site<'a>,
     variables: Variables,
     d: &'a Written,
 ) -> Result<(&'a ObType, Designator, Variables), Rejected>
-    ensures { Judges (spec.target_at imports.now scope.now levels variables d.now) (result_map (λ p. (p.0.now, p.1, p.2)) result) }
+    ensures { Judges (spec.target_at site.entry.imports.now site.entry.scope.now site.entry.levels variables d.now) (result_map (λ p. (p.0.now, p.1, p.2)) result) }
 {
-    let target = written(imports, scope, d)?;
+    let target = written(site.imports, site.scope, d)?;
     let whole = Designator::Whole(target.variable);
-    selected(
-        alloc,
-        imports,
-        scope,
-        levels,
-        target.of,
-        whole,
-        variables,
-        target.behind,
-    )
+    selected(site, target.of, whole, variables, target.behind)
 }
 
 #[cycle(expression)]
 #[tactic(auto, unfolding(crate::specs::Expressions::inner_at, crate::specs::Expressions::expr_at))]
 fn nested(
-    alloc: Global,
-    imports: &Imports,
-    scope: &Scope,
-    levels: u32,
+    site: Site<'_>,
     span: Span,
     variables: Variables,
     e: &Expr,
 ) -> Result<(Operand, Variables), Rejected>
-    ensures { Judges (spec.inner_at imports.now scope.now levels variables e.now) result }
+    ensures { Judges (spec.inner_at site.entry.imports.now site.entry.scope.now site.entry.levels variables e.now) result }
 {
-    let inside = open(levels, span)?;
-    expr(alloc, imports, scope, inside, variables, e)
+    let inside = open(site.levels, span)?;
+    expr(
+        Site {
+            levels: inside,
+            ..site
+        },
+        variables,
+        e,
+    )
 }
 
 #[cycle(expression)]
 #[tactic(auto, unfolding(crate::specs::Expressions::deeper_at))]
 fn deeper(
-    alloc: Global,
-    imports: &Imports,
-    scope: &Scope,
-    levels: u32,
+    site: Site<'_>,
     span: Span,
     variables: Variables,
     f: &Factor,
 ) -> Result<(Operand, Variables), Rejected>
-    ensures { Judges (spec.deeper_at imports.now scope.now levels variables f.now) result }
+    ensures { Judges (spec.deeper_at site.entry.imports.now site.entry.scope.now site.entry.levels variables f.now) result }
 {
-    let inside = open(levels, span)?;
-    factor(alloc, imports, scope, inside, variables, f)
+    let inside = open(site.levels, span)?;
+    factor(
+        Site {
+            levels: inside,
+            ..site
+        },
+        variables,
+        f,
+    )
 }

@@ -1,51 +1,45 @@
 //! What statements take: variables that they write, values, and actual parameters.
 
 ghost use Rattle.std.specs.Prelude.{◌≡◌};
-ghost use Rattle.ob_declare.specs.Rule.{Judges};
+ghost use Rattle.ob_scope.specs.Rule.{Judges};
 ghost use Rattle.ob_express.specs.Expressions as spec;
 
 use crate::expression::{all_passed, expr, target_part};
-use crate::operand::{Operand, Variables, fitting, number_of, truth_of, value_for};
 use ob_base::Items;
-use ob_declare::rejected::Rejected;
-use ob_declare::rule::RuleCode;
-use ob_declare::{Imports, Scope};
 use ob_mean::{Argument, Designator, TypedExpr};
-use ob_parse::tree::{Designator as Written, Expr};
+use ob_operand::operand::{Operand, fitting, number_of, truth_of, value_for};
 use ob_scan::Span;
+use ob_scope::Site;
+use ob_scope::rejected::Rejected;
+use ob_scope::rule::RuleCode;
+use ob_strings::Variables;
+use ob_tree::tree::{Designator as Written, Expr};
 use ob_types::{Basic, Formal, ObType};
-use std::alloc::Global;
 
 /// A variable that may be written, or a part of one, with its type.
 pub fn target(
-    alloc: Global,
-    imports: &Imports,
-    scope: &Scope,
-    levels: u32,
+    site: Site<'_>,
     variables: Variables,
     d: &Written,
 ) -> Result<(ObType, Designator, Variables), Rejected>
-    ensures { Judges (spec.target_at imports.now scope.now levels variables d.now) result }
+    ensures { Judges (spec.target_at site.entry.imports.now site.entry.scope.now site.entry.levels variables d.now) result }
 {
-    let (of, place, variables) = target_part(alloc, imports, scope, levels, variables, d)?;
+    let (of, place, variables) = target_part(site, variables, d)?;
     Ok((of.another()?, place, variables))
 }
 
 /// The actual parameters of a call, as many as there are formal ones. The called name stands at `span`.
 #[tactic(auto, unfolding(crate::specs::Expressions::actuals_at))]
 pub fn actuals(
-    alloc: Global,
-    imports: &Imports,
-    scope: &Scope,
-    levels: u32,
+    site: Site<'_>,
     formals: &[Formal],
     span: Span,
     variables: Variables,
     es: &[Expr],
 ) -> Result<(Items<Argument>, Variables), Rejected>
-    ensures { Judges (spec.actuals_at imports.now scope.now levels formals.now variables es.now) result }
+    ensures { Judges (spec.actuals_at site.entry.imports.now site.entry.scope.now site.entry.levels formals.now variables es.now) result }
 {
-    all_passed(alloc, imports, scope, levels, formals, span, variables, es)
+    all_passed(site, formals, span, variables, es)
 }
 
 fn is_value(operand: Operand) -> Option<(Basic, TypedExpr)>
@@ -60,16 +54,13 @@ fn is_value(operand: Operand) -> Option<(Basic, TypedExpr)>
 /// A value of basic type.
 #[tactic(auto, unfolding(crate::specs::Expressions::value_at))]
 pub fn basic_value(
-    alloc: Global,
-    imports: &Imports,
-    scope: &Scope,
-    levels: u32,
+    site: Site<'_>,
     variables: Variables,
     e: &Expr,
 ) -> Result<(Basic, TypedExpr, Variables), Rejected>
-    ensures { Judges (spec.value_at imports.now scope.now levels variables e.now) result }
+    ensures { Judges (spec.value_at site.entry.imports.now site.entry.scope.now site.entry.levels variables e.now) result }
 {
-    let (operand, variables) = expr(alloc, imports, scope, levels, variables, e)?;
+    let (operand, variables) = expr(site, variables, e)?;
     let (basic, value) = fitting(is_value(operand), RuleCode::Types, e.first_token())?;
     Ok((basic, value, variables))
 }
@@ -77,34 +68,28 @@ pub fn basic_value(
 /// A value for a variable of a basic type.
 #[tactic(auto, unfolding(crate::specs::Expressions::value_for_at))]
 pub fn assigned_value(
-    alloc: Global,
-    imports: &Imports,
-    scope: &Scope,
-    levels: u32,
+    site: Site<'_>,
     basic: Basic,
     variables: Variables,
     e: &Expr,
 ) -> Result<(TypedExpr, Variables), Rejected>
-    ensures { Judges (spec.value_for_at imports.now scope.now levels basic variables e.now) result }
+    ensures { Judges (spec.value_for_at site.entry.imports.now site.entry.scope.now site.entry.levels basic variables e.now) result }
 {
-    let (operand, variables) = expr(alloc, imports, scope, levels, variables, e)?;
-    let value = value_for(alloc, basic, operand, e.first_token())?;
+    let (operand, variables) = expr(site, variables, e)?;
+    let value = value_for(site.alloc, basic, operand, e.first_token())?;
     Ok((value, variables))
 }
 
 /// A truth value on which a statement depends.
 #[tactic(auto, unfolding(crate::specs::Expressions::guard_at))]
 pub fn guard(
-    alloc: Global,
-    imports: &Imports,
-    scope: &Scope,
-    levels: u32,
+    site: Site<'_>,
     variables: Variables,
     e: &Expr,
 ) -> Result<(TypedExpr, Variables), Rejected>
-    ensures { Judges (spec.guard_at imports.now scope.now levels variables e.now) result }
+    ensures { Judges (spec.guard_at site.entry.imports.now site.entry.scope.now site.entry.levels variables e.now) result }
 {
-    let (operand, variables) = expr(alloc, imports, scope, levels, variables, e)?;
+    let (operand, variables) = expr(site, variables, e)?;
     let value = fitting(truth_of(operand), RuleCode::Types, e.first_token())?;
     Ok((value, variables))
 }
@@ -112,16 +97,13 @@ pub fn guard(
 /// A number that a predeclared procedure takes.
 #[tactic(auto, unfolding(crate::specs::Expressions::number_at))]
 pub fn number(
-    alloc: Global,
-    imports: &Imports,
-    scope: &Scope,
-    levels: u32,
+    site: Site<'_>,
     variables: Variables,
     e: &Expr,
 ) -> Result<(TypedExpr, Variables), Rejected>
-    ensures { Judges (spec.number_at imports.now scope.now levels variables e.now) result }
+    ensures { Judges (spec.number_at site.entry.imports.now site.entry.scope.now site.entry.levels variables e.now) result }
 {
-    let (operand, variables) = expr(alloc, imports, scope, levels, variables, e)?;
+    let (operand, variables) = expr(site, variables, e)?;
     let value = fitting(number_of(operand), RuleCode::Parameters, e.first_token())?;
     Ok((value, variables))
 }
@@ -129,16 +111,13 @@ pub fn number(
 /// A truth value that a predeclared procedure takes.
 #[tactic(auto, unfolding(crate::specs::Expressions::truth_at))]
 pub fn truth(
-    alloc: Global,
-    imports: &Imports,
-    scope: &Scope,
-    levels: u32,
+    site: Site<'_>,
     variables: Variables,
     e: &Expr,
 ) -> Result<(TypedExpr, Variables), Rejected>
-    ensures { Judges (spec.truth_at imports.now scope.now levels variables e.now) result }
+    ensures { Judges (spec.truth_at site.entry.imports.now site.entry.scope.now site.entry.levels variables e.now) result }
 {
-    let (operand, variables) = expr(alloc, imports, scope, levels, variables, e)?;
+    let (operand, variables) = expr(site, variables, e)?;
     let value = fitting(truth_of(operand), RuleCode::Parameters, e.first_token())?;
     Ok((value, variables))
 }

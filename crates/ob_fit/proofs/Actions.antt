@@ -1,8 +1,8 @@
 -- What the rules of assignments and calls give fits.
 use Rattle.std.proofs.Common.{◌≡◌, ℕ, zero, suc, length, Bool, true, false, not, ◌&&◌, List, [], ◌∷◌, Option, Some, None, is_some, is_none, refl, sym, ap, ◌∙◌, subst}
-use Rattle.ob_parse.specs.declared.tree.Expr.{Expr}
-use Rattle.ob_parse.specs.declared.tree.Designator.{Designator as Written, out-Designator}
-use Rattle.ob_parse.specs.FirstToken.{first_of}
+use Rattle.ob_tree.specs.declared.tree.Expr.{Expr}
+use Rattle.ob_tree.specs.declared.tree.Designator.{Designator as Written, out-Designator}
+use Rattle.ob_tree.specs.FirstToken.{first_of}
 use Rattle.ob_types.specs.declared.exports.Formal.{Formal}
 use Rattle.ob_types.specs.declared.exports.Signature.{Signature}
 use Rattle.ob_types.specs.declared.exports.FormalKind.{FormalKind}
@@ -30,23 +30,23 @@ use Rattle.ob_mean.specs.declared.statement.OutputCall.TheVariants as outgoing
 use Rattle.ob_mean.specs.declared.statement.Reader.{Reader}
 use Rattle.ob_mean.specs.declared.statement.Reader.TheVariants as reader
 use Rattle.ob_mean.specs.WellFormed.{Names, Of, ExprFits, IndexesFit, IsPassed, IsBasic, IsText, IsRead, ActionFits, object_of, called}
-use Rattle.ob_declare.specs.declared.predeclared.InputName.{InputName}
-use Rattle.ob_declare.specs.declared.predeclared.InputName.TheVariants as in_name
-use Rattle.ob_declare.specs.declared.predeclared.OutputName.{OutputName}
-use Rattle.ob_declare.specs.declared.predeclared.OutputName.TheVariants as out_name
-use Rattle.ob_declare.specs.declared.predeclared.ProperProcedure.{ProperProcedure}
-use Rattle.ob_declare.specs.declared.predeclared.ProperProcedure.TheVariants as procedure
-use Rattle.ob_declare.specs.declared.scope.Scope.{Scope}
-use Rattle.ob_declare.specs.Imports.{Modules}
-use Rattle.ob_declare.specs.Rule.{gives}
-use Rattle.ob_express.specs.declared.operand.Operand.{Operand}
-use Rattle.ob_express.specs.declared.operand.Operand.TheVariants as operand
-use Rattle.ob_express.specs.Operands.{Variables}
-use Rattle.ob_express.specs.Named.{Callable}
-use Rattle.ob_express.specs.Named as meaning
-use Rattle.ob_check.specs.Assignments.{basic_of, is_open, is_left_out_copy, structured_assigned, assigned, assignment}
-use Rattle.ob_check.specs.Calls.{call_with, procedure_call, call_of, call}
-use Rattle.ob_check.specs.StandardCalls.{value_formal, variable_formal, reader_formal, place_passed, value_passed, none_left, without_actuals, number_inside, truth_inside, place_at, scalar_at, read_call, in_call, out_char, out_string, out_width, out_int, out_call, adjusted_by, adjusted, asserted, predeclared_call}
+use Rattle.ob_scope.specs.declared.predeclared.InputName.{InputName}
+use Rattle.ob_scope.specs.declared.predeclared.InputName.TheVariants as in_name
+use Rattle.ob_scope.specs.declared.predeclared.OutputName.{OutputName}
+use Rattle.ob_scope.specs.declared.predeclared.OutputName.TheVariants as out_name
+use Rattle.ob_scope.specs.declared.predeclared.ProperProcedure.{ProperProcedure}
+use Rattle.ob_scope.specs.declared.predeclared.ProperProcedure.TheVariants as procedure
+use Rattle.ob_scope.specs.declared.scope.Scope.{Scope}
+use Rattle.ob_scope.specs.Imports.{Modules}
+use Rattle.ob_scope.specs.Rule.{gives}
+use Rattle.ob_operand.specs.declared.operand.Operand.{Operand}
+use Rattle.ob_operand.specs.declared.operand.Operand.TheVariants as operand
+use Rattle.ob_operand.specs.Operands.{Variables}
+use Rattle.ob_operand.specs.Named.{Callable}
+use Rattle.ob_operand.specs.Named as meaning
+use Rattle.ob_statement.specs.Assignments.{basic_of, is_open, is_left_out_copy, structured_assigned, assigned, assignment}
+use Rattle.ob_statement.specs.Calls.{call_with, procedure_call, call_of, call}
+use Rattle.ob_statement.specs.StandardCalls.{value_formal, variable_formal, reader_formal, place_passed, value_passed, none_left, without_actuals, number_inside, truth_inside, place_at, scalar_at, read_call, in_call, out_char, out_string, out_width, out_int, out_call, adjusted_by, adjusted, asserted, predeclared_call}
 use Rattle.ob_check.specs.Shapes.{shape_of, parameters_of}
 use Rattle.ob_check.proofs.ShapeForms.{parameter_open}
 use Rattle.ob_fit.specs.Fitting.{Suits, OperandFits, ScopeFits, StartsWith, heading_of}

@@ -2,9 +2,9 @@
 use Rattle.std.proofs.Common.{◌≡◌, inl, inr, ◌≤◌, ◌<◌, ℕ, zero, suc, ◌+◌, nat_le, ◌++◌, length, Bool, true, false, cond, List, [], ◌∷◌, Option, Some, None, is_some, slice_get, refl, sym, ap, ◌∙◌, subst, arith}
 use Rattle.std.proofs.lemmas.Bool.Decides.{nat_tests}
 use Rattle.std.specs.Str.{bytes_eq}
-use Rattle.ob_parse.specs.declared.tree.Formals.{Formals}
-use Rattle.ob_parse.specs.declared.tree.FormalSection.{FormalSection}
-use Rattle.ob_parse.specs.declared.tree.Ident.{Ident}
+use Rattle.ob_tree.specs.declared.tree.Formals.{Formals}
+use Rattle.ob_tree.specs.declared.tree.FormalSection.{FormalSection}
+use Rattle.ob_tree.specs.declared.tree.Ident.{Ident}
 use Rattle.ob_types.specs.declared.exports.Formal.{Formal}
 use Rattle.ob_types.specs.declared.structure.ObType.{ObType, end_of-ObType, more_of-ObType}
 use Rattle.ob_types.specs.declared.structure.ObType.TheVariants.{Basic as OfBasic, Array', Open', Record}
@@ -16,19 +16,19 @@ use Rattle.ob_mean.specs.declared.module.Parameter.TheVariants as parameter
 use Rattle.ob_mean.specs.declared.shape.Shape.{Shape}
 use Rattle.ob_mean.specs.declared.shape.Shape.TheVariants as shape
 use Rattle.ob_mean.specs.WellFormed.{Names, Of, variable_object, module_object, own_object, value_object, named_object, shape_object, own_heading}
-use Rattle.ob_declare.specs.declared.block.Declared.{Declared}
-use Rattle.ob_declare.specs.declared.block.Entry.{Entry}
-use Rattle.ob_declare.specs.declared.block.Entry.TheVariants as entry
-use Rattle.ob_declare.specs.declared.block.Standing.{Standing}
-use Rattle.ob_declare.specs.declared.block.Standing.TheVariants as standing
+use Rattle.ob_scope.specs.declared.block.Declared.{Declared}
+use Rattle.ob_scope.specs.declared.block.Entry.{Entry}
+use Rattle.ob_scope.specs.declared.block.Entry.TheVariants as entry
+use Rattle.ob_scope.specs.declared.block.Standing.{Standing}
+use Rattle.ob_scope.specs.declared.block.Standing.TheVariants as standing
 use Rattle.ob_declare.specs.declared.heading.Heading.{Heading}
 use Rattle.ob_declare.specs.declared.heading.Parameters.{Parameters}
-use Rattle.ob_declare.specs.declared.scope.Scope.{Scope}
-use Rattle.ob_declare.specs.Block.{find}
-use Rattle.ob_declare.specs.Exports.{Modules}
+use Rattle.ob_scope.specs.declared.scope.Scope.{Scope}
+use Rattle.ob_scope.specs.Block.{find}
+use Rattle.ob_scope.specs.Exports.{Modules}
 use Rattle.ob_declare.specs.Headings.{kind_of, standing_of, no_parameters, parameter_rule, typed_parameters, section_rule, formals_rule, heading_rule}
-use Rattle.ob_declare.specs.Rule.{gives}
-use Rattle.ob_declare.specs.Scope.{seen, nearer, seen_inside, nearest, is_seen_inside, in_heading}
+use Rattle.ob_scope.specs.Rule.{gives}
+use Rattle.ob_scope.specs.Scope.{seen, nearer, seen_inside, nearest, is_seen_inside, in_heading}
 use Rattle.ob_check.specs.Procedures.{own_shape, own_shapes}
 use Rattle.ob_check.specs.Shapes.{shape_of, parameter_of, parameters_of}
 use Rattle.ob_fit.specs.Fitting.{Suits, EntryFits, ScopeFits, StartsWith, heading_of, loaded_face}

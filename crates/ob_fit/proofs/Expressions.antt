@@ -1,17 +1,17 @@
 -- What the rules of expressions, designators and actual parameters give fits.
 use Rattle.std.proofs.Common.{◌≡◌, inl, ℕ, zero, suc, ◌++◌, Bool, List, [], ◌∷◌, Option, Some, None, is_some, refl, sym, ap, ◌∙◌, subst}
-use Rattle.ob_declare.specs.declared.rule.RuleCode.TheVariants as code
-use Rattle.ob_parse.specs.declared.tree.Expr.{Expr, out-Expr}
-use Rattle.ob_parse.specs.declared.tree.Related.{Related, out-Related}
-use Rattle.ob_parse.specs.declared.tree.Simple.{Simple, out-Simple}
-use Rattle.ob_parse.specs.declared.tree.AddedTerm.{AddedTerm, out-AddedTerm}
-use Rattle.ob_parse.specs.declared.tree.Term.{Term, out-Term}
-use Rattle.ob_parse.specs.declared.tree.NextFactor.{NextFactor, out-NextFactor}
-use Rattle.ob_parse.specs.declared.tree.Factor.{Factor, out-Factor}
-use Rattle.ob_parse.specs.declared.tree.Designator.{Designator as Written, out-Designator}
-use Rattle.ob_parse.specs.declared.tree.Selector.{Selector, out-Selector}
-use Rattle.ob_parse.specs.declared.tree.Factor.TheOpen.{Factor-F, Selector-F}
-use Rattle.ob_parse.specs.FirstToken.{first_of}
+use Rattle.ob_scope.specs.declared.rule.RuleCode.TheVariants as code
+use Rattle.ob_tree.specs.declared.tree.Expr.{Expr, out-Expr}
+use Rattle.ob_tree.specs.declared.tree.Related.{Related, out-Related}
+use Rattle.ob_tree.specs.declared.tree.Simple.{Simple, out-Simple}
+use Rattle.ob_tree.specs.declared.tree.AddedTerm.{AddedTerm, out-AddedTerm}
+use Rattle.ob_tree.specs.declared.tree.Term.{Term, out-Term}
+use Rattle.ob_tree.specs.declared.tree.NextFactor.{NextFactor, out-NextFactor}
+use Rattle.ob_tree.specs.declared.tree.Factor.{Factor, out-Factor}
+use Rattle.ob_tree.specs.declared.tree.Designator.{Designator as Written, out-Designator}
+use Rattle.ob_tree.specs.declared.tree.Selector.{Selector, out-Selector}
+use Rattle.ob_tree.specs.declared.tree.Factor.TheOpen.{Factor-F, Selector-F}
+use Rattle.ob_tree.specs.FirstToken.{first_of}
 use Rattle.ob_types.specs.declared.exports.Formal.{Formal}
 use Rattle.ob_types.specs.declared.exports.FormalKind.{FormalKind}
 use Rattle.ob_types.specs.declared.exports.FormalKind.TheVariants as kind
@@ -23,21 +23,21 @@ use Rattle.ob_mean.specs.declared.expression.Designator.TheVariants as designato
 use Rattle.ob_mean.specs.declared.expression.TypedExpr.{TypedExpr}
 use Rattle.ob_mean.specs.declared.module.Parameter.{Parameter}
 use Rattle.ob_mean.specs.WellFormed.{Names, ExprFits, IndexesFit, ListPassed, object_of, called, shape_object}
-use Rattle.ob_declare.specs.declared.predeclared.Function.{Function}
-use Rattle.ob_declare.specs.declared.scope.Scope.{Scope}
-use Rattle.ob_declare.specs.Constants.{FactorLayer, SelectorLayer}
-use Rattle.ob_declare.specs.Imports.{Modules}
-use Rattle.ob_declare.specs.Rule.{Rule, gives}
-use Rattle.ob_express.specs.declared.operand.Operand.{Operand}
-use Rattle.ob_express.specs.declared.operand.Operand.TheVariants as operand
-use Rattle.ob_express.specs.declared.joining.Joined.TheVariants as joined
-use Rattle.ob_express.specs.Operands.{Variables, number_of, truth_of, value_for}
-use Rattle.ob_express.specs.Joining.{mul_joining, add_joining}
-use Rattle.ob_express.specs.Relations.{relation_of}
-use Rattle.ob_express.specs.Functions.{one_of}
-use Rattle.ob_express.specs.Selecting.{Selected, selected, indexed, selector_layer, element_of}
-use Rattle.ob_express.specs.Named.{Meant, Callable}
-use Rattle.ob_express.specs.Named as meaning
+use Rattle.ob_scope.specs.declared.predeclared.Function.{Function}
+use Rattle.ob_scope.specs.declared.scope.Scope.{Scope}
+use Rattle.ob_fold.specs.Constants.{FactorLayer, SelectorLayer}
+use Rattle.ob_scope.specs.Imports.{Modules}
+use Rattle.ob_scope.specs.Rule.{Rule, gives}
+use Rattle.ob_operand.specs.declared.operand.Operand.{Operand}
+use Rattle.ob_operand.specs.declared.operand.Operand.TheVariants as operand
+use Rattle.ob_operand.specs.declared.joining.Joined.TheVariants as joined
+use Rattle.ob_operand.specs.Operands.{Variables, number_of, truth_of, value_for}
+use Rattle.ob_operand.specs.Joining.{mul_joining, add_joining}
+use Rattle.ob_operand.specs.Relations.{relation_of}
+use Rattle.ob_operand.specs.Functions.{one_of}
+use Rattle.ob_operand.specs.Selecting.{Selected, selected, indexed, selector_layer, element_of}
+use Rattle.ob_operand.specs.Named.{Meant, Callable}
+use Rattle.ob_operand.specs.Named as meaning
 use Rattle.ob_express.specs.Expressions.{Typed, Joining, Passing, alone, meant_rule, target_rule, two_taken, one_taken, predeclared_rule, one_passed, next_passed, none_left, all_passed, function_rule, call_rule, factor_layer, factor_rule, next_factor, term_rule, added_term, simple_rule, related_rule, expr_rule, variable_actual, value_actual, actual_rule, inner_at, deeper_at, passed_at, expr_at, target_at, actuals_at, is_value, value_at, value_for_at, guard_at, number_at, truth_at}
 use Rattle.ob_check.specs.Shapes.{parameters_of}
 use Rattle.ob_fit.specs.Fitting.{Suits, OperandFits, ScopeFits, StartsWith}

@@ -12,4 +12,4 @@ pub mod Locals
 pub mod Procedures
 pub mod Modules
 pub mod Solid
-pub mod Forming
+pub mod Sizes

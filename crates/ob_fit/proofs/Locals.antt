@@ -1,35 +1,37 @@
 -- The declarations of a procedure fit.
-use Rattle.std.proofs.Common.{◌≡◌, inl, ℕ, ◌+◌, nat_le, nat_lt, ◌++◌, length, Bool, true, false, ◌&&◌, cond, List, [], ◌∷◌, refl, sym, ap, ◌∙◌, subst, arith}
+use Rattle.std.proofs.Common.{◌≡◌, ◌<◌, inl, ℕ, ◌+◌, nat_le, nat_lt, ◌++◌, length, Bool, true, false, ◌&&◌, cond, List, [], ◌∷◌, refl, sym, ap, ◌∙◌, subst, arith}
 use Rattle.std.proofs.lemmas.Bool.Decides.{nat_tests}
-use Rattle.ob_declare.specs.declared.rule.RuleCode.TheVariants as code
-use Rattle.ob_parse.specs.declared.tree.Declarations.{Declarations, out-Declarations}
-use Rattle.ob_parse.specs.declared.tree.ConstDeclaration.{ConstDeclaration}
-use Rattle.ob_parse.specs.declared.tree.TypeDeclaration.{TypeDeclaration}
-use Rattle.ob_parse.specs.declared.tree.TypedNames.{TypedNames, out-TypedNames}
-use Rattle.ob_parse.specs.declared.tree.IdentDef.{IdentDef}
+use Rattle.ob_scope.specs.declared.rule.RuleCode.TheVariants as code
+use Rattle.ob_tree.specs.declared.tree.Declarations.{Declarations, out-Declarations}
+use Rattle.ob_tree.specs.declared.tree.ConstDeclaration.{ConstDeclaration}
+use Rattle.ob_tree.specs.declared.tree.TypeDeclaration.{TypeDeclaration}
+use Rattle.ob_tree.specs.declared.tree.TypedNames.{TypedNames, out-TypedNames}
+use Rattle.ob_tree.specs.declared.tree.IdentDef.{IdentDef}
 use Rattle.ob_types.specs.declared.structure.ObType.{ObType}
 use Rattle.ob_mean.specs.declared.module.Parameter.{Parameter}
 use Rattle.ob_mean.specs.declared.shape.Shape.{Shape}
-use Rattle.ob_mean.specs.WellFormed.{Names, shape_object}
-use Rattle.ob_declare.specs.declared.block.Declared.{Declared}
-use Rattle.ob_declare.specs.declared.block.Entry.{Entry}
-use Rattle.ob_declare.specs.declared.block.Entry.TheVariants as entry
-use Rattle.ob_declare.specs.declared.block.Standing.TheVariants as standing
-use Rattle.ob_declare.specs.declared.scope.Scope.{Scope}
+use Rattle.ob_mean.specs.WellFormed.{Names, ShapesFit, shape_object}
+use Rattle.ob_scope.specs.declared.block.Declared.{Declared}
+use Rattle.ob_scope.specs.declared.block.Entry.{Entry}
+use Rattle.ob_scope.specs.declared.block.Entry.TheVariants as entry
+use Rattle.ob_scope.specs.declared.block.Standing.TheVariants as standing
+use Rattle.ob_scope.specs.declared.scope.Scope.{Scope}
 use Rattle.ob_declare.specs.Declarations.{one_more, max_count, has_mark, constant_rule, new_constant, type_rule, new_type, variable_in, local_variable, variable_rule, typed_variables, variables_rule, declarations_rule}
-use Rattle.ob_declare.specs.Exports.{Modules}
-use Rattle.ob_declare.specs.Rule.{gives}
-use Rattle.ob_declare.specs.Scope.{with_entry}
-use Rattle.ob_declare.specs.Stack.{is_empty}
+use Rattle.ob_scope.specs.Exports.{Modules}
+use Rattle.ob_scope.specs.Rule.{gives}
+use Rattle.ob_scope.specs.Scope.{with_entry}
+use Rattle.ob_scope.specs.Stack.{is_empty}
 use Rattle.ob_check.specs.Procedures.{own_shape, own_shapes}
 use Rattle.ob_check.specs.Shapes.{shape_of}
 use Rattle.ob_fit.specs.Fitting.{StartsWith}
 use Rattle.ob_types.specs.Solid.{IsSolid}
+use Rattle.ob_types.specs.Types.{cells}
 use Rattle.ob_fit.specs.Solid.{EachSolid}
 use Rattle.ob_fit.proofs.Grows.{same}
 use Rattle.ob_fit.proofs.Solid.{SolidEntry, SeenSolid, type_solid}
 use Rattle.ob_fit.proofs.Blocks.{EachBlock, each_map, outer_of, outer_solid, seen_solid, EntryOf, EachEntry, within, each_more, own_more, own_behind, length_more}
 use Rattle.ob_fit.proofs.Rules.{if_some, joined_none, starts_before, starts_reads, there_is, through_keeps}
+use Rattle.ob_fit.proofs.Sizes.{shapes_join, few_of, declared_few}
 
 at_most : (k i j : ℕ) → i ≡ k + j → nat_le k i ≡ true
 at_most k i j h = grind (arith, nat_tests)
@@ -40,6 +42,7 @@ module _ (ms : Modules) (names : Names) (base : ℕ) (ps : List Parameter) (encl
   LocalPart n ds =
       (n ≡ length ps + length (own_shapes (length ps) ds))
       × ((own : List Shape) → StartsWith own (own_shapes (length ps) ds) → EachEntry (EntryOf ms (within names ps own) base) ds)
+      × ShapesFit (own_shapes (length ps) ds)
 
   abbrev pub InProcedure : Scope → Type 0
   InProcedure s = (s.around ≡ outer ∷ others) × (s.enclosing ≡ enclosing) × (s.exported_count ≡ base) × LocalPart s.local_count s.block
@@ -58,6 +61,7 @@ module _ (ms : Modules) (names : Names) (base : ℕ) (ps : List Parameter) (encl
     (
       (g.3).0 ∙ ap (λ l. length ps + length l) (sym q),
       λ own st. each_more (EntryOf ms (within names ps own) base) s.block d ((g.3).1 own (subst (StartsWith own) q st)) (f own),
+      subst ShapesFit (sym q) ((g.3).2),
     ),
   )
     where
@@ -75,9 +79,9 @@ module _ (ms : Modules) (names : Names) (base : ℕ) (ps : List Parameter) (encl
   unfolding type_rule new_type
   type_fits n s x t h g = subst InProcedure ((h.1).2) (plain s x.name.name.name (has_mark x.name) (entry.TypeName (h.1).0.of) refl (λ own. type_solid ms loaded s (solid_here s g) _ n 0 x.of (h.1).0 (h.1).1) g)
 
-  local_fits : (s : Scope) (name : List ℕ) (t : ObType) (u : Scope) → IsSolid t → gives (local_variable s name t) u → InProcedure s → InProcedure u
+  local_fits : (s : Scope) (name : List ℕ) (t : ObType) (u : Scope) → IsSolid t → cells t < 2147483648 → gives (local_variable s name t) u → InProcedure s → InProcedure u
   unfolding local_variable
-  local_fits s name t u sound h g = subst InProcedure h.2 (g.0, g.1, g.2, (counted, facts))
+  local_fits s name t u sound few h g = subst InProcedure h.2 (g.0, g.1, g.2, (counted, facts, subst ShapesFit (sym q) (shapes_join xs (shape_of t ∷ []) ((g.3).2) (few_of t few, tt))))
     where
       xs : List Shape
       xs = own_shapes (length ps) s.block
@@ -108,7 +112,7 @@ module _ (ms : Modules) (names : Names) (base : ℕ) (ps : List Parameter) (encl
   variable_fits : (t : ObType) → IsSolid t → (s : Scope) (name : IdentDef) (u : Scope) → gives (variable_rule t s name) u → InProcedure s → InProcedure u
   unfolding variable_rule variable_in
   variable_fits t sound s name u h g =
-      local_fits (record s { cells_taken = (h.1).0 }) name.name.name t u sound
+      local_fits (record s { cells_taken = (h.1).0 }) name.name.name t u sound (declared_few (is_empty s.around) s.cells_taken t (h.1).0 (h.1).1)
       (subst (λ b. gives (variable_in b (has_mark name) (record s { cells_taken = (h.1).0 }) name.name.name t) u) (ap is_empty g.0) (h.1).2) g
 
   variables_fit : (n : ℕ) (s : Scope) (x : TypedNames) (t : Scope) → gives (variables_rule ms n s x) t → InProcedure s → InProcedure t

@@ -1,57 +1,59 @@
--- The typed tree of a module fits.
+-- The typed tree of a module is well formed.
 use Rattle.std.proofs.Common.{◌≡◌, inl, ◌<◌, ℕ, zero, suc, ◌+◌, nat_lt, ◌++◌, length, Bool, true, false, ◌&&◌, cond, List, [], ◌∷◌, Option, Some, None, option_map, slice_get, refl, sym, ap, ◌∙◌, subst, arith}
 use Rattle.std.proofs.lemmas.Option.{slice_get_within}
 use Rattle.std.proofs.lemmas.Slice.Eq.{bytes_eq-Decides}
 use Rattle.std.specs.Str.{bytes_eq}
-use Rattle.ob_declare.specs.declared.rule.RuleCode.TheVariants as code
-use Rattle.ob_parse.specs.declared.tree.Declarations.{Declarations, out-Declarations}
-use Rattle.ob_parse.specs.declared.tree.ConstDeclaration.{ConstDeclaration}
-use Rattle.ob_parse.specs.declared.tree.TypeDeclaration.{TypeDeclaration}
-use Rattle.ob_parse.specs.declared.tree.TypedNames.{TypedNames, out-TypedNames}
-use Rattle.ob_parse.specs.declared.tree.IdentDef.{IdentDef}
-use Rattle.ob_parse.specs.declared.tree.Import.{Import}
-use Rattle.ob_parse.specs.declared.tree.Module.{Module}
+use Rattle.ob_scope.specs.declared.rule.RuleCode.TheVariants as code
+use Rattle.ob_tree.specs.declared.tree.Declarations.{Declarations, out-Declarations}
+use Rattle.ob_tree.specs.declared.tree.ConstDeclaration.{ConstDeclaration}
+use Rattle.ob_tree.specs.declared.tree.TypeDeclaration.{TypeDeclaration}
+use Rattle.ob_tree.specs.declared.tree.TypedNames.{TypedNames, out-TypedNames}
+use Rattle.ob_tree.specs.declared.tree.IdentDef.{IdentDef}
+use Rattle.ob_tree.specs.declared.tree.Import.{Import}
+use Rattle.ob_tree.specs.declared.tree.Module.{Module}
 use Rattle.ob_types.specs.declared.structure.ObType.{ObType}
 use Rattle.ob_mean.specs.declared.face.Face.{Face}
 use Rattle.ob_mean.specs.declared.module.ModuleVariable.{ModuleVariable}
 use Rattle.ob_mean.specs.declared.module.ModuleVariable.TheVariants as module_variable
 use Rattle.ob_mean.specs.declared.module.TypedModule.{TypedModule}
 use Rattle.ob_mean.specs.declared.module.TypedProcedure.{TypedProcedure}
-use Rattle.ob_mean.specs.WellFormed.{Names, AllBelow, module_object, own_heading, StartWith, AreHeadings, IsFaceOf}
-use Rattle.ob_declare.specs.declared.block.Declared.{Declared}
-use Rattle.ob_declare.specs.declared.block.Entry.{Entry}
-use Rattle.ob_declare.specs.declared.block.Entry.TheVariants as entry
-use Rattle.ob_declare.specs.declared.block.Standing.TheVariants as standing
-use Rattle.ob_declare.specs.declared.imports.StandardName.{StandardName}
-use Rattle.ob_declare.specs.declared.imports.StandardName.TheVariants as standard
-use Rattle.ob_declare.specs.declared.scope.Scope.{Scope}
+use Rattle.ob_mean.specs.WellFormed.{Names, VariablesFit, ProcedureFits, ProceduresFit, IsWellFormed, AllBelow, module_object, own_heading, StartWith, AreHeadings, IsFaceOf}
+use Rattle.ob_scope.specs.declared.block.Declared.{Declared}
+use Rattle.ob_scope.specs.declared.block.Entry.{Entry}
+use Rattle.ob_scope.specs.declared.block.Entry.TheVariants as entry
+use Rattle.ob_scope.specs.declared.block.Standing.TheVariants as standing
+use Rattle.ob_scope.specs.declared.imports.StandardName.{StandardName}
+use Rattle.ob_scope.specs.declared.imports.StandardName.TheVariants as standard
+use Rattle.ob_scope.specs.declared.scope.Scope.{Scope}
 use Rattle.ob_declare.specs.Declarations as declarations
 use Rattle.ob_declare.specs.Declarations.{one_more, max_count, max_variables, has_mark, own_name, loaded_place, with_module, other_module, imported_as, import_named, import_rule, constant_rule, new_constant, type_rule, new_type, variable_in, variable_rule, typed_variables, variables_rule, declarations_rule}
-use Rattle.ob_declare.specs.Exports.{Modules, module_names}
-use Rattle.ob_declare.specs.Imports.{module_place, standard_named}
+use Rattle.ob_scope.specs.Exports.{Modules, module_names}
+use Rattle.ob_scope.specs.Imports.{module_place, standard_named}
 use Rattle.ob_declare.specs.Interfaces.{exported_procedures, number_of, exported_of, object_of, exports_of}
 use Rattle.ob_types.specs.declared.exports.Exported.{Exported}
-use Rattle.ob_declare.specs.LoadedTree.{LoadedTree}
-use Rattle.ob_declare.specs.Names.{place_in}
-use Rattle.ob_declare.specs.Rule.{gives, there, through}
-use Rattle.ob_declare.specs.Scope.{opening}
-use Rattle.ob_declare.specs.Stack.{is_empty}
+use Rattle.ob_scope.specs.LoadedTree.{LoadedTree}
+use Rattle.ob_scope.specs.Names.{place_in}
+use Rattle.ob_scope.specs.Rule.{gives, there, through}
+use Rattle.ob_scope.specs.Scope.{opening}
+use Rattle.ob_scope.specs.Stack.{is_empty}
 use Rattle.ob_check.specs.declared.checked.Imported.{Imported}
 use Rattle.ob_check.specs.CheckedTree.{CheckedTree}
 use Rattle.ob_check.specs.Modules.{exported_variable, exported_variables, own_variable, own_variables, declared_variables, with_key, imported_by, all_imported, checked_of, body_rule, procedures_rule, checked_rule, module_at}
 use Rattle.ob_check.specs.Procedures.{Checking, counted, procedure_at}
 use Rattle.ob_check.specs.Shapes.{shape_of}
-use Rattle.ob_check.specs.Statements.{statements_at}
+use Rattle.ob_statement.specs.Statements.{statements_at}
 use Rattle.ob_mean.specs.declared.shape.Shape.{Shape}
 use Rattle.ob_mean.specs.declared.face.Heading.{Heading}
-use Rattle.ob_fit.specs.Fitting.{face_of_interface, variable_shape, variable_shapes, procedure_heading, procedure_headings, StartsWith, ScopeFits, heading_of, face_of_loaded, loaded_face, with_face, face_named, faces_of, ProcedureBodiesFit, IsFitting, EachCheckedFits}
+use Rattle.ob_fit.specs.Fitting.{face_of_interface, variable_shape, variable_shapes, procedure_heading, procedure_headings, StartsWith, ScopeFits, heading_of, face_of_loaded, loaded_face, with_face, face_named, faces_of, EachCheckedFits}
 use Rattle.ob_types.specs.Solid.{IsSolid, ExportsSolid}
+use Rattle.ob_types.specs.Types.{cells}
 use Rattle.ob_fit.specs.Solid.{EachSolid}
 use Rattle.ob_fit.proofs.Solid.{SolidEntry, SeenSolid, type_solid}
 use Rattle.ob_fit.proofs.Blocks.{seen_solid, outer_solid, EntryOf, OuterOf, EachEntry, EachBlock, within, outer_of, each_more, each_map, scope_fits, length_more}
-use Rattle.ob_fit.proofs.Grows.{part, same, longer, optional_grows, statements_grow}
+use Rattle.ob_fit.proofs.Grows.{part, same, Extends, begins_with, further, optional_grows, statements_grow}
 use Rattle.ob_fit.proofs.Procedures.{EachMeets, At, all_grow, all_fit, procedure_grows, procedure_fits}
 use Rattle.ob_fit.proofs.Rules.{if_some, joined_none, joined_thrice, starts_reads, there_is, through_keeps}
+use Rattle.ob_fit.proofs.Sizes.{few_of, declared_few, variables_join, faces_few}
 use Rattle.ob_fit.proofs.Statements.{statements_fit, optional_fits}
 use Rattle.ob_fit.proofs.Suiting.{never, nothing, some_same}
 
@@ -118,12 +120,12 @@ ModuleEntry ms exported own faces entry.In = Unit {0}
 ModuleEntry ms exported own faces entry.Out = Unit {0}
 ModuleEntry ms exported own faces (entry.Module i place) = slice_get faces i ≡ loaded_face (slice_get ms place)
 
--- a variable has a mark exactly where it is exported
+-- a variable has a mark exactly where it is exported, and few cells
 abbrev Aligned : Bool → Entry → Type 0
 Aligned mark (entry.Constant c) = Unit {0}
 Aligned mark (entry.TypeName t) = Unit {0}
-Aligned mark (entry.Variable t (standing.Exported i)) = mark ≡ true
-Aligned mark (entry.Variable t (standing.Own i)) = mark ≡ false
+Aligned mark (entry.Variable t (standing.Exported i)) = (mark ≡ true) × (cells t < 2147483648)
+Aligned mark (entry.Variable t (standing.Own i)) = (mark ≡ false) × (cells t < 2147483648)
 Aligned mark (entry.Variable t (standing.Local i)) = ⊥
 Aligned mark (entry.Variable t (standing.ByParameter i)) = ⊥
 Aligned mark (entry.Variable t (standing.ReadOnly i)) = ⊥
@@ -214,30 +216,30 @@ module _ (ms : Modules) (loaded : EachSolid ms) where
         (none_more s.exported_count (exported_variables s.block) (g.2).0) (none_more s.own_count (own_variables s.block) (g.2).1) (none_more s.import_count (faces_of ms (all_imported ms s.block)) (g.2).2) (λ a b c d e f. type_solid ms loaded s (solid_here s g) _ n 0 x.of (h.1).0 (h.1).1) tt,
   )
 
-  variable_in_fits : (mark : Bool) (s : Scope) (name : List ℕ) (t : ObType) (u : Scope) → IsSolid t → gives (variable_in true mark s name t) u → InModule s → InModule u
+  variable_in_fits : (mark : Bool) (s : Scope) (name : List ℕ) (t : ObType) (u : Scope) → IsSolid t → cells t < 2147483648 → gives (variable_in true mark s name t) u → InModule s → InModule u
   unfolding variable_in declarations.exported_variable declarations.own_variable
-  variable_in_fits true s name t u sound h g = subst InModule h.2 (
+  variable_in_fits true s name t u sound few h g = subst InModule h.2 (
     g.0,
     g.1,
     more s.exported_count s.own_count s.import_count s.block (record { name = name; exported = is_empty s.around && true; entry = entry.Variable t (standing.Exported s.exported_count) }) h.0 s.own_count s.import_count g.2
         (one_counted s.exported_count h.0 (exported_variables s.block) (module_variable.Declared (shape_of t)) (g.2).0 (counted_by max_variables s.exported_count h.0 h.1))
         (none_more s.own_count (own_variables s.block) (g.2).1) (none_more s.import_count (faces_of ms (all_imported ms s.block)) (g.2).2)
-        (λ a b c d e f. (ap (slice_get a) (g.2).0 ∙ starts_reads a (exported_variables s.block) (module_variable.Declared (shape_of t)) d, sound)) (ap (λ x. is_empty x && true) g.0),
+        (λ a b c d e f. (ap (slice_get a) (g.2).0 ∙ starts_reads a (exported_variables s.block) (module_variable.Declared (shape_of t)) d, sound)) (ap (λ x. is_empty x && true) g.0, few),
   )
-  variable_in_fits false s name t u sound h g = subst InModule h.2 (
+  variable_in_fits false s name t u sound few h g = subst InModule h.2 (
     g.0,
     g.1,
     more s.exported_count s.own_count s.import_count s.block (record { name = name; exported = is_empty s.around && false; entry = entry.Variable t (standing.Own s.own_count) }) s.exported_count h.0 s.import_count g.2
         (none_more s.exported_count (exported_variables s.block) (g.2).0)
         (one_counted s.own_count h.0 (own_variables s.block) (module_variable.Declared (shape_of t)) (g.2).1 (counted_by max_variables s.own_count h.0 h.1))
         (none_more s.import_count (faces_of ms (all_imported ms s.block)) (g.2).2)
-        (λ a b c d e f. (ap (slice_get b) (g.2).1 ∙ starts_reads b (own_variables s.block) (module_variable.Declared (shape_of t)) e, sound)) (ap (λ x. is_empty x && false) g.0),
+        (λ a b c d e f. (ap (slice_get b) (g.2).1 ∙ starts_reads b (own_variables s.block) (module_variable.Declared (shape_of t)) e, sound)) (ap (λ x. is_empty x && false) g.0, few),
   )
 
   variable_fits : (t : ObType) → IsSolid t → (s : Scope) (name : IdentDef) (u : Scope) → gives (variable_rule t s name) u → InModule s → InModule u
   unfolding variable_rule
   variable_fits t sound s name u h g =
-      variable_in_fits (has_mark name) (record s { cells_taken = (h.1).0 }) name.name.name t u sound
+      variable_in_fits (has_mark name) (record s { cells_taken = (h.1).0 }) name.name.name t u sound (declared_few (is_empty s.around) s.cells_taken t (h.1).0 (h.1).1)
       (subst (λ b. gives (variable_in b (has_mark name) (record s { cells_taken = (h.1).0 }) name.name.name t) u) (ap is_empty g.0) (h.1).2) g
 
   variables_fit : (n : ℕ) (s : Scope) (x : TypedNames) (t : Scope) → gives (variables_rule ms n s x) t → InModule s → InModule t
@@ -306,31 +308,71 @@ module _ (ms : Modules) (loaded : EachSolid ms) where
       declarations_fit declarations.max_nesting k.0 m.declarations s k.2
       (through_keeps InModule (import_rule ms) (λ a e b u c. import_fits a e b u c) (opening m.name.name) m.imports k.0 k.1 (opening_fits m.name.name))
 
+-- ---- variables of few cells
+
+exported_one : (mark : Bool) (e : Entry) → Aligned mark e → VariablesFit (exported_variable e)
+exported_one mark (entry.Constant c) h = tt
+exported_one mark (entry.TypeName t) h = tt
+exported_one mark (entry.Variable t (standing.Exported i)) h = (few_of t h.1, tt)
+exported_one mark (entry.Variable t (standing.Own i)) h = tt
+exported_one mark (entry.Variable t (standing.Local i)) h = tt
+exported_one mark (entry.Variable t (standing.ByParameter i)) h = tt
+exported_one mark (entry.Variable t (standing.ReadOnly i)) h = tt
+exported_one mark (entry.Procedure p n) h = tt
+exported_one mark entry.In h = tt
+exported_one mark entry.Out h = tt
+exported_one mark (entry.Module i place) h = tt
+
+exported_few : (ds : List Declared) → EachAligned ds → VariablesFit (exported_variables ds)
+exported_few [] h = tt
+exported_few (d ∷ ds) h = variables_join (exported_variable d.entry) (exported_variables ds) (exported_one d.exported d.entry h.0) (exported_few ds h.1)
+
+own_one : (mark : Bool) (e : Entry) → Aligned mark e → VariablesFit (own_variable e)
+own_one mark (entry.Constant c) h = tt
+own_one mark (entry.TypeName t) h = tt
+own_one mark (entry.Variable t (standing.Exported i)) h = tt
+own_one mark (entry.Variable t (standing.Own i)) h = (few_of t h.1, tt)
+own_one mark (entry.Variable t (standing.Local i)) h = tt
+own_one mark (entry.Variable t (standing.ByParameter i)) h = tt
+own_one mark (entry.Variable t (standing.ReadOnly i)) h = tt
+own_one mark (entry.Procedure p n) h = tt
+own_one mark entry.In h = tt
+own_one mark entry.Out h = tt
+own_one mark (entry.Module i place) h = tt
+
+own_few : (ds : List Declared) → EachAligned ds → VariablesFit (own_variables ds)
+own_few [] h = tt
+own_few (d ∷ ds) h = variables_join (own_variable d.entry) (own_variables ds) (own_one d.exported d.entry h.0) (own_few ds h.1)
+
 -- ---- what is exported
 
 exports_append : (es fs : List Exported) → ExportsSolid es → ExportsSolid fs → ExportsSolid (es ++ fs)
 exports_append [] fs h g = g
 exports_append (e ∷ es) fs h g = (h.0, exports_append es fs h.1 g)
 
-one_exported : (name : List ℕ) (mark : Bool) (e : Entry) → SolidEntry e → ExportsSolid (exported_of name mark (object_of e))
-one_exported name true (entry.Constant c) h = (tt, tt)
-one_exported name true (entry.TypeName t) h = (h, tt)
-one_exported name true (entry.Variable t s) h = (h, tt)
-one_exported name true (entry.Procedure p n) h = (tt, tt)
-one_exported name true entry.In h = tt
-one_exported name true entry.Out h = tt
-one_exported name true (entry.Module i place) h = tt
-one_exported name false (entry.Constant c) h = tt
-one_exported name false (entry.TypeName t) h = tt
-one_exported name false (entry.Variable t s) h = tt
-one_exported name false (entry.Procedure p n) h = tt
-one_exported name false entry.In h = tt
-one_exported name false entry.Out h = tt
-one_exported name false (entry.Module i place) h = tt
+one_exported : (name : List ℕ) (mark : Bool) (e : Entry) → SolidEntry e → Aligned mark e → ExportsSolid (exported_of name mark (object_of e))
+one_exported name true (entry.Constant c) h g = (tt, tt)
+one_exported name true (entry.TypeName t) h g = (h, tt)
+one_exported name true (entry.Variable t (standing.Exported i)) h g = ((h, g.1), tt)
+one_exported name true (entry.Variable t (standing.Own i)) h g = ((h, g.1), tt)
+one_exported name true (entry.Variable t (standing.Local i)) h g = absurd g
+one_exported name true (entry.Variable t (standing.ByParameter i)) h g = absurd g
+one_exported name true (entry.Variable t (standing.ReadOnly i)) h g = absurd g
+one_exported name true (entry.Procedure p n) h g = (tt, tt)
+one_exported name true entry.In h g = tt
+one_exported name true entry.Out h g = tt
+one_exported name true (entry.Module i place) h g = tt
+one_exported name false (entry.Constant c) h g = tt
+one_exported name false (entry.TypeName t) h g = tt
+one_exported name false (entry.Variable t s) h g = tt
+one_exported name false (entry.Procedure p n) h g = tt
+one_exported name false entry.In h g = tt
+one_exported name false entry.Out h g = tt
+one_exported name false (entry.Module i place) h g = tt
 
-exports_solid : (ds : List Declared) → EachEntry SolidEntry ds → ExportsSolid (exports_of ds)
-exports_solid [] h = tt
-exports_solid (d ∷ ds) h = exports_append (exported_of d.name d.exported (object_of d.entry)) (exports_of ds) (one_exported d.name d.exported d.entry h.0) (exports_solid ds h.1)
+exports_solid : (ds : List Declared) → EachEntry SolidEntry ds → EachAligned ds → ExportsSolid (exports_of ds)
+exports_solid [] h g = tt
+exports_solid (d ∷ ds) h g = exports_append (exported_of d.name d.exported (object_of d.entry)) (exports_of ds) (one_exported d.name d.exported d.entry h.0 g.0) (exports_solid ds h.1 g.1)
 
 -- ---- what the interface says
 
@@ -356,7 +398,7 @@ unfolding declared_all
 one_shown name true (entry.Constant c) h = refl
 one_shown name true (entry.TypeName t) h = refl
 one_shown name true (entry.Variable t (standing.Exported i)) h = refl
-one_shown name true (entry.Variable t (standing.Own i)) h = never (sym h)
+one_shown name true (entry.Variable t (standing.Own i)) h = never (sym h.0)
 one_shown name true (entry.Variable t (standing.Local i)) h = absurd h
 one_shown name true (entry.Variable t (standing.ByParameter i)) h = absurd h
 one_shown name true (entry.Variable t (standing.ReadOnly i)) h = absurd h
@@ -366,7 +408,7 @@ one_shown name true entry.Out h = refl
 one_shown name true (entry.Module i place) h = refl
 one_shown name false (entry.Constant c) h = refl
 one_shown name false (entry.TypeName t) h = refl
-one_shown name false (entry.Variable t (standing.Exported i)) h = never h
+one_shown name false (entry.Variable t (standing.Exported i)) h = never h.0
 one_shown name false (entry.Variable t (standing.Own i)) h = refl
 one_shown name false (entry.Variable t (standing.Local i)) h = absurd h
 one_shown name false (entry.Variable t (standing.ByParameter i)) h = absurd h
@@ -468,24 +510,26 @@ module _ (ms : Modules) (names : Names) (base : ℕ) where
   entry_kept ds entry.Out b s h = tt
   entry_kept ds (entry.Module i place) b s h = h
 
-bodies_fit : (names : Names) (m : TypedModule) (fs : List TypedProcedure) → m.variables ≡ names.variables → m.procedures ≡ names.procedures → EachMeets names fs → ProcedureBodiesFit names.faces m fs
+bodies_fit : (names : Names) (m : TypedModule) (fs : List TypedProcedure) → m.variables ≡ names.variables → m.procedures ≡ names.procedures → EachMeets names fs → ProceduresFit names.faces m fs
 bodies_fit names m [] e f h = tt
 bodies_fit names m (p ∷ fs) e f h = (subst (λ x. Body x) (λ i. record { faces = names.faces; variables = sym e i; procedures = sym f i; parameters = p.parameters; own = p.variables }) h.0, bodies_fit names m fs e f h.1)
   where
     Body : Names → Type 0
-    Body x = Rattle.ob_fit.specs.Fitting.ProcedureBodyFits x p
+    Body x = ProcedureFits x p
 
-checked_fits : (ms : Modules) (loaded : EachSolid ms) (s : Scope) (m : Module) (c : Checking) (k : CheckedTree) → InModule ms loaded s → gives (through (procedure_at ms declarations.max_nesting) (s, [], declared_variables s.block) (out-Declarations m.declarations).procedures) c → gives (body_rule ms c m) k → IsFitting (faces_of ms k.imports) k.tree × IsFaceOf (face_of_interface k.interface) k.tree × ExportsSolid k.interface.exports
+checked_fits : (ms : Modules) (loaded : EachSolid ms) (s : Scope) (m : Module) (c : Checking) (k : CheckedTree) → InModule ms loaded s → gives (through (procedure_at ms declarations.max_nesting) (s, [], declared_variables s.block) (out-Declarations m.declarations).procedures) c → gives (body_rule ms c m) k → IsWellFormed (faces_of ms k.imports) k.tree × IsFaceOf (face_of_interface k.interface) k.tree × ExportsSolid k.interface.exports
 unfolding body_rule
 checked_fits ms loaded s m c k g h b =
-    subst (λ x. IsFitting (faces_of ms x.imports) x.tree × IsFaceOf (face_of_interface x.interface) x.tree × ExportsSolid x.interface.exports) b.2 (
+    subst (λ x. IsWellFormed (faces_of ms x.imports) x.tree × IsFaceOf (face_of_interface x.interface) x.tree × ExportsSolid x.interface.exports) b.2 (
       record {
+        known = faces_few ms (all_imported ms c.0.block) loaded;
+        variables = few;
         exported = numbers_below ms names base c.0.block (fit.0).3;
         procedures = bodies_fit (names1) (checked_of ms c.0 c.1 b.0.0 b.0.1).tree c.1 refl refl (subst (λ f. EachMeets (record names { faces = f }) c.1) same_faces fit.1);
         body = (optional_fits ms (within names1 [] []) c.0 scope declarations.max_nesting (statements_at ms c.0 declarations.max_nesting) (statements_fit ms (within names1 [] []) c.0 scope declarations.max_nesting) c.2 m.body b.0 b.1 (same b.0.1)).0;
       },
       record { variables = shown; procedures = headings_shown ms names base c.0.block (fit.0).3 },
-      exports_solid c.0.block (each_map (EntryOf ms (within names [] []) base) SolidEntry (λ e x. outer_solid ms names base e (outer_of ms names [] [] base e x)) c.0.block (fit.0).3),
+      exports_solid c.0.block (each_map (EntryOf ms (within names [] []) base) SolidEntry (λ e x. outer_solid ms names base e (outer_of ms names [] [] base e x)) c.0.block (fit.0).3) ((fit.0).4).1,
     )
   where
     base : ℕ
@@ -497,12 +541,20 @@ checked_fits ms loaded s m c k g h b =
     names1 : Names
     names1 = record { faces = faces_of ms (all_imported ms c.0.block); variables = b.0.1; procedures = c.1; parameters = []; own = [] }
 
-    grown : StartsWith b.0.1 c.2
+    grown : Extends b.0.1 c.2
     grown = optional_grows ms c.0 declarations.max_nesting (statements_at ms c.0 declarations.max_nesting) (statements_grow ms c.0 declarations.max_nesting) c.2 m.body b.0 b.1
 
-    declared : StartsWith b.0.1 (declared_variables s.block)
-    declared = longer b.0.1 c.2 (declared_variables s.block) grown
+    extended : Extends b.0.1 (declared_variables s.block)
+    extended = further b.0.1 c.2 (declared_variables s.block) grown
         (all_grow (procedure_at ms declarations.max_nesting) (counted declarations.max_nesting) (procedure_grows ms declarations.max_nesting) (s, [], declared_variables s.block) (out-Declarations m.declarations).procedures c h).0.1
+
+    declared : StartsWith b.0.1 (declared_variables s.block)
+    declared = begins_with b.0.1 (declared_variables s.block) extended
+
+    few : VariablesFit b.0.1
+    few = subst VariablesFit (sym extended.1)
+        (variables_join (declared_variables s.block) extended.0
+        (variables_join (exported_variables s.block) (own_variables s.block) (exported_few s.block (g.2).4) (own_few s.block (g.2).4)) extended.2)
 
     begun : EachEntry (EntryOf ms (within names [] []) base) s.block
     begun = each_map (ModuleEntry ms (exported_variables s.block) (own_variables s.block) (faces_of ms (all_imported ms s.block))) (EntryOf ms (within names [] []) base)
@@ -518,7 +570,7 @@ checked_fits ms loaded s m c k g h b =
           aligned_more ds (record { name = nm; exported = mk; entry = entry.Procedure p n }) r.1 tt,
           exported_more ds (record { name = nm; exported = mk; entry = entry.Procedure p n }) ∙ joined_none (exported_variables ds) ∙ r.2,
         ))
-        [] [] tt (s, [], declared_variables s.block) (out-Declarations m.declarations).procedures c h (same c.1) grown (g.0, g.1, refl, begun, (refl, (g.2).4, refl)) tt
+        [] [] tt (s, [], declared_variables s.block) (out-Declarations m.declarations).procedures c h (same c.1) (begins_with b.0.1 c.2 grown) (g.0, g.1, refl, begun, (refl, (g.2).4, refl)) tt
 
     same_faces : faces_of ms (all_imported ms s.block) ≡ faces_of ms (all_imported ms c.0.block)
     same_faces = ap (faces_of ms) (sym ((fit.0).4).0)

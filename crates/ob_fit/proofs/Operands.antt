@@ -1,7 +1,7 @@
 -- Operands fit, and what is made of them.
-use Rattle.std.proofs.Common.{◌≡◌, ℕ, ◌+◌, ◌++◌, length, Bool, true, false, cond, List, [], ◌∷◌, Option, Some, None, refl, sym, ap, ◌∙◌, subst}
-use Rattle.ob_parse.specs.declared.tree.Sign.{Sign}
-use Rattle.ob_parse.specs.declared.tree.Sign.TheVariants as sign
+use Rattle.std.proofs.Common.{◌≡◌, ℕ, ◌+◌, ◌++◌, length, Bool, true, false, cond, List, [], ◌∷◌, Option, Some, None, slice_get, refl, sym, ap, ◌∙◌, subst}
+use Rattle.ob_tree.specs.declared.tree.Sign.{Sign}
+use Rattle.ob_tree.specs.declared.tree.Sign.TheVariants as sign
 use Rattle.ob_scan.specs.declared.token.Span.{Span}
 use Rattle.ob_types.specs.declared.exports.Constant.{Constant}
 use Rattle.ob_types.specs.declared.exports.Constant.TheVariants as constant
@@ -28,23 +28,25 @@ use Rattle.ob_mean.specs.declared.operator.UnaryOperator.TheVariants as one
 use Rattle.ob_mean.specs.declared.shape.Shape.{Shape}
 use Rattle.ob_mean.specs.declared.shape.Shape.TheVariants as shape
 use Rattle.ob_mean.specs.WellFormed.{Names, Of, ExprFits, IndexesFit, IsPassed, IsText, object_of, module_object, elements_in}
-use Rattle.ob_declare.specs.declared.predeclared.Function.{Function}
-use Rattle.ob_declare.specs.declared.predeclared.Function.TheVariants as function
-use Rattle.ob_declare.specs.Rule.{gives}
-use Rattle.ob_declare.specs.declared.rule.RuleCode.TheVariants as code
-use Rattle.ob_express.specs.declared.joining.Joined.{Joined}
-use Rattle.ob_express.specs.declared.joining.Joined.TheVariants as joined
-use Rattle.ob_express.specs.declared.joining.Joining.{Joining}
-use Rattle.ob_express.specs.declared.joining.Joining.TheVariants as joining
-use Rattle.ob_express.specs.declared.operand.Operand.{Operand}
-use Rattle.ob_express.specs.declared.operand.Operand.TheVariants as operand
-use Rattle.ob_express.specs.Operands.{Variables, number_of, truth_of, character_of, only_character, byte_of, value_for, operand_of_constant, operand_of_variable, next_text, with_text, text_place}
-use Rattle.ob_express.specs.Joining.{operation, with_number, with_truth, with_operand, sum_of, product_of, sign_of, signed, negated}
-use Rattle.ob_express.specs.Functions.{ordinal_of, is_array, length_of, unary, one_of, two_of}
-use Rattle.ob_express.specs.Relations.{compared, texts_related, values_related, characters_related, related}
-use Rattle.ob_express.specs.Passing.{has_elements, variable_passed, variable_argument, fixed_text, text_passed, structure_passed, value_passed}
-use Rattle.ob_express.specs.Selecting.{element_of}
-use Rattle.ob_check.specs.Assignments.{is_open}
+use Rattle.ob_scope.specs.declared.predeclared.Function.{Function}
+use Rattle.ob_scope.specs.declared.predeclared.Function.TheVariants as function
+use Rattle.ob_scope.specs.Rule.{gives}
+use Rattle.ob_scope.specs.declared.rule.RuleCode.TheVariants as code
+use Rattle.ob_operand.specs.declared.joining.Joined.{Joined}
+use Rattle.ob_operand.specs.declared.joining.Joined.TheVariants as joined
+use Rattle.ob_operand.specs.declared.joining.Joining.{Joining}
+use Rattle.ob_operand.specs.declared.joining.Joining.TheVariants as joining
+use Rattle.ob_operand.specs.declared.operand.Operand.{Operand}
+use Rattle.ob_operand.specs.declared.operand.Operand.TheVariants as operand
+use Rattle.ob_operand.specs.Operands.{Variables, number_of, truth_of, character_of, only_character, byte_of, value_for, operand_of_constant, operand_of_variable, text_variable, text_place}
+use Rattle.ob_operand.specs.Joining.{operation, with_number, with_truth, with_operand, sum_of, product_of, sign_of, signed, negated}
+use Rattle.ob_operand.specs.Functions.{ordinal_of, is_array, length_of, unary, one_of, two_of}
+use Rattle.ob_strings.specs.Strings.{string_at, number_or, with_more}
+use Rattle.ob_strings.proofs.Numbers.{string_reads}
+use Rattle.ob_operand.specs.Relations.{compared, texts_related, values_related, characters_related, related}
+use Rattle.ob_operand.specs.Passing.{has_elements, variable_passed, variable_argument, fixed_text, text_passed, structure_passed, value_passed}
+use Rattle.ob_operand.specs.Selecting.{element_of}
+use Rattle.ob_statement.specs.Assignments.{is_open}
 use Rattle.ob_check.specs.Shapes.{shape_of, parameter_of}
 use Rattle.ob_fit.specs.Fitting.{Suits, OperandFits, OperationListFits, ExprListFits, StartsWith}
 use Rattle.ob_fit.proofs.Forms.{unary_fits, chain_fits, every_fits, either_fits}
@@ -218,9 +220,22 @@ two_fits names f line v w x h g k =
 
 -- ---- strings that become variables
 
--- the place of the next string
-pub text_object : (names : Names) (vs : Variables) (t : List ℕ) (n : ℕ) → StartsWith names.variables (with_text vs t n) → object_of names (next_text vs) ≡ Some (Of (shape.Array n shape.Basic))
-text_object names vs t n h = ap module_object (starts_reads names.variables vs (module_variable.Text t n) h)
+-- what a string's variable is, where it is there already, and where it is one more
+abbrev Stands : Names → Variables → List ℕ → ℕ → Option ℕ → Type 0
+Stands names vs t n o =
+    (slice_get names.variables (number_or o (length vs)) ≡ Some (module_variable.Text t n)) × StartsWith names.variables vs
+
+string_stands : (names : Names) (vs : Variables) (t : List ℕ) (n : ℕ) (o : Option ℕ) → string_at vs t n ≡ o → StartsWith names.variables (with_more o vs (module_variable.Text t n)) → Stands names vs t n o
+string_stands names vs t n (Some i) there h = (ap (λ l. slice_get l i) h.1 ∙ string_reads vs h.0 t n i there, h)
+string_stands names vs t n None there h = (starts_reads names.variables vs (module_variable.Text t n) h, starts_before names.variables vs _ h)
+
+text_variable_fits : (names : Names) (vs : Variables) (t : List ℕ) (n : ℕ) (p : Designator × Variables) → gives (text_variable vs t n) p → StartsWith names.variables p.1 → (IndexesFit names p.0 × (object_of names p.0 ≡ Some (Of (shape.Array n shape.Basic)))) × StartsWith names.variables vs
+unfolding text_variable
+text_variable_fits names vs t n p h s =
+    let q = subst (λ x. StartsWith names.variables x.1) (sym h.1) s in (
+      subst (λ x. IndexesFit names x.0 × (object_of names x.0 ≡ Some (Of (shape.Array n shape.Basic)))) h.1 (tt, ap module_object (string_stands names vs t n (string_at vs t n) refl q).0),
+      (string_stands names vs t n (string_at vs t n) refl q).1,
+    )
 
 array_elements : (n : ℕ) (s : Shape) → elements_in (Some (Of (shape.Array n s))) ≡ Some s
 unfolding Rattle.ob_mean.specs.declared.shape.Shape.TheBlock.hidden-the_row-Shape-0 denote.Hole.Carrier.hidden
@@ -229,11 +244,8 @@ array_elements n s = refl
 pub place_fits : (names : Names) (vs : Variables) (v : Operand) (p : Designator × Variables) → gives (text_place vs v) p → StartsWith names.variables p.1 → (OperandFits names v → IndexesFit names p.0 × IsText (object_of names p.0)) × StartsWith names.variables vs
 unfolding text_place
 place_fits names vs (operand.Text t) p h s =
-    let q = subst (λ x. StartsWith names.variables x.1) (sym h) s in (
-      λ g. subst (λ x. IndexesFit names x.0 × IsText (object_of names x.0)) h
-          (tt, ap elements_in (text_object names vs t (length t + 1) q) ∙ array_elements (length t + 1) shape.Basic),
-      starts_before names.variables vs _ q,
-    )
+    let k = text_variable_fits names vs t (length t + 1) p h s in
+    (λ g. (k.0.0, ap elements_in k.0.1 ∙ array_elements (length t + 1) shape.Basic), k.1)
 place_fits names vs (operand.Place t d) p h s = (
   λ g. subst (λ x. IndexesFit names x.0 × IsText (object_of names x.0)) h.1 (g.0, text_suits t (object_of names d) h.0 g.1),
   subst (λ x. StartsWith names.variables x.1) (sym h.1) s,
@@ -336,16 +348,16 @@ text_passed_fits : (names : Names) (vs : Variables) (formal : ObType) (t : List 
 unfolding text_passed fixed_text block.hidden-the_row-ObType-0 denote.Hole.Carrier.hidden block.shown-the_row-ObType-0 denote.Hole.Carrier.shown out-ObType denote.Hole.Carrier.out
 text_passed_fits names vs (OfBasic b) t p h s = absurd h
 text_passed_fits names vs (Array' n w (more_of-ObType x end_of-ObType)) t p h s =
-    let q = subst (λ y. StartsWith names.variables y.1) (sym h.1.1) s in (
-      subst (λ y. IsPassed names y.0 (parameter_of kind.Variable (Array n x))) h.1.1
-          (tt, text_object names vs t n q ∙ ap (λ y. Some (Of (shape.Array n y))) (sym (char_basic x h.0))),
-      starts_before names.variables vs _ q,
+    let q = h.1.1 in
+    let k = text_variable_fits names vs t n q.0 q.1 (subst (λ y. StartsWith names.variables y.1) (sym q.2) s) in (
+      subst (λ y. IsPassed names y.0 (parameter_of kind.Variable (Array n x))) q.2 (k.0.0, k.0.1 ∙ ap (λ y. Some (Of (shape.Array n y))) (sym (char_basic x h.0))),
+      k.1,
     )
 text_passed_fits names vs (Open' w (more_of-ObType x end_of-ObType)) t p h s =
-    let q = subst (λ y. StartsWith names.variables y.1) (sym h.1) s in (
-      subst (λ y. IsPassed names y.0 (parameter_of kind.Variable (Open x))) h.1
-          (tt, ap elements_in (text_object names vs t (length t + 1) q) ∙ array_elements (length t + 1) shape.Basic ∙ ap Some (sym (char_basic x h.0))),
-      starts_before names.variables vs _ q,
+    let q = h.1 in
+    let k = text_variable_fits names vs t (length t + 1) q.0 q.1 (subst (λ y. StartsWith names.variables y.1) (sym q.2) s) in (
+      subst (λ y. IsPassed names y.0 (parameter_of kind.Variable (Open x))) q.2 (k.0.0, ap elements_in k.0.1 ∙ array_elements (length t + 1) shape.Basic ∙ ap Some (sym (char_basic x h.0))),
+      k.1,
     )
 text_passed_fits names vs (Record r) t p h s = absurd h
 

@@ -1,36 +1,36 @@
 -- What the rules of procedures give fits.
 use Rattle.std.proofs.Common.{◌≡◌, ℕ, zero, suc, ◌+◌, sum, map, ◌++◌, length, Bool, true, false, ◌&&◌, List, [], ◌∷◌, Option, Some, None, is_some, slice_get, refl, sym, ap, ◌∙◌, subst, arith}
 use Rattle.std.proofs.lemmas.List.Sums.{sum_by-cons}
-use Rattle.ob_parse.specs.declared.tree.Procedure.{Procedure, out-Procedure}
-use Rattle.ob_parse.specs.declared.tree.Returned.{Returned}
+use Rattle.ob_tree.specs.declared.tree.Procedure.{Procedure, out-Procedure}
+use Rattle.ob_tree.specs.declared.tree.Returned.{Returned}
 use Rattle.ob_types.specs.declared.exports.Signature.{Signature}
 use Rattle.ob_types.specs.declared.structure.Basic.{Basic}
 use Rattle.ob_mean.specs.declared.expression.TypedExpr.{TypedExpr}
 use Rattle.ob_mean.specs.declared.module.Parameter.{Parameter}
 use Rattle.ob_mean.specs.declared.module.TypedProcedure.{TypedProcedure}
 use Rattle.ob_mean.specs.declared.shape.Shape.{Shape}
-use Rattle.ob_mean.specs.WellFormed.{Names, ListFits, ResultFits, own_heading, is_there}
-use Rattle.ob_declare.specs.declared.block.Declared.{Declared}
-use Rattle.ob_declare.specs.declared.block.Entry.{Entry}
-use Rattle.ob_declare.specs.declared.block.Entry.TheVariants as entry
+use Rattle.ob_mean.specs.WellFormed.{Names, ListFits, ResultFits, ShapesFit, own_heading, is_there}
+use Rattle.ob_scope.specs.declared.block.Declared.{Declared}
+use Rattle.ob_scope.specs.declared.block.Entry.{Entry}
+use Rattle.ob_scope.specs.declared.block.Entry.TheVariants as entry
 use Rattle.ob_declare.specs.declared.heading.Heading.{Heading}
-use Rattle.ob_declare.specs.declared.scope.Scope.{Scope}
+use Rattle.ob_scope.specs.declared.scope.Scope.{Scope}
 use Rattle.ob_declare.specs.Declarations.{has_mark}
-use Rattle.ob_declare.specs.Exports.{Modules}
+use Rattle.ob_scope.specs.Exports.{Modules}
 use Rattle.ob_declare.specs.Headings.{entered_by, heading_rule, new_procedure, procedure_rule}
-use Rattle.ob_declare.specs.Rule.{Rule, gives, through}
-use Rattle.ob_declare.specs.Scope.{left, left_into}
-use Rattle.ob_declare.specs.Stack.{is_empty}
-use Rattle.ob_express.specs.Operands.{Variables}
+use Rattle.ob_scope.specs.Rule.{Rule, gives, through}
+use Rattle.ob_scope.specs.Scope.{left, left_into}
+use Rattle.ob_scope.specs.Stack.{is_empty}
+use Rattle.ob_operand.specs.Operands.{Variables}
 use Rattle.ob_check.specs.Procedures.{procedures_in, counted, nested, own_shapes, result_at, Checking, typed_procedure, body_of, inside_of, procedure_of, procedure_at}
 use Rattle.ob_check.specs.Shapes.{parameters_of}
-use Rattle.ob_check.specs.Statements.{statements_at}
+use Rattle.ob_statement.specs.Statements.{statements_at}
 use Rattle.ob_fit.specs.Fitting.{StartsWith, ScopeFits, heading_of}
 use Rattle.ob_fit.specs.Solid.{EachSolid}
 use Rattle.ob_fit.proofs.Solid.{SolidEntry}
 use Rattle.ob_fit.proofs.Blocks.{blocks_solid, outer_solid, ParametersFit, of_heading, EntryOf, OuterOf, EachEntry, EachBlock, within, outer_of, each_more, each_map, scope_fits, own_more, count_of, heading_fits, length_more}
 use Rattle.ob_fit.proofs.Expressions.{value_for_fits}
-use Rattle.ob_fit.proofs.Grows.{same, longer, one_longer, optional_grows, statements_grow, value_for_grows}
+use Rattle.ob_fit.proofs.Grows.{same, longer, one_longer, Extends, begins_with, unchanged, further, optional_grows, statements_grow, value_for_grows}
 use Rattle.ob_fit.proofs.Locals.{InProcedure, declarations_fit}
 use Rattle.ob_fit.proofs.Rules.{joined_none, starts_reads}
 use Rattle.ob_fit.proofs.Statements.{statements_fit, optional_fits}
@@ -38,34 +38,34 @@ use Rattle.ob_fit.proofs.Statements.{statements_fit, optional_fits}
 -- ---- procedures and variables only grow
 
 abbrev pub Grown : Checking → Checking → Type 0
-Grown c d = StartsWith d.1 c.1 × StartsWith d.2 c.2
+Grown c d = StartsWith d.1 c.1 × Extends d.2 c.2
 
 body_grows : (ms : Modules) (n : ℕ) (f : Signature) (c : Checking) (p : Procedure) (d : Checking) → gives (body_of ms n f c p) d → Grown c d × (length d.1 ≡ length c.1 + 1)
 unfolding body_of result_at
 body_grows ms n f c p d h = subst (λ x. Grown c x × (length x.1 ≡ length c.1 + 1)) (h.2).2 (
   (
     one_longer c.1 _,
-    longer (h.2).0.1 h.0.1 c.2 (result_grows f.result h.0.1 (out-Procedure p).returned (h.2).0 (h.2).1)
+    further (h.2).0.1 h.0.1 c.2 (result_grows f.result h.0.1 (out-Procedure p).returned (h.2).0 (h.2).1)
         (optional_grows ms c.0 n (statements_at ms c.0 n) (statements_grow ms c.0 n) c.2 (out-Procedure p).body h.0 h.1),
   ),
   length_more c.1 _,
 )
   where
-    result_grows : (b : Option Basic) (vs : Variables) (r : Option Returned) (q : Option TypedExpr × Variables) → gives (result_at ms c.0 n b vs r) q → StartsWith q.1 vs
-    result_grows None vs None q k = subst (λ x. StartsWith x.1 vs) k (same vs)
+    result_grows : (b : Option Basic) (vs : Variables) (r : Option Returned) (q : Option TypedExpr × Variables) → gives (result_at ms c.0 n b vs r) q → Extends q.1 vs
+    result_grows None vs None q k = subst (λ x. Extends x.1 vs) k (unchanged vs)
     result_grows None vs (Some r) q k = absurd k
     result_grows (Some b) vs None q k = absurd k
-    result_grows (Some b) vs (Some r) q k = subst (λ x. StartsWith x.1 vs) k.2 (value_for_grows ms c.0 n b vs r.value k.0 k.1)
+    result_grows (Some b) vs (Some r) q k = subst (λ x. Extends x.1 vs) k.2 (value_for_grows ms c.0 n b vs r.value k.0 k.1)
 
 abbrev pub Counted : (Checking → Procedure → Rule Checking) → (Procedure → ℕ) → Type 0
 Counted r count = (c : Checking) (p : Procedure) (d : Checking) → gives (r c p) d → Grown c d × (length d.1 ≡ length c.1 + count p)
 
 pub all_grow : (r : Checking → Procedure → Rule Checking) (count : Procedure → ℕ) → Counted r count → (c : Checking) (ps : List Procedure) (d : Checking) → gives (through r c ps) d → Grown c d × (length d.1 ≡ length c.1 + sum (map count ps))
-all_grow r count one c [] d h = subst (λ x. Grown c x × (length x.1 ≡ length c.1 + 0)) h ((same c.1, same c.2), omega arith)
+all_grow r count one c [] d h = subst (λ x. Grown c x × (length x.1 ≡ length c.1 + 0)) h ((same c.1, unchanged c.2), omega arith)
 all_grow r count one c (p ∷ ps) d h =
     let a = one c p h.0 h.1 in
     let b = all_grow r count one h.0 ps d h.2 in (
-      (longer d.1 h.0.1 c.1 b.0.0 a.0.0, longer d.2 h.0.2 c.2 b.0.1 a.0.1),
+      (longer d.1 h.0.1 c.1 b.0.0 a.0.0, further d.2 h.0.2 c.2 b.0.1 a.0.1),
       (let x : length h.0.1 ≡ length c.1 + count p = a.1 in let y : length d.1 ≡ length h.0.1 + sum (map count ps) = b.1 in let z : sum (map count (p ∷ ps)) ≡ count p + sum (map count ps) = sum_by-cons (λ i. i) (count p) (map count ps) in omega (arith, z)),
     )
 
@@ -76,14 +76,14 @@ procedure_grows ms (suc n) c p d h =
     let i = (h.2).2 in
     let a = all_grow (procedure_at ms n) (counted n) (procedure_grows ms n) ((h.2).0, c.1, c.2) (procedures_in p) i.0 i.1 in
     let b = body_grows ms n h.0.signature i.0 p d i.2 in (
-      (longer d.1 i.0.1 c.1 b.0.0 a.0.0, longer d.2 i.0.2 c.2 b.0.1 a.0.1),
+      (longer d.1 i.0.1 c.1 b.0.0 a.0.0, further d.2 i.0.2 c.2 b.0.1 a.0.1),
       (let x : length i.0.1 ≡ length c.1 + sum (map (counted n) (procedures_in p)) = a.1 in let y : length d.1 ≡ length i.0.1 + 1 = b.1 in omega arith),
     )
 
 -- ---- procedures fit
 
 abbrev pub ProcedureMeets : Names → TypedProcedure → Type 0
-ProcedureMeets names f = ListFits (within names f.parameters f.variables) f.body × ResultFits (within names f.parameters f.variables) f.result
+ProcedureMeets names f = ListFits (within names f.parameters f.variables) f.body × ResultFits (within names f.parameters f.variables) f.result × ShapesFit f.variables
 
 abbrev pub EachMeets : Names → List TypedProcedure → Type 0
 EachMeets names [] = Unit {0}
@@ -122,7 +122,7 @@ module _ (ms : Modules) (loaded : EachSolid ms) (names : Names) (base : ℕ) whe
   all_fit r count grows step Q takes outer R keeps around enclosing blocks c [] d h s t g m = subst (λ x. At Q R around enclosing x × EachMeets names x.1) h (g, m)
   all_fit r count grows step Q takes outer R keeps around enclosing blocks c (p ∷ ps) d h s t g m =
       let a = all_grow r count grows h.0 ps d h.2 in
-      let b = step Q takes outer R keeps around enclosing blocks c p h.0 h.1 (longer names.procedures d.1 h.0.1 s a.0.0) (longer names.variables d.2 h.0.2 t a.0.1) g m in
+      let b = step Q takes outer R keeps around enclosing blocks c p h.0 h.1 (longer names.procedures d.1 h.0.1 s a.0.0) (longer names.variables d.2 h.0.2 t (begins_with d.2 h.0.2 a.0.1)) g m in
       all_fit r count grows step Q takes outer R keeps around enclosing blocks h.0 ps d h.2 s t b.0 b.1
 
   result_fits : (own : Names) (s : Scope) (n : ℕ) → ScopeFits ms own s → (b : Option Basic) (vs : Variables) (r : Option Returned) (q : Option TypedExpr × Variables) → gives (result_at ms s n b vs r) q → StartsWith own.variables q.1 → ResultFits own q.0 × StartsWith own.variables vs
@@ -142,14 +142,14 @@ module _ (ms : Modules) (loaded : EachSolid ms) (names : Names) (base : ℕ) whe
   has_result s n (Some b) vs (Some r) q h = subst (λ x. is_there x.0 ≡ true) h.2 refl
 
   -- a body, in the scope behind the declarations and the procedures in it
-  body_fits : (n : ℕ) (f : Signature) (os : List Shape) (c : Checking) (p : Procedure) (d : Checking) → gives (body_of ms n f c p) d → StartsWith names.variables d.2 → ScopeFits ms (within names (parameters_of f.formals) os) c.0 → own_shapes (length f.formals) c.0.block ≡ os → EachMeets names c.1 → EachMeets names d.1 × (d.0 ≡ left c.0)
+  body_fits : (n : ℕ) (f : Signature) (os : List Shape) (c : Checking) (p : Procedure) (d : Checking) → gives (body_of ms n f c p) d → StartsWith names.variables d.2 → ScopeFits ms (within names (parameters_of f.formals) os) c.0 → own_shapes (length f.formals) c.0.block ≡ os → ShapesFit os → EachMeets names c.1 → EachMeets names d.1 × (d.0 ≡ left c.0)
   unfolding body_of
-  body_fits n f os c p d h t scope o m =
+  body_fits n f os c p d h t scope o few m =
       subst (λ x. StartsWith names.variables x.2 → EachMeets names x.1 × (x.0 ≡ left c.0)) (h.2).2
       (λ u. let r = result_fits (within names (parameters_of f.formals) os) c.0 n scope f.result h.0.1 (out-Procedure p).returned (h.2).0 (h.2).1 u in
       let b = optional_fits ms (within names (parameters_of f.formals) os) c.0 scope n (statements_at ms c.0 n) (statements_fit ms (within names (parameters_of f.formals) os) c.0 scope n) c.2 (out-Procedure p).body h.0 h.1 r.1 in (
         meets_more names c.1 (typed_procedure f c.0 h.0.0 (h.2).0.0) m
-            (subst (λ l. ListFits (within names (parameters_of f.formals) l) h.0.0 × ResultFits (within names (parameters_of f.formals) l) (h.2).0.0) (sym o) (b.0, r.0)),
+            (subst (λ l. ListFits (within names (parameters_of f.formals) l) h.0.0 × ResultFits (within names (parameters_of f.formals) l) (h.2).0.0 × ShapesFit l) (sym o) (b.0, r.0, few)),
         refl,
       )) t
 
@@ -193,7 +193,7 @@ module _ (ms : Modules) (loaded : EachSolid ms) (names : Names) (base : ℕ) whe
       procedures_start = longer names.procedures d.1 (h.2).0.1 s behind.0.0
 
       variables_start : StartsWith names.variables (h.2).0.2
-      variables_start = longer names.variables d.2 (h.2).0.2 t behind.0.1
+      variables_start = longer names.variables d.2 (h.2).0.2 t (begins_with d.2 (h.2).0.2 behind.0.1)
 
       heading_is : own_heading (slice_get names.procedures number) ≡ Some (heading_of hd.signature)
       heading_is = subst (λ x. own_heading (slice_get names.procedures x) ≡ Some (heading_of hd.signature)) more.1 (ended_heading n hd.signature (h.2).0 p d (h.2).2 s)
@@ -212,6 +212,7 @@ module _ (ms : Modules) (loaded : EachSolid ms) (names : Names) (base : ℕ) whe
         (
           (let a = (head).0 in let b = count_of hd.signature.formals in let e : length (own_shapes (length ps) hd.block) ≡ 0 = ap length none_own in omega arith),
           λ own st. (head).2 ps own (same ps),
+          subst ShapesFit (sym none_own) tt,
         ),
       )
 
@@ -235,7 +236,7 @@ module _ (ms : Modules) (loaded : EachSolid ms) (names : Names) (base : ℕ) whe
 
       ended : EachMeets names d.1 × (d.0 ≡ left (h.2).0.0)
       ended = body_fits n hd.signature own (h.2).0 p d (h.2).2 t scope
-          (ap (λ x. own_shapes x (h.2).0.0.block) (sym (count_of hd.signature.formals)) ∙ (inner.0).4) inner.1
+          (ap (λ x. own_shapes x (h.2).0.0.block) (sym (count_of hd.signature.formals)) ∙ (inner.0).4) ((declared.3).2) inner.1
 
       left_here : d.0 ≡ record (h.2).0.0 { enclosing = c.0.enclosing; block = c.0.block ++ dcl ∷ []; around = c.0.around }
       left_here = ended.1 ∙ left_is (h.2).0.0 name c.0.enclosing (c.0.block ++ dcl ∷ []) c.0.around (inner.0).1 (inner.0).0

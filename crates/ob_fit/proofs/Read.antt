@@ -1,10 +1,10 @@
 -- What names stand for fits, where the scope does.
 use Rattle.std.proofs.Common.{◌≡◌, inl, ℕ, suc, Bool, true, false, cond, List, [], ◌∷◌, Option, Some, None, slice_get, option_map, refl, ap, ◌∙◌, subst}
 use Rattle.std.specs.Str.{bytes_eq}
-use Rattle.ob_declare.specs.declared.rule.RuleCode.TheVariants as code
-use Rattle.ob_parse.specs.declared.tree.Designator.{Designator as Written, out-Designator}
-use Rattle.ob_parse.specs.declared.tree.Selector.{Selector, out-Selector}
-use Rattle.ob_parse.specs.declared.tree.Factor.TheOpen.{Selector-F}
+use Rattle.ob_scope.specs.declared.rule.RuleCode.TheVariants as code
+use Rattle.ob_tree.specs.declared.tree.Designator.{Designator as Written, out-Designator}
+use Rattle.ob_tree.specs.declared.tree.Selector.{Selector, out-Selector}
+use Rattle.ob_tree.specs.declared.tree.Factor.TheOpen.{Selector-F}
 use Rattle.ob_types.specs.declared.exports.Exported.{Exported}
 use Rattle.ob_types.specs.declared.exports.Object.{Object}
 use Rattle.ob_types.specs.declared.exports.Object.TheVariants as object
@@ -12,26 +12,26 @@ use Rattle.ob_types.specs.declared.exports.Signature.{Signature}
 use Rattle.ob_types.specs.declared.structure.ObType.{ObType}
 use Rattle.ob_mean.specs.declared.expression.Callee.TheVariants as callee
 use Rattle.ob_mean.specs.WellFormed.{Names, Of, called, variable_object, face_object, face_heading, shape_object}
-use Rattle.ob_declare.specs.declared.block.Entry.{Entry}
-use Rattle.ob_declare.specs.declared.block.Entry.TheVariants as entry
-use Rattle.ob_declare.specs.declared.predeclared.InputName.{InputName}
-use Rattle.ob_declare.specs.declared.predeclared.InputName.TheVariants as input
-use Rattle.ob_declare.specs.declared.predeclared.OutputName.{OutputName}
-use Rattle.ob_declare.specs.declared.predeclared.OutputName.TheVariants as output
-use Rattle.ob_declare.specs.declared.predeclared.Predeclared.{Predeclared}
-use Rattle.ob_declare.specs.declared.predeclared.Predeclared.TheVariants as predeclared
-use Rattle.ob_declare.specs.declared.scope.Scope.{Scope}
-use Rattle.ob_declare.specs.Constants.{SelectorLayer}
-use Rattle.ob_declare.specs.Exports.{Modules, exported_in, variables_in, procedures_in}
-use Rattle.ob_declare.specs.Imports.{exported_at, exported_by, variable_number, procedure_number, or_zero}
-use Rattle.ob_declare.specs.LoadedTree.{LoadedTree}
-use Rattle.ob_declare.specs.Names.{place_in}
-use Rattle.ob_declare.specs.Predeclared.{absent, input_named, output_named}
-use Rattle.ob_declare.specs.Rule.{gives}
-use Rattle.ob_declare.specs.Scope.{seen, outer}
-use Rattle.ob_express.specs.Named.{Meant, Callable, Writable}
-use Rattle.ob_express.specs.Named as meaning
-use Rattle.ob_express.specs.Names.{input_read, output_read, object_read, member_read_layer, member_read, input_member_layer, output_member_layer, input_member, output_member, entry_read, read_at, no_variable, entry_written, written_at, predeclared_called, whole, input_called, output_called, object_called, member_called_layer, member_called, input_call_layer, output_call_layer, input_call, output_call, entry_called, name_called, called_at}
+use Rattle.ob_scope.specs.declared.block.Entry.{Entry}
+use Rattle.ob_scope.specs.declared.block.Entry.TheVariants as entry
+use Rattle.ob_scope.specs.declared.predeclared.InputName.{InputName}
+use Rattle.ob_scope.specs.declared.predeclared.InputName.TheVariants as input
+use Rattle.ob_scope.specs.declared.predeclared.OutputName.{OutputName}
+use Rattle.ob_scope.specs.declared.predeclared.OutputName.TheVariants as output
+use Rattle.ob_scope.specs.declared.predeclared.Predeclared.{Predeclared}
+use Rattle.ob_scope.specs.declared.predeclared.Predeclared.TheVariants as predeclared
+use Rattle.ob_scope.specs.declared.scope.Scope.{Scope}
+use Rattle.ob_fold.specs.Constants.{SelectorLayer}
+use Rattle.ob_scope.specs.Exports.{Modules, exported_in, variables_in, procedures_in}
+use Rattle.ob_scope.specs.Imports.{exported_at, exported_by, variable_number, procedure_number, or_zero}
+use Rattle.ob_scope.specs.LoadedTree.{LoadedTree}
+use Rattle.ob_scope.specs.Names.{place_in}
+use Rattle.ob_scope.specs.Predeclared.{absent, input_named, output_named}
+use Rattle.ob_scope.specs.Rule.{gives}
+use Rattle.ob_scope.specs.Scope.{seen, outer}
+use Rattle.ob_operand.specs.Named.{Meant, Callable, Writable}
+use Rattle.ob_operand.specs.Named as meaning
+use Rattle.ob_operand.specs.Names.{input_read, output_read, object_read, member_read_layer, member_read, input_member_layer, output_member_layer, input_member, output_member, entry_read, read_at, no_variable, entry_written, written_at, predeclared_called, whole, input_called, output_called, object_called, member_called_layer, member_called, input_call_layer, output_call_layer, input_call, output_call, entry_called, name_called, called_at}
 use Rattle.ob_check.specs.Shapes.{shape_of}
 use Rattle.ob_fit.specs.Fitting.{Suits, EntryFits, ScopeFits, loaded_face, heading_of, variable_shapes, procedure_headings}
 use Rattle.ob_types.specs.Solid.{IsSolid, ObjectSolid}
@@ -90,7 +90,7 @@ imported_variable : (ms : Modules) (place : ℕ) (name : List ℕ) (t : ObType) 
 unfolding exported_at variable_number
 imported_variable ms place name t h = by (slice_get ms place) h
   where
-    by : (m : Option LoadedTree) → exported_by m name ≡ Some (object.Variable t) → face_object (loaded_face m) (Rattle.ob_declare.specs.Imports.variable_by m name) ≡ Some (Of (shape_of t))
+    by : (m : Option LoadedTree) → exported_by m name ≡ Some (object.Variable t) → face_object (loaded_face m) (Rattle.ob_scope.specs.Imports.variable_by m name) ≡ Some (Of (shape_of t))
     by None e = nothing _ e
     by (Some m) e =
         let k = variable_at m.interface.exports name t e in
@@ -100,7 +100,7 @@ imported_procedure : (ms : Modules) (place : ℕ) (name : List ℕ) (t : Signatu
 unfolding exported_at procedure_number
 imported_procedure ms place name t h = by (slice_get ms place) h
   where
-    by : (m : Option LoadedTree) → exported_by m name ≡ Some (object.Procedure t) → face_heading (loaded_face m) (Rattle.ob_declare.specs.Imports.procedure_by m name) ≡ Some (heading_of t)
+    by : (m : Option LoadedTree) → exported_by m name ≡ Some (object.Procedure t) → face_heading (loaded_face m) (Rattle.ob_scope.specs.Imports.procedure_by m name) ≡ Some (heading_of t)
     by None e = nothing _ e
     by (Some m) e =
         let k = procedure_at m.interface.exports name t e in
@@ -127,7 +127,7 @@ object_read_fits : (names : Names) (i number : ℕ) (o : Object) (xs : List Sele
 unfolding object_read
 object_read_fits names i number (object.Constant c) [] m g k h = subst (MeantFits names) h tt
 object_read_fits names i number (object.Constant c) (x ∷ xs) m g k h = absurd h
-object_read_fits names i number (object.Variable t) xs m g k h = subst (MeantFits names) h (inl (g t refl), k)
+object_read_fits names i number (object.Variable t) xs m g k h = subst (MeantFits names) h (inl (g t refl), k.0)
 object_read_fits names i number (object.TypeName t) xs m g k h = absurd h
 object_read_fits names i number (object.Procedure p) xs m g k h = absurd h
 

@@ -1,7 +1,7 @@
 -- What rules give.
 use Rattle.std.proofs.Common.{◌≡◌, List, [], ◌∷◌, ◌++◌, length, Bool, true, false, cond, Option, Some, None, slice_get, refl, ap, ◌∙◌, subst}
-use Rattle.ob_declare.specs.declared.rule.RuleCode.{RuleCode}
-use Rattle.ob_declare.specs.Rule.{Rule, gives, there, through}
+use Rattle.ob_scope.specs.declared.rule.RuleCode.{RuleCode}
+use Rattle.ob_scope.specs.Rule.{Rule, gives, there, through}
 use Rattle.ob_fit.specs.Fitting.{StartsWith}
 
 pub through_keeps : {S A : Type 0} (P : S → Type 0) (r : S → A → Rule S) → ((s : S) (a : A) (t : S) → gives (r s a) t → P s → P t) → (s : S) (xs : List A) (t : S) → gives (through r s xs) t → P s → P t

@@ -3,16 +3,16 @@ use Rattle.std.proofs.Common.{◌≡◌, ◌⊎◌, inl, inr, ◌<◌, ℕ, zero
 use Rattle.std.proofs.lemmas.Bool.Decides.{nat_tests}
 use Rattle.std.proofs.lemmas.List.{reverse-append}
 use Rattle.std.specs.Str.{bytes_eq}
-use Rattle.ob_declare.specs.declared.rule.RuleCode.TheVariants as code
-use Rattle.ob_parse.specs.declared.tree.Expr.{Expr}
-use Rattle.ob_parse.specs.declared.tree.FormalType.{FormalType, out-FormalType}
-use Rattle.ob_parse.specs.declared.tree.FormalType.TheOpen.{FormalType-F}
-use Rattle.ob_parse.specs.declared.tree.Ident.{Ident}
-use Rattle.ob_parse.specs.declared.tree.IdentDef.{IdentDef}
-use Rattle.ob_parse.specs.declared.tree.Qualident.{Qualident}
-use Rattle.ob_parse.specs.declared.tree.TypeExpr.{TypeExpr, out-TypeExpr}
-use Rattle.ob_parse.specs.declared.tree.TypedNames.{TypedNames, out-TypedNames}
-use Rattle.ob_parse.specs.declared.tree.TypeExpr.TheOpen.{TypeExpr-F}
+use Rattle.ob_scope.specs.declared.rule.RuleCode.TheVariants as code
+use Rattle.ob_tree.specs.declared.tree.Expr.{Expr}
+use Rattle.ob_tree.specs.declared.tree.FormalType.{FormalType, out-FormalType}
+use Rattle.ob_tree.specs.declared.tree.FormalType.TheOpen.{FormalType-F}
+use Rattle.ob_tree.specs.declared.tree.Ident.{Ident}
+use Rattle.ob_tree.specs.declared.tree.IdentDef.{IdentDef}
+use Rattle.ob_tree.specs.declared.tree.Qualident.{Qualident}
+use Rattle.ob_tree.specs.declared.tree.TypeExpr.{TypeExpr, out-TypeExpr}
+use Rattle.ob_tree.specs.declared.tree.TypedNames.{TypedNames, out-TypedNames}
+use Rattle.ob_tree.specs.declared.tree.TypeExpr.TheOpen.{TypeExpr-F}
 use Rattle.ob_types.specs.declared.exports.Constant.{Constant}
 use Rattle.ob_types.specs.declared.exports.Constant.TheVariants as constant
 use Rattle.ob_types.specs.declared.exports.Exported.{Exported}
@@ -29,25 +29,25 @@ use Rattle.ob_mean.specs.declared.shape.Shape.{Shape, Row_of-Shape, end_of-Shape
 use Rattle.ob_mean.specs.declared.shape.Shape.TheVariants as shape
 use Rattle.ob_mean.specs.Shapes.{zero_of, zeros_in, zeros, at_least_one}
 use Rattle.ob_mean.specs.Values.{Value, size, row}
-use Rattle.ob_declare.specs.declared.block.Entry.{Entry}
-use Rattle.ob_declare.specs.declared.block.Entry.TheVariants as entry
-use Rattle.ob_declare.specs.declared.predeclared.Predeclared.{Predeclared}
-use Rattle.ob_declare.specs.declared.predeclared.Predeclared.TheVariants as predeclared
-use Rattle.ob_declare.specs.declared.scope.Scope.{Scope}
+use Rattle.ob_scope.specs.declared.block.Entry.{Entry}
+use Rattle.ob_scope.specs.declared.block.Entry.TheVariants as entry
+use Rattle.ob_scope.specs.declared.predeclared.Predeclared.{Predeclared}
+use Rattle.ob_scope.specs.declared.predeclared.Predeclared.TheVariants as predeclared
+use Rattle.ob_scope.specs.declared.scope.Scope.{Scope}
 use Rattle.ob_declare.specs.declared.written_type.Written.{Written}
 use Rattle.ob_declare.specs.declared.written_type.Fields.{Fields}
-use Rattle.ob_declare.specs.Exports.{Modules, exported_in}
+use Rattle.ob_scope.specs.Exports.{Modules, exported_in}
 use Rattle.ob_declare.specs.Headings.{open_of, formal_layer, formal_rule, inner_formal, formal_at}
-use Rattle.ob_declare.specs.Imports.{exported_at, exported_by}
-use Rattle.ob_declare.specs.LoadedTree.{LoadedTree}
-use Rattle.ob_declare.specs.Rule.{Rule, gives, through}
-use Rattle.ob_declare.specs.Scope.{seen, outer}
+use Rattle.ob_scope.specs.Imports.{exported_at, exported_by}
+use Rattle.ob_scope.specs.LoadedTree.{LoadedTree}
+use Rattle.ob_scope.specs.Rule.{Rule, gives, through}
+use Rattle.ob_scope.specs.Scope.{seen, outer}
 use Rattle.ob_declare.specs.WrittenTypes.{predeclared_type, own_type, object_type, other_type, qualified, type_named, length_of, next_length, array_of, field_of, next_fields, no_fields, record_rule, type_layer, type_rule, inner_constant, inner_type, type_at, numbered}
-use Rattle.ob_express.specs.Selecting.{element_of, field_from, seen_field}
-use Rattle.ob_express.specs.Selecting as selecting
+use Rattle.ob_operand.specs.Selecting.{element_of, field_from, seen_field}
+use Rattle.ob_operand.specs.Selecting as selecting
 use Rattle.ob_check.specs.Shapes.{shape_of, shapes_of}
 use Rattle.ob_mean.specs.WellFormed.{Object as Object', elements_in}
-use Rattle.ob_express.specs.Functions.{is_array}
+use Rattle.ob_operand.specs.Functions.{is_array}
 use Rattle.ob_fit.specs.Fitting.{Suits}
 use Rattle.ob_types.specs.Solid.{IsSolid, AreSolid, FieldsSolid, ObjectSolid, ExportsSolid}
 use Rattle.ob_fit.specs.Solid.{LoadedSolid, EachSolid}
@@ -68,10 +68,10 @@ abbrev fields_in : Shape → (k : _) × Row_of-Shape k
 fields_in (shape.Record' k fields) = (_, fields)
 fields_in _ = (_, end_of-Shape)
 
-record_zero : (ss : List Shape) → zero_of (shape.Record ss) ≡ at_least_one (zeros ss)
+pub record_zero : (ss : List Shape) → zero_of (shape.Record ss) ≡ at_least_one (zeros ss)
 record_zero ss = ap at_least_one (row_zeros (fields_in (shape.Record ss)).0 (fields_in (shape.Record ss)).1 ∙ ap zeros (items_hidden-the_row-Shape-1 ss))
 
-array_zero : (n : ℕ) (s : Shape) → zero_of (shape.Array n s) ≡ row n (zero_of s)
+pub array_zero : (n : ℕ) (s : Shape) → zero_of (shape.Array n s) ≡ row n (zero_of s)
 unfolding Rattle.ob_mean.specs.declared.shape.Shape.TheBlock.hidden-the_row-Shape-0 denote.Hole.Carrier.hidden
 array_zero n s = refl
 

@@ -1,14 +1,14 @@
 -- What the rules of statements give fits.
 use Rattle.std.proofs.Common.{◌≡◌, ◌≢◌, ℕ, zero, suc, ℤ, pos, int_eq, ◌++◌, Bool, true, not, List, [], ◌∷◌, Option, Some, None, refl, sym, ap, ◌∙◌, subst}
 use Rattle.std.proofs.lemmas.Bool.Decides.{Decides-int_eq}
-use Rattle.ob_parse.specs.declared.tree.Branch.{Branch, out-Branch}
-use Rattle.ob_parse.specs.declared.tree.Case.{Case, out-Case}
-use Rattle.ob_parse.specs.declared.tree.Expr.{Expr}
-use Rattle.ob_parse.specs.declared.tree.ForHead.{ForHead}
-use Rattle.ob_parse.specs.declared.tree.Ident.{Ident}
-use Rattle.ob_parse.specs.declared.tree.LabelRange.{LabelRange}
-use Rattle.ob_parse.specs.declared.tree.Statement.{Statement, out-Statement}
-use Rattle.ob_parse.specs.declared.tree.Statement.TheOpen.{Statement-F}
+use Rattle.ob_tree.specs.declared.tree.Branch.{Branch, out-Branch}
+use Rattle.ob_tree.specs.declared.tree.Case.{Case, out-Case}
+use Rattle.ob_tree.specs.declared.tree.Expr.{Expr}
+use Rattle.ob_tree.specs.declared.tree.ForHead.{ForHead}
+use Rattle.ob_tree.specs.declared.tree.Ident.{Ident}
+use Rattle.ob_tree.specs.declared.tree.LabelRange.{LabelRange}
+use Rattle.ob_tree.specs.declared.tree.Statement.{Statement, out-Statement}
+use Rattle.ob_tree.specs.declared.tree.Statement.TheOpen.{Statement-F}
 use Rattle.ob_types.specs.declared.exports.Constant.{Constant}
 use Rattle.ob_types.specs.declared.exports.Constant.TheVariants as constant
 use Rattle.ob_types.specs.declared.structure.Basic.TheVariants as basic
@@ -22,15 +22,15 @@ use Rattle.ob_mean.specs.declared.statement.ForHead.{ForHead as TypedHead}
 use Rattle.ob_mean.specs.declared.statement.LabelRange.{LabelRange as TypedRange}
 use Rattle.ob_mean.specs.declared.statement.TypedStatement.{TypedStatement}
 use Rattle.ob_mean.specs.WellFormed.{Names, ExprFits, IsBasic, StatFits, ListFits, HeadFits, variable_object}
-use Rattle.ob_declare.specs.declared.block.Entry.{Entry}
-use Rattle.ob_declare.specs.declared.block.Entry.TheVariants as entry
-use Rattle.ob_declare.specs.declared.predeclared.Predeclared.{Predeclared}
-use Rattle.ob_declare.specs.declared.scope.Scope.{Scope}
-use Rattle.ob_declare.specs.Imports.{Modules}
-use Rattle.ob_declare.specs.Rule.{Rule, gives}
-use Rattle.ob_declare.specs.Scope.{seen, outer, variable_of}
-use Rattle.ob_express.specs.Operands.{Variables}
-use Rattle.ob_check.specs.Statements.{StatementLayer, is_integer, counter_of, counter_found, counter_named, step_of, chain, step_at, for_head, optional, next_branch, branches, if_rule, while_rule, Arms, arm_of, case_of, next_case, arms_of, case_rule, repeat_rule, for_rule, statement_layer, statement_of, next_statement, statements_at}
+use Rattle.ob_scope.specs.declared.block.Entry.{Entry}
+use Rattle.ob_scope.specs.declared.block.Entry.TheVariants as entry
+use Rattle.ob_scope.specs.declared.predeclared.Predeclared.{Predeclared}
+use Rattle.ob_scope.specs.declared.scope.Scope.{Scope}
+use Rattle.ob_scope.specs.Imports.{Modules}
+use Rattle.ob_scope.specs.Rule.{Rule, gives}
+use Rattle.ob_scope.specs.Scope.{seen, outer, variable_of}
+use Rattle.ob_operand.specs.Operands.{Variables}
+use Rattle.ob_statement.specs.Statements.{StatementLayer, is_integer, counter_of, counter_found, counter_named, step_of, chain, step_at, for_head, optional, next_branch, branches, if_rule, while_rule, Arms, arm_of, case_of, next_case, arms_of, case_rule, repeat_rule, for_rule, statement_layer, statement_of, next_statement, statements_at}
 use Rattle.ob_fit.specs.Fitting.{Suits, EntryFits, ScopeFits, StartsWith, BranchListFits, ArmListFits}
 use Rattle.ob_fit.proofs.Forms.{if_fits, case_fits, while_fits, repeat_fits, for_fits}
 use Rattle.ob_fit.proofs.Expressions.{value_at_fits, value_for_fits, guard_fits}

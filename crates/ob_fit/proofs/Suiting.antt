@@ -11,11 +11,11 @@ use Rattle.ob_types.specs.Types.{is_char}
 use Rattle.ob_mean.specs.declared.shape.Shape.{Shape, Row_of-Shape, end_of-Shape, more_of-Shape, items-the_row-Shape, items_hidden-the_row-Shape-1}
 use Rattle.ob_mean.specs.declared.shape.Shape.TheVariants as shape
 use Rattle.ob_mean.specs.WellFormed.{Object, Of, elements_in, field_in, field_shape, field_at, shape_object}
-use Rattle.ob_declare.specs.declared.scope.Scope.{Scope}
-use Rattle.ob_declare.specs.Rule.{gives}
-use Rattle.ob_express.specs.Operands.{is_text}
-use Rattle.ob_express.specs.Selecting.{field_of, field_from, seen_field, element_of}
-use Rattle.ob_check.specs.Assignments.{is_open}
+use Rattle.ob_scope.specs.declared.scope.Scope.{Scope}
+use Rattle.ob_scope.specs.Rule.{gives}
+use Rattle.ob_operand.specs.Operands.{is_text}
+use Rattle.ob_operand.specs.Selecting.{field_of, field_from, seen_field, element_of}
+use Rattle.ob_statement.specs.Assignments.{is_open}
 use Rattle.ob_check.specs.Shapes.{shape_of, shapes_in}
 use Rattle.ob_check.proofs.ShapeForms.{shape_array, shape_open, shape_record}
 use Rattle.ob_fit.specs.Fitting.{Suits}

@@ -1,7 +1,7 @@
 -- What the static rules go through, beside what a module can name: the parts of a tree that are lists, operands, scopes.
-use Rattle.std.specs.Prelude.{◌≡◌, ◌<◌, ◌+◌, ℕ, List, [], ◌∷◌, ◌++◌, length, Option, Some, None, ◌⊎◌, slice_get, is_some, if◌then◌else◌}
+use Rattle.std.specs.Prelude.{◌≡◌, ℕ, List, [], ◌∷◌, ◌++◌, Option, Some, None, ◌⊎◌, slice_get, is_some, if◌then◌else◌}
 use Rattle.std.specs.Str.{bytes_eq}
-use Rattle.ob_parse.specs.declared.tree.Module.{Module}
+use Rattle.ob_tree.specs.declared.tree.Module.{Module}
 use Rattle.ob_types.specs.declared.exports.Exported.{Exported}
 use Rattle.ob_types.specs.declared.exports.Object.{Object}
 use Rattle.ob_types.specs.declared.exports.Object.TheVariants as exported
@@ -17,20 +17,16 @@ use Rattle.ob_mean.specs.declared.face.Face.{Face}
 use Rattle.ob_mean.specs.declared.shape.Shape.{Shape}
 use Rattle.ob_mean.specs.declared.statement.Branch.{Branch, out-Branch}
 use Rattle.ob_mean.specs.declared.statement.CaseArm.{CaseArm, out-CaseArm}
-use Rattle.ob_mean.specs.declared.module.TypedProcedure.{TypedProcedure}
-use Rattle.ob_mean.specs.declared.module.TypedModule.{TypedModule}
-use Rattle.ob_mean.specs.WellFormed.{Names, Object as Named, Of, OpenOf, ExprFits, IndexesFit, ListFits, ResultFits, AllBelow, names_in, names_of, IsFaceOf, IsWellFormed, FacesFit, cell_limit, object_of, variable_object, called}
-use Rattle.ob_mean.specs.Shapes.{zeros, opening_row}
-use Rattle.ob_mean.specs.Values.{size}
-use Rattle.ob_declare.specs.declared.block.Entry.{Entry}
-use Rattle.ob_declare.specs.declared.block.Entry.TheVariants as entry
-use Rattle.ob_declare.specs.declared.scope.Scope.{Scope}
-use Rattle.ob_declare.specs.LoadedTree.{LoadedTree}
-use Rattle.ob_declare.specs.Exports.{Modules}
-use Rattle.ob_declare.specs.Scope.{seen, variable_of}
-use Rattle.ob_express.specs.declared.operand.Operand.{Operand}
-use Rattle.ob_express.specs.declared.operand.Operand.TheVariants as operand
-use Rattle.ob_declare.specs.Rule.{gives}
+use Rattle.ob_mean.specs.WellFormed.{Names, Object as Named, Of, OpenOf, ExprFits, IndexesFit, ListFits, IsFaceOf, IsWellFormed, object_of, variable_object, called}
+use Rattle.ob_scope.specs.declared.block.Entry.{Entry}
+use Rattle.ob_scope.specs.declared.block.Entry.TheVariants as entry
+use Rattle.ob_scope.specs.declared.scope.Scope.{Scope}
+use Rattle.ob_scope.specs.LoadedTree.{LoadedTree}
+use Rattle.ob_scope.specs.Exports.{Modules}
+use Rattle.ob_scope.specs.Scope.{seen, variable_of}
+use Rattle.ob_operand.specs.declared.operand.Operand.{Operand}
+use Rattle.ob_operand.specs.declared.operand.Operand.TheVariants as operand
+use Rattle.ob_scope.specs.Rule.{gives}
 use Rattle.ob_check.specs.declared.checked.Imported.{Imported}
 use Rattle.ob_check.specs.CheckedTree.{CheckedTree}
 use Rattle.ob_check.specs.Modules.{module_at}
@@ -134,39 +130,9 @@ abbrev pub faces_of : Modules → List Imported → List Face
 faces_of ms [] = []
 faces_of ms (i ∷ is) = with_face (face_named ms i.name) ++ faces_of ms is
 
-abbrev pub ProcedureBodyFits : Names → TypedProcedure → Type 0
-ProcedureBodyFits names f = ListFits names f.body × ResultFits names f.result
-
-abbrev pub ProcedureBodiesFit : List Face → TypedModule → List TypedProcedure → Type 0
-ProcedureBodiesFit faces m [] = Unit {0}
-ProcedureBodiesFit faces m (f ∷ fs) = ProcedureBodyFits (names_of faces m f) f × ProcedureBodiesFit faces m fs
-
--- A module is well formed but for its size: each number in it names what is there, and each thing is used as what it is. How many
--- cells its variables take is no matter of the static rules: strings become variables, and texts may be as long as they are.
-pub record IsFitting (faces : List Face) (m : TypedModule) : Type 0 where
-  pub exported : AllBelow (length m.procedures) m.exported
-  pub procedures : ProcedureBodiesFit faces m m.procedures
-  pub body : ListFits (names_in faces m) m.body
-
--- What the static rules give is so, over what the interfaces of its imports say, where the types that these export have cells. What
--- its own interface says is so of it, and the types that it exports have cells too.
+-- What the static rules give is well formed over what the interfaces of its imports say, where what these export is solid. What its
+-- own interface says is so of it, and what it exports is solid too.
 abbrev pub EachCheckedFits : Type 0
 EachCheckedFits =
     (ms : Modules) (m : Module) (c : CheckedTree) → EachSolid ms → gives (module_at ms m) c
-    → IsFitting (faces_of ms c.imports) c.tree × IsFaceOf (face_of_interface c.interface) c.tree × ExportsSolid c.interface.exports
-
--- ---- and its size
-
-abbrev pub ProceduresHaveRoom : List TypedProcedure → Type 0
-ProceduresHaveRoom [] = Unit {0}
-ProceduresHaveRoom (f ∷ fs) = (length f.parameters + size (zeros f.variables) < cell_limit) × ProceduresHaveRoom fs
-
--- its cells, those of each procedure and those of the imports have addresses
-pub record HasRoom (faces : List Face) (m : TypedModule) : Type 0 where
-  pub known : FacesFit faces
-  pub cells : size (opening_row m.variables) < cell_limit
-  pub procedures : ProceduresHaveRoom m.procedures
-
--- a module that fits and has room is well formed
-abbrev pub EachFittingForms : Type 0
-EachFittingForms = (faces : List Face) (m : TypedModule) → IsFitting faces m → HasRoom faces m → IsWellFormed faces m
+    → IsWellFormed (faces_of ms c.imports) c.tree × IsFaceOf (face_of_interface c.interface) c.tree × ExportsSolid c.interface.exports

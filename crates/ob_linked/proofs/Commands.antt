@@ -7,10 +7,8 @@ use Rattle.ob_mean.specs.declared.expression.Callee.TheVariants.{OfImport}
 use Rattle.ob_mean.specs.declared.face.Face.{Face}
 use Rattle.ob_mean.specs.declared.face.Heading.{Heading}
 use Rattle.ob_mean.specs.declared.module.TypedProcedure.{TypedProcedure}
-use Rattle.ob_mean.specs.Values.{size}
-use Rattle.ob_mean.specs.Shapes.{zeros}
 use Rattle.ob_mean.specs.Programs.{Command, procedure_in}
-use Rattle.ob_mean.specs.WellFormed.{Names, own_heading, face_heading, names_in, ListFits, cell_limit, FacesFit, AreHeadings, IsFaceOf, IsWellFormed}
+use Rattle.ob_mean.specs.WellFormed.{Names, own_heading, face_heading, names_in, ListFits, ShapesFit, FacesFit, AreHeadings, IsFaceOf, IsWellFormed}
 use Rattle.ob_code.specs.declared.instr.Entries.{Entries}
 use Rattle.ob_code.specs.declared.instr.LinkedModule.{LinkedModule}
 use Rattle.ob_code.specs.Linked.{Imports, IsLinked}
@@ -27,7 +25,7 @@ use Rattle.ob_session.specs.Session.{Module, program_of}
 use Rattle.ob_linked.specs.Compiled.{Known, runs_in, face_in, AreKnown, AreCompiled, faces_at, MayRunAll}
 use Rattle.ob_linked.specs.CommandsCode.{IsCallable, AllCallable, AreCallable, calls_body, commands_tree, IsBehind, EachCommandsForm, runs_with, EachCommandsMayRun}
 use Rattle.ob_linked.proofs.Sides.{imported_at, as_long}
-use Rattle.ob_linked.proofs.Entries.{face_cells, numbered_at}
+use Rattle.ob_linked.proofs.Entries.{face_few, numbered_at}
 use Rattle.ob_linked.proofs.MayRun.{whole_at, face_is, loaded_there, as_known, each_may_run}
 use Rattle.ob_linked.proofs.Behind.{kept_at, last_at, kept_or_last, index_at, as_known_alike, linked_behind, program_behind}
 
@@ -78,19 +76,17 @@ module _ (modules : List Module) (known : List Known) (code : Code) (all : AreCo
 
   -- ---- the module's tree
 
-  face_low : (i : ℕ) (face : Face) → runs_in modules i ≡ true → face_in (slice_get known i) ≡ Some face → size (zeros face.variables) < cell_limit
-  face_low i face ok at =
+  known_few : (i : ℕ) (face : Face) → runs_in modules i ≡ true → face_in (slice_get known i) ≡ Some face → ShapesFit face.variables
+  known_few i face ok at =
       let w = whole_at modules known code all i ok in
       let is_face = face_is modules known code all i face w at in
-      let cells = face_cells face.variables w.m.tree.variables is_face.variables in
-      let low = w.compiled.ready.formed.cells in
-      omega (arith, cells, low)
+      face_few face.variables w.m.tree.variables is_face.variables w.compiled.ready.formed.variables
 
   faces_fit : (is : List ℕ) (faces : List Face) → AreKnown known is faces → AllRun (runs_in modules) is → FacesFit faces
   faces_fit [] [] a r = tt
   faces_fit [] (face ∷ faces) a r = absurd a
   faces_fit (i ∷ is) [] a r = absurd a
-  faces_fit (i ∷ is) (face ∷ faces) a r = (face_low i face r.0 a.0, faces_fit is faces a.1 r.1)
+  faces_fit (i ∷ is) (face ∷ faces) a r = (known_few i face r.0 a.0, faces_fit is faces a.1 r.1)
 
   -- the command is what the face says
   called_in : (c : Command) (place : ℕ) (face : Face) → IsCallable modules c place → face_in (slice_get known c.home) ≡ Some face → face_heading (Some face) place ≡ Some plain
@@ -115,7 +111,7 @@ module _ (modules : List Module) (known : List Known) (code : Code) (all : AreCo
   formed : (cs : List Command) (homes : List ℕ) (calls : List (ℕ × ℕ)) (faces : List Face) → AreCallable modules known cs homes calls faces → IsWellFormed faces (commands_tree calls)
   formed cs homes calls faces h = record {
     known = faces_fit homes faces h.agree h.run;
-    cells = omega arith;
+    variables = tt;
     exported = tt;
     procedures = tt;
     body = calls_fit (names_in faces (commands_tree calls)) homes cs calls faces h.each h.agree refl;

@@ -1,5 +1,5 @@
 -- What code knows of a module is so of the module's code.
-use Rattle.std.proofs.Common.{◌≡◌, ℕ, zero, suc, ◌+◌, ◌≤◌, List, [], ◌∷◌, Option, Some, None, refl, sym, ap, ◌∙◌, subst, arith}
+use Rattle.std.proofs.Common.{◌≡◌, ℕ, zero, suc, ◌+◌, ◌≤◌, ◌<◌, List, [], ◌∷◌, Option, Some, None, refl, sym, ap, ◌∙◌, subst, arith}
 use Rattle.std.specs.Prelude.{slice_get, option_map}
 use Rattle.std.proofs.lemmas.Option.{slice_get-map}
 use Rattle.ob_mean.specs.declared.face.Face.{Face}
@@ -13,7 +13,7 @@ use Rattle.ob_mean.specs.declared.module.TypedProcedure.{TypedProcedure}
 use Rattle.ob_mean.specs.declared.module.TypedModule.{TypedModule}
 use Rattle.ob_mean.specs.Values.{size}
 use Rattle.ob_mean.specs.Shapes.{zero_of, zeros, opening_row}
-use Rattle.ob_mean.specs.WellFormed.{heading_of, own_heading, names_of, StartWith, AreHeadings, IsFaceOf}
+use Rattle.ob_mean.specs.WellFormed.{heading_of, own_heading, names_of, cell_limit, ShapesFit, VariablesFit, StartWith, AreHeadings, IsFaceOf}
 use Rattle.ob_code.specs.declared.instr.Entry.{Entry}
 use Rattle.ob_code.specs.declared.instr.Entries.{Entries}
 use Rattle.ob_code.specs.declared.instr.Procedure.{Procedure}
@@ -36,6 +36,13 @@ face_cells (t ∷ ts) (Declared u ∷ vs) h =
     let rest = face_cells ts vs h.1 in
     omega (arith, one, rest)
 face_cells (t ∷ ts) (Text characters n ∷ vs) h = absurd h
+
+-- and its exported variables have as few cells as its own
+pub face_few : (ts : List Shape) (vs : List ModuleVariable) → StartWith ts vs → VariablesFit vs → ShapesFit ts
+face_few [] vs h g = tt
+face_few (t ∷ ts) [] h g = absurd h
+face_few (t ∷ ts) (Declared u ∷ vs) h g = (subst (λ x. size (zero_of x) < cell_limit) (sym h.0) g.0, face_few ts vs h.1 g.1)
+face_few (t ∷ ts) (Text characters n ∷ vs) h g = absurd h
 
 -- ---- procedures
 

@@ -37,7 +37,7 @@ use Rattle.ob_mean.specs.declared.statement.TypedStatement.TheBlock.{Row_of-Bran
 use Rattle.ob_mean.specs.declared.statement.TypedStatement.TheVariants.{Simple, If', Case', While', Repeat', For'}
 use Rattle.ob_mean.specs.Programs.{Program}
 use Rattle.ob_mean.specs.Values.{size}
-use Rattle.ob_mean.specs.Shapes.{zero_of, zeros, opening_row}
+use Rattle.ob_mean.specs.Shapes.{zero_of, opening_value}
 
 -- ---- what names stand for
 
@@ -296,12 +296,22 @@ abbrev pub ResultFits : Names → Option TypedExpr → Type 0
 ResultFits names None = Unit {0}
 ResultFits names (Some e) = ExprFits names e
 
--- cells have addresses below 2^31
+-- An operand is a number of 32 bits within one object, so an object has fewer cells than this.
 abbrev pub cell_limit : ℕ
 cell_limit = 2 ^ 31
 
+-- each of the variables of these shapes has fewer
+abbrev pub ShapesFit : List Shape → Type 0
+ShapesFit [] = Unit {0}
+ShapesFit (shape ∷ shapes) = (size (zero_of shape) < cell_limit) × ShapesFit shapes
+
+-- and each of the variables of a module
+abbrev pub VariablesFit : List ModuleVariable → Type 0
+VariablesFit [] = Unit {0}
+VariablesFit (v ∷ vs) = (size (opening_value v) < cell_limit) × VariablesFit vs
+
 abbrev pub ProcedureFits : Names → TypedProcedure → Type 0
-ProcedureFits names f = ListFits names f.body × ResultFits names f.result × (length f.parameters + size (zeros f.variables) < cell_limit)
+ProcedureFits names f = ListFits names f.body × ResultFits names f.result × ShapesFit f.variables
 
 abbrev pub ProceduresFit : List Face → TypedModule → List TypedProcedure → Type 0
 ProceduresFit faces m [] = Unit {0}
@@ -314,12 +324,12 @@ AllBelow n (i ∷ is) = (i < n) × AllBelow n is
 
 abbrev pub FacesFit : List Face → Type 0
 FacesFit [] = Unit {0}
-FacesFit (face ∷ rest) = (size (zeros face.variables) < cell_limit) × FacesFit rest
+FacesFit (face ∷ rest) = ShapesFit face.variables × FacesFit rest
 
 -- a module over what is known of those that it imports
 pub record IsWellFormed (faces : List Face) (m : TypedModule) : Type 0 where
   pub known : FacesFit faces
-  pub cells : size (opening_row m.variables) < cell_limit
+  pub variables : VariablesFit m.variables
   pub exported : AllBelow (length m.procedures) m.exported
   pub procedures : ProceduresFit faces m m.procedures
   pub body : ListFits (names_in faces m) m.body

@@ -10,16 +10,16 @@ use Rattle.ob_scan.specs.declared.token.Span.{Span}
 use Rattle.ob_scan.specs.declared.token.Symbol.TheVariants as s
 use Rattle.ob_scan.specs.declared.token.Token.{Token}
 use Rattle.ob_scan.specs.Symbols.{same_symbol}
-use Rattle.ob_parse.specs.declared.tree.Ident.{Ident}
-use Rattle.ob_parse.specs.declared.tree.Import.{Import}
-use Rattle.ob_parse.specs.declared.tree.Module.{Module}
-use Rattle.ob_parse.specs.declared.tree.Command.{Command}
-use Rattle.ob_parse.specs.declared.tree.Cell.{Cell}
-use Rattle.ob_parse.specs.declared.tree.Cell.TheVariants as cells
-use Rattle.ob_parse.specs.Phrase as phrase
-use Rattle.ob_parse.specs.Phrase.{Phrase, ◌⨾◌, symbol_at, symbol, each, maybe, separated, optional}
-use Rattle.ob_parse.specs.Statement.{statements}
-use Rattle.ob_parse.specs.Declaration.{declarations, name_again}
+use Rattle.ob_tree.specs.declared.tree.Ident.{Ident}
+use Rattle.ob_tree.specs.declared.tree.Import.{Import}
+use Rattle.ob_tree.specs.declared.tree.Module.{Module}
+use Rattle.ob_tree.specs.declared.tree.Command.{Command}
+use Rattle.ob_tree.specs.declared.tree.Cell.{Cell}
+use Rattle.ob_tree.specs.declared.tree.Cell.TheVariants as cells
+use Rattle.ob_tree.specs.Phrase as phrase
+use Rattle.ob_tree.specs.Phrase.{Phrase, ◌⨾◌, symbol_at, symbol, each, maybe, separated, optional}
+use Rattle.ob_tree.specs.Statement.{statements}
+use Rattle.ob_tree.specs.Declaration.{declarations, name_again}
 use Rattle.ob_parse.specs.Grammar as p
 use Rattle.ob_parse.specs.Grammar.{Derives, AnswersTree, FaultsOnly, max_nesting}
 use Rattle.ob_parse.specs.Reading as reading
@@ -27,7 +27,8 @@ use Rattle.ob_parse.specs.Reading.{Reader, Reads, Outcome, eat, many, if_ident, 
 use Rattle.ob_parse.specs.GrammarReading as r
 use Rattle.ob_parse.specs.GrammarReading.{is_semicolon, at_semicolon, behind_semicolons}
 use Rattle.ob_parse.proofs.Exact.{Exact, Anything, OrAbsent, IsAbsent, answer, answers, same_answer, Seq, Is, Either, exact_seq, exact_pure, exact_as, exact_maybe_as, exact_where, exact_either, exact_where_some, absent_where, before_pure}
-use Rattle.ob_parse.proofs.OneToken.{exact_expect, exact_eat, exact_ident, starts_by, absent_start, other_symbol, made, Closes, closes_by, absent_closing}
+use Rattle.ob_parse.proofs.OneToken.{exact_expect, exact_eat, exact_ident, starts_by, absent_start, other_symbol, Closes, closes_by, absent_closing}
+use Rattle.ob_tree.proofs.Tokens.{made}
 use Rattle.ob_parse.proofs.Separated.{exact_separated}
 use Rattle.ob_parse.proofs.Optional.{exact_optional, optional_begins}
 use Rattle.ob_parse.proofs.Entries.{exact_entries, entries_follow, ident_at}

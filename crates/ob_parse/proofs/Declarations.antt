@@ -9,24 +9,24 @@ use Rattle.ob_scan.specs.declared.token.Span.{Span}
 use Rattle.ob_scan.specs.declared.token.Symbol.TheVariants as s
 use Rattle.ob_scan.specs.declared.token.Token.{Token}
 use Rattle.ob_scan.specs.Symbols.{same_symbol}
-use Rattle.ob_parse.specs.declared.tree.Ident.{Ident}
-use Rattle.ob_parse.specs.declared.tree.Qualident.{Qualident}
-use Rattle.ob_parse.specs.declared.tree.FormalType.{FormalType, out-FormalType, roll-FormalType, out-roll-FormalType, roll-out-FormalType}
-use Rattle.ob_parse.specs.declared.tree.FormalType.TheOpen.{FormalType-F}
-use Rattle.ob_parse.specs.declared.tree.FormalSection.{FormalSection}
-use Rattle.ob_parse.specs.declared.tree.Formals.{Formals}
-use Rattle.ob_parse.specs.declared.tree.ConstDeclaration.{ConstDeclaration}
-use Rattle.ob_parse.specs.declared.tree.TypeDeclaration.{TypeDeclaration}
-use Rattle.ob_parse.specs.declared.tree.TypedNames.{TypedNames}
-use Rattle.ob_parse.specs.declared.tree.Returned.{Returned}
-use Rattle.ob_parse.specs.Phrase as phrase
-use Rattle.ob_parse.specs.Phrase.{Phrase, ◌⨾◌, symbol_at, symbol, each, maybe, separated, listed, optional, opens}
-use Rattle.ob_parse.specs.Name.{qualident}
-use Rattle.ob_parse.specs.Expression as ex
-use Rattle.ob_parse.specs.Structure as structure
-use Rattle.ob_parse.specs.Statement.{statements}
-use Rattle.ob_parse.specs.Declaration as p
-use Rattle.ob_parse.specs.Declaration.{FormalLayer}
+use Rattle.ob_tree.specs.declared.tree.Ident.{Ident}
+use Rattle.ob_tree.specs.declared.tree.Qualident.{Qualident}
+use Rattle.ob_tree.specs.declared.tree.FormalType.{FormalType, out-FormalType, roll-FormalType, out-roll-FormalType, roll-out-FormalType}
+use Rattle.ob_tree.specs.declared.tree.FormalType.TheOpen.{FormalType-F}
+use Rattle.ob_tree.specs.declared.tree.FormalSection.{FormalSection}
+use Rattle.ob_tree.specs.declared.tree.Formals.{Formals}
+use Rattle.ob_tree.specs.declared.tree.ConstDeclaration.{ConstDeclaration}
+use Rattle.ob_tree.specs.declared.tree.TypeDeclaration.{TypeDeclaration}
+use Rattle.ob_tree.specs.declared.tree.TypedNames.{TypedNames}
+use Rattle.ob_tree.specs.declared.tree.Returned.{Returned}
+use Rattle.ob_tree.specs.Phrase as phrase
+use Rattle.ob_tree.specs.Phrase.{Phrase, ◌⨾◌, symbol_at, symbol, each, maybe, separated, listed, optional, opens}
+use Rattle.ob_tree.specs.Name.{qualident}
+use Rattle.ob_tree.specs.Expression as ex
+use Rattle.ob_tree.specs.Structure as structure
+use Rattle.ob_tree.specs.Statement.{statements}
+use Rattle.ob_tree.specs.Declaration as p
+use Rattle.ob_tree.specs.Declaration.{FormalLayer}
 use Rattle.ob_parse.specs.Reading as reading
 use Rattle.ob_parse.specs.Reading.{Reader, ◌>>=◌, pure, eat, at_ident, many, if_ident}
 use Rattle.ob_parse.specs.DeclarationReading as r

@@ -1,10 +1,10 @@
 -- Entries that begin with a name, as many as come.
 use Rattle.std.proofs.Common.{◌≡◌, ◌<◌, Bool, true, false, cond, List, length, Option, Some, None, refl, ap, subst, ◌∙◌}
 use Rattle.ob_scan.specs.declared.token.Token.{Token}
-use Rattle.ob_parse.specs.Phrase as phrase
-use Rattle.ob_parse.specs.Phrase.{Phrase, each, maybe}
+use Rattle.ob_tree.specs.Phrase as phrase
+use Rattle.ob_tree.specs.Phrase.{Phrase, each, maybe}
 use Rattle.ob_parse.specs.Reading.{Outcome, Reader, and_then, pure, many, at_ident, if_ident}
-use Rattle.ob_parse.specs.declared.tree.Ident.{Ident}
+use Rattle.ob_tree.specs.declared.tree.Ident.{Ident}
 use Rattle.ob_parse.proofs.Exact.{Exact, OrAbsent, IsAbsent, Repeats, answer, answers, same_answer, and_then_ok, exact_many, each_follows}
 use Rattle.ob_parse.proofs.OneToken.{maybe_shorter}
 

@@ -2,7 +2,7 @@
 use Rattle.std.proofs.Common.{◌≡◌, ℕ, zero, suc, ◌<◌, ◌≤◌, List, [], ◌∷◌, length, Option, Some, None, Ok, Err, refl, sym, ap, subst, ◌∙◌, arith}
 use Rattle.ob_base.specs.declared.fault.Code.{Code}
 use Rattle.ob_scan.specs.declared.token.Token.{Token}
-use Rattle.ob_parse.specs.Phrase.{Phrase, each, maybe}
+use Rattle.ob_tree.specs.Phrase.{Phrase, each, maybe}
 use Rattle.ob_parse.specs.Reading.{Outcome, Reader, and_then, ◌>>=◌, pure, refuse, with_first, goes_on, many_after, many_from, many, where_some, not_there}
 
 -- what may follow a value

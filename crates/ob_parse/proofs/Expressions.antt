@@ -7,21 +7,21 @@ use Rattle.ob_scan.specs.declared.token.Span.{Span}
 use Rattle.ob_scan.specs.declared.token.Symbol.TheVariants as s
 use Rattle.ob_scan.specs.declared.token.Token.{Token}
 use Rattle.ob_scan.specs.Symbols.{same_symbol}
-use Rattle.ob_parse.specs.declared.tree.Sign.{Sign}
-use Rattle.ob_parse.specs.declared.tree.Expr.{Expr, out-Expr, roll-Expr, out-roll-Expr, roll-out-Expr}
-use Rattle.ob_parse.specs.declared.tree.Related.{Related, out-Related, roll-Related, out-roll-Related, roll-out-Related}
-use Rattle.ob_parse.specs.declared.tree.Simple.{Simple, out-Simple, roll-Simple, out-roll-Simple, roll-out-Simple}
-use Rattle.ob_parse.specs.declared.tree.AddedTerm.{AddedTerm, out-AddedTerm, roll-AddedTerm, out-roll-AddedTerm, roll-out-AddedTerm}
-use Rattle.ob_parse.specs.declared.tree.Term.{Term, out-Term, roll-Term, out-roll-Term, roll-out-Term}
-use Rattle.ob_parse.specs.declared.tree.NextFactor.{NextFactor, out-NextFactor, roll-NextFactor, out-roll-NextFactor, roll-out-NextFactor}
-use Rattle.ob_parse.specs.declared.tree.Factor.{Factor, out-Factor, roll-Factor, out-roll-Factor, roll-out-Factor}
-use Rattle.ob_parse.specs.declared.tree.Designator.{Designator, out-Designator, roll-Designator, out-roll-Designator, roll-out-Designator}
-use Rattle.ob_parse.specs.declared.tree.Selector.{Selector, out-Selector, roll-Selector, out-roll-Selector, roll-out-Selector}
-use Rattle.ob_parse.specs.declared.tree.Factor.TheOpen.{Factor-F, Selector-F, AddedTerm-F, Designator-F, Expr-F, NextFactor-F, Related-F, Simple-F, Term-F}
-use Rattle.ob_parse.specs.Phrase as phrase
-use Rattle.ob_parse.specs.Phrase.{Phrase, ◌⨾◌, nothing, symbol_at, symbol, each, maybe, separated, listed, opens}
-use Rattle.ob_parse.specs.Expression as p
-use Rattle.ob_parse.specs.Expression.{FactorLayer, SelectorLayer, sign_symbol, add_symbol, mul_symbol, relation_symbol}
+use Rattle.ob_tree.specs.declared.tree.Sign.{Sign}
+use Rattle.ob_tree.specs.declared.tree.Expr.{Expr, out-Expr, roll-Expr, out-roll-Expr, roll-out-Expr}
+use Rattle.ob_tree.specs.declared.tree.Related.{Related, out-Related, roll-Related, out-roll-Related, roll-out-Related}
+use Rattle.ob_tree.specs.declared.tree.Simple.{Simple, out-Simple, roll-Simple, out-roll-Simple, roll-out-Simple}
+use Rattle.ob_tree.specs.declared.tree.AddedTerm.{AddedTerm, out-AddedTerm, roll-AddedTerm, out-roll-AddedTerm, roll-out-AddedTerm}
+use Rattle.ob_tree.specs.declared.tree.Term.{Term, out-Term, roll-Term, out-roll-Term, roll-out-Term}
+use Rattle.ob_tree.specs.declared.tree.NextFactor.{NextFactor, out-NextFactor, roll-NextFactor, out-roll-NextFactor, roll-out-NextFactor}
+use Rattle.ob_tree.specs.declared.tree.Factor.{Factor, out-Factor, roll-Factor, out-roll-Factor, roll-out-Factor}
+use Rattle.ob_tree.specs.declared.tree.Designator.{Designator, out-Designator, roll-Designator, out-roll-Designator, roll-out-Designator}
+use Rattle.ob_tree.specs.declared.tree.Selector.{Selector, out-Selector, roll-Selector, out-roll-Selector, roll-out-Selector}
+use Rattle.ob_tree.specs.declared.tree.Factor.TheOpen.{Factor-F, Selector-F, AddedTerm-F, Designator-F, Expr-F, NextFactor-F, Related-F, Simple-F, Term-F}
+use Rattle.ob_tree.specs.Phrase as phrase
+use Rattle.ob_tree.specs.Phrase.{Phrase, ◌⨾◌, nothing, symbol_at, symbol, each, maybe, separated, listed, opens}
+use Rattle.ob_tree.specs.Expression as p
+use Rattle.ob_tree.specs.Expression.{FactorLayer, SelectorLayer, sign_symbol, add_symbol, mul_symbol, relation_symbol}
 use Rattle.ob_parse.specs.Reading.{Reader, ◌>>=◌, pure, eat, operator}
 use Rattle.ob_parse.specs.ExpressionReading as r
 use Rattle.ob_parse.specs.ExpressionReading.{sign_of, add_of, mul_of, relation_of}

@@ -15,5 +15,3 @@ pub mod Declarations
 pub mod Procedures
 pub mod Cells
 pub mod Texts
-pub mod FirstTokens
-pub mod Crossing

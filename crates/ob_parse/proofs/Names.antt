@@ -6,20 +6,21 @@ use Rattle.ob_scan.specs.declared.token.Span.{Span}
 use Rattle.ob_scan.specs.declared.token.Symbol.TheVariants as s
 use Rattle.ob_scan.specs.declared.token.Token.{Token}
 use Rattle.ob_scan.specs.Symbols.{same_symbol}
-use Rattle.ob_parse.specs.declared.tree.Ident.{Ident}
-use Rattle.ob_parse.specs.declared.tree.IdentDef.{IdentDef}
-use Rattle.ob_parse.specs.declared.tree.Qualident.{Qualident}
-use Rattle.ob_parse.specs.declared.tree.Label.{Label}
-use Rattle.ob_parse.specs.declared.tree.Label.TheVariants as labels
-use Rattle.ob_parse.specs.declared.tree.LabelRange.{LabelRange}
-use Rattle.ob_parse.specs.Phrase as phrase
-use Rattle.ob_parse.specs.Phrase.{Phrase, ◌⨾◌, symbol_at, symbol, maybe, separated}
-use Rattle.ob_parse.specs.Name as p
+use Rattle.ob_tree.specs.declared.tree.Ident.{Ident}
+use Rattle.ob_tree.specs.declared.tree.IdentDef.{IdentDef}
+use Rattle.ob_tree.specs.declared.tree.Qualident.{Qualident}
+use Rattle.ob_tree.specs.declared.tree.Label.{Label}
+use Rattle.ob_tree.specs.declared.tree.Label.TheVariants as labels
+use Rattle.ob_tree.specs.declared.tree.LabelRange.{LabelRange}
+use Rattle.ob_tree.specs.Phrase as phrase
+use Rattle.ob_tree.specs.Phrase.{Phrase, ◌⨾◌, symbol_at, symbol, maybe, separated}
+use Rattle.ob_tree.specs.Name as p
 use Rattle.ob_parse.specs.Reading as reading
 use Rattle.ob_parse.specs.Reading.{Reader, eat, at_ident, and_then, pure, where_some}
 use Rattle.ob_parse.specs.NameReading as r
 use Rattle.ob_parse.proofs.Exact.{Exact, Anything, OrAbsent, IsAbsent, answer, answers, same_answer, exact_seq, exact_pure, exact_as, exact_maybe_as, exact_where_some, absent_where, before_pure, and_then_ok}
-use Rattle.ob_parse.proofs.OneToken.{exact_eat, exact_ident, Ends, ends_at, ends_by, absent_eat, other_symbol, Starts, starts_by, made}
+use Rattle.ob_parse.proofs.OneToken.{exact_eat, exact_ident, Ends, ends_at, ends_by, absent_eat, other_symbol, Starts, starts_by}
+use Rattle.ob_tree.proofs.Tokens.{made}
 use Rattle.ob_parse.proofs.Entries.{ident_at}
 use Rattle.ob_parse.proofs.Separated.{exact_separated}
 

@@ -9,9 +9,10 @@ use Rattle.ob_scan.specs.declared.token.Symbol.TheVariants as s
 use Rattle.ob_scan.specs.declared.token.Token.{Token}
 use Rattle.ob_scan.specs.Symbols.{same_symbol}
 use Rattle.ob_scan.proofs.SymbolLemmas.{same_symbol_is, same_symbol_self}
-use Rattle.ob_parse.specs.declared.tree.Ident.{Ident}
-use Rattle.ob_parse.specs.Phrase as phrase
-use Rattle.ob_parse.specs.Phrase.{Phrase, symbol_at, maybe}
+use Rattle.ob_tree.specs.declared.tree.Ident.{Ident}
+use Rattle.ob_tree.proofs.Tokens.{made}
+use Rattle.ob_tree.specs.Phrase as phrase
+use Rattle.ob_tree.specs.Phrase.{Phrase, symbol_at, maybe}
 use Rattle.ob_parse.specs.Reading as reading
 use Rattle.ob_parse.specs.Reading.{Outcome, eat, expect, is_symbol, operator, operator_by, ident_by}
 use Rattle.ob_parse.proofs.Exact.{Exact, Anything, OrAbsent, IsAbsent, answer, answers, same_answer}
@@ -26,9 +27,6 @@ is_symbol_is symbol (kinds.Text n) e = absurd cc
 
 pub is_symbol_self : (symbol : Symbol) → is_symbol symbol (kinds.Symbol symbol) ≡ true
 is_symbol_self symbol = same_symbol_self symbol
-
-abbrev pub made : Kind → Span → Token
-made kind span = record { kind = kind; span = span }
 
 -- tokens that begin with a token
 pub begins_by : (k l : Kind) (span : Span) (ts rest : List Token) → k ≡ l → ts ≡ rest → made k span ∷ ts ≡ made l span ∷ rest

@@ -3,7 +3,7 @@ use Rattle.std.proofs.Common.{inl, inr, List, [], ◌∷◌, Option, Some, None,
 use Rattle.ob_scan.specs.declared.token.Span.{Span}
 use Rattle.ob_scan.specs.declared.token.Symbol.{Symbol}
 use Rattle.ob_scan.specs.declared.token.Token.{Token}
-use Rattle.ob_parse.specs.Phrase.{Phrase, ◌⨾◌, symbol_at, symbol, maybe, separated, listed, optional}
+use Rattle.ob_tree.specs.Phrase.{Phrase, ◌⨾◌, symbol_at, symbol, maybe, separated, listed, optional}
 use Rattle.ob_parse.specs.Reading as reading
 use Rattle.ob_parse.specs.Reading.{Reader, eat, closed_by}
 use Rattle.ob_parse.proofs.Exact.{Exact, Anything, OrAbsent, IsAbsent, Seq, Is, Either, exact_seq, exact_pure, exact_as, exact_either}

@@ -3,13 +3,13 @@ use Rattle.std.proofs.Common.{◌≡◌, ℕ, zero, suc, List, length, Option, S
 use Rattle.ob_base.specs.declared.fault.Code.TheVariants as codes
 use Rattle.ob_scan.specs.declared.token.Symbol.TheVariants as s
 use Rattle.ob_scan.specs.declared.token.Token.{Token}
-use Rattle.ob_parse.specs.declared.tree.Declarations.{Declarations, out-Declarations, roll-Declarations, out-roll-Declarations, roll-out-Declarations}
-use Rattle.ob_parse.specs.declared.tree.Procedure.{Procedure, out-Procedure, roll-Procedure, out-roll-Procedure, roll-out-Procedure}
-use Rattle.ob_parse.specs.declared.tree.Declarations.TheOpen.{Declarations-F, Procedure-F}
-use Rattle.ob_parse.specs.Phrase.{Phrase, ◌⨾◌, symbol_at, symbol, each, maybe, optional, opens}
-use Rattle.ob_parse.specs.Name.{ident_def}
-use Rattle.ob_parse.specs.Statement.{statements}
-use Rattle.ob_parse.specs.Declaration as p
+use Rattle.ob_tree.specs.declared.tree.Declarations.{Declarations, out-Declarations, roll-Declarations, out-roll-Declarations, roll-out-Declarations}
+use Rattle.ob_tree.specs.declared.tree.Procedure.{Procedure, out-Procedure, roll-Procedure, out-roll-Procedure, roll-out-Procedure}
+use Rattle.ob_tree.specs.declared.tree.Declarations.TheOpen.{Declarations-F, Procedure-F}
+use Rattle.ob_tree.specs.Phrase.{Phrase, ◌⨾◌, symbol_at, symbol, each, maybe, optional, opens}
+use Rattle.ob_tree.specs.Name.{ident_def}
+use Rattle.ob_tree.specs.Statement.{statements}
+use Rattle.ob_tree.specs.Declaration as p
 use Rattle.ob_parse.specs.Reading.{Reader, eat}
 use Rattle.ob_parse.specs.DeclarationReading as r
 use Rattle.ob_parse.proofs.Exact.{Exact, Anything, OrAbsent, IsAbsent, Repeats, exact_seq, exact_pure, exact_as, exact_maybe_as, exact_many, each_follows, exact_made, exact_where_some, absent_where, before_made, exact_refuse}

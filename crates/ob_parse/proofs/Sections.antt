@@ -6,7 +6,7 @@ use Rattle.ob_scan.specs.declared.token.Span.{Span}
 use Rattle.ob_scan.specs.declared.token.Symbol.{Symbol}
 use Rattle.ob_scan.specs.declared.token.Symbol.TheVariants as s
 use Rattle.ob_scan.specs.declared.token.Token.{Token}
-use Rattle.ob_parse.specs.Phrase.{symbol_at}
+use Rattle.ob_tree.specs.Phrase.{symbol_at}
 use Rattle.ob_parse.specs.Reading.{eat, is_symbol, is_ident, at_ident}
 use Rattle.ob_parse.proofs.Exact.{IsAbsent, answer}
 use Rattle.ob_parse.proofs.OneToken.{is_symbol_is, Closes, closing}

@@ -6,7 +6,7 @@ use Rattle.ob_base.specs.declared.fault.Refused.{Refused}
 use Rattle.ob_base.specs.declared.fault.Refused.TheVariants as refused
 use Rattle.ob_scan.specs.declared.token.Symbol.TheVariants as s
 use Rattle.ob_scan.specs.declared.token.Token.{Token}
-use Rattle.ob_parse.specs.declared.tree.Statement.{Statement}
+use Rattle.ob_tree.specs.declared.tree.Statement.{Statement}
 use Rattle.ob_parse.specs.Reading.{Reads, Outcome, opens, separated}
 use Rattle.ob_parse.specs.StatementReading.{statement, statements}
 

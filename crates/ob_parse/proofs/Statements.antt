@@ -8,19 +8,19 @@ use Rattle.ob_scan.specs.declared.token.Symbol.{Symbol}
 use Rattle.ob_scan.specs.declared.token.Symbol.TheVariants as s
 use Rattle.ob_scan.specs.declared.token.Token.{Token}
 use Rattle.ob_scan.specs.Symbols.{same_symbol}
-use Rattle.ob_parse.specs.declared.tree.Expr.{Expr}
-use Rattle.ob_parse.specs.declared.tree.Designator.{Designator, out-Designator}
-use Rattle.ob_parse.specs.declared.tree.Statement.{Statement, out-Statement, roll-Statement, out-roll-Statement, roll-out-Statement}
-use Rattle.ob_parse.specs.declared.tree.Branch.{Branch, out-Branch, roll-Branch, out-roll-Branch, roll-out-Branch}
-use Rattle.ob_parse.specs.declared.tree.Case.{Case, out-Case, roll-Case, out-roll-Case, roll-out-Case}
-use Rattle.ob_parse.specs.declared.tree.ForHead.{ForHead}
-use Rattle.ob_parse.specs.declared.tree.LabelRange.{LabelRange}
-use Rattle.ob_parse.specs.declared.tree.Statement.TheOpen.{Statement-F, Branch-F, Case-F}
-use Rattle.ob_parse.specs.Phrase.{Phrase, ◌⨾◌, symbol_at, symbol, each, maybe, separated, optional}
-use Rattle.ob_parse.specs.Name.{label_range}
-use Rattle.ob_parse.specs.Expression as ex
-use Rattle.ob_parse.specs.Statement as p
-use Rattle.ob_parse.specs.Statement.{StatementLayer}
+use Rattle.ob_tree.specs.declared.tree.Expr.{Expr}
+use Rattle.ob_tree.specs.declared.tree.Designator.{Designator, out-Designator}
+use Rattle.ob_tree.specs.declared.tree.Statement.{Statement, out-Statement, roll-Statement, out-roll-Statement, roll-out-Statement}
+use Rattle.ob_tree.specs.declared.tree.Branch.{Branch, out-Branch, roll-Branch, out-roll-Branch, roll-out-Branch}
+use Rattle.ob_tree.specs.declared.tree.Case.{Case, out-Case, roll-Case, out-roll-Case, roll-out-Case}
+use Rattle.ob_tree.specs.declared.tree.ForHead.{ForHead}
+use Rattle.ob_tree.specs.declared.tree.LabelRange.{LabelRange}
+use Rattle.ob_tree.specs.declared.tree.Statement.TheOpen.{Statement-F, Branch-F, Case-F}
+use Rattle.ob_tree.specs.Phrase.{Phrase, ◌⨾◌, symbol_at, symbol, each, maybe, separated, optional}
+use Rattle.ob_tree.specs.Name.{label_range}
+use Rattle.ob_tree.specs.Expression as ex
+use Rattle.ob_tree.specs.Statement as p
+use Rattle.ob_tree.specs.Statement.{StatementLayer}
 use Rattle.ob_parse.specs.Reading as reading
 use Rattle.ob_parse.specs.Reading.{Outcome, Reader, eat}
 use Rattle.ob_parse.specs.StatementReading as r

@@ -6,20 +6,21 @@ use Rattle.ob_scan.specs.declared.token.Kind.TheVariants as kinds
 use Rattle.ob_scan.specs.declared.token.Span.{Span}
 use Rattle.ob_scan.specs.declared.token.Symbol.TheVariants as s
 use Rattle.ob_scan.specs.declared.token.Token.{Token}
-use Rattle.ob_parse.specs.declared.tree.Qualident.{Qualident}
-use Rattle.ob_parse.specs.declared.tree.TypeExpr.{TypeExpr, out-TypeExpr, roll-TypeExpr, out-roll-TypeExpr, roll-out-TypeExpr}
-use Rattle.ob_parse.specs.declared.tree.TypedNames.{TypedNames, out-TypedNames, roll-TypedNames, out-roll-TypedNames, roll-out-TypedNames}
-use Rattle.ob_parse.specs.declared.tree.TypeExpr.TheOpen.{TypeExpr-F, TypedNames-F}
-use Rattle.ob_parse.specs.Phrase.{Phrase, ◌⨾◌, symbol_at, symbol, separated}
-use Rattle.ob_parse.specs.Name.{ident_list, qualident}
-use Rattle.ob_parse.specs.Expression as ex
-use Rattle.ob_parse.specs.Structure as p
-use Rattle.ob_parse.specs.Structure.{TypeLayer}
+use Rattle.ob_tree.specs.declared.tree.Qualident.{Qualident}
+use Rattle.ob_tree.specs.declared.tree.TypeExpr.{TypeExpr, out-TypeExpr, roll-TypeExpr, out-roll-TypeExpr, roll-out-TypeExpr}
+use Rattle.ob_tree.specs.declared.tree.TypedNames.{TypedNames, out-TypedNames, roll-TypedNames, out-roll-TypedNames, roll-out-TypedNames}
+use Rattle.ob_tree.specs.declared.tree.TypeExpr.TheOpen.{TypeExpr-F, TypedNames-F}
+use Rattle.ob_tree.specs.Phrase.{Phrase, ◌⨾◌, symbol_at, symbol, separated}
+use Rattle.ob_tree.specs.Name.{ident_list, qualident}
+use Rattle.ob_tree.specs.Expression as ex
+use Rattle.ob_tree.specs.Structure as p
+use Rattle.ob_tree.specs.Structure.{TypeLayer}
 use Rattle.ob_parse.specs.Reading as reading
 use Rattle.ob_parse.specs.Reading.{Reader, eat, at_ident}
 use Rattle.ob_parse.specs.StructureReading as r
 use Rattle.ob_parse.proofs.Exact.{Exact, Anything, IsAbsent, answer, Seq, Made, exact_seq, exact_as, exact_made, before_made, exact_refuse}
-use Rattle.ob_parse.proofs.OneToken.{exact_expect, exact_opens, Opens, Ends, ends_by, absent_start, made, Closes, closes_at, closes_by, closes_ends, absent_closing}
+use Rattle.ob_parse.proofs.OneToken.{exact_expect, exact_opens, Opens, Ends, ends_by, absent_start, Closes, closes_at, closes_by, closes_ends, absent_closing}
+use Rattle.ob_tree.proofs.Tokens.{made}
 use Rattle.ob_parse.proofs.Separated.{exact_separated}
 use Rattle.ob_parse.proofs.Optional.{closed_list, exact_closed}
 use Rattle.ob_parse.proofs.Expressions.{exact_exprs_in, pred_of, some_levels}

@@ -3,7 +3,7 @@ use Rattle.std.proofs.Common.{◌≡◌, ℕ, List, Option, Some, None, Ok, Err,
 use Rattle.ob_scan.specs.declared.token.Token.{Token}
 use Rattle.ob_scan.specs.TokensOf.{tokens_of}
 use Rattle.ob_scan.proofs.TokenReading.{tokens_of-sound, tokens_of-complete}
-use Rattle.ob_parse.specs.declared.tree.Cell.{Cell}
+use Rattle.ob_tree.specs.declared.tree.Cell.{Cell}
 use Rattle.ob_parse.specs.Grammar.{Derives}
 use Rattle.ob_parse.specs.Reading.{Outcome}
 use Rattle.ob_parse.specs.GrammarReading.{whole}

@@ -7,7 +7,7 @@ use Rattle.ob_base.specs.declared.fault.Refused.TheVariants as refused
 use Rattle.ob_scan.specs.declared.token.Token.{Token}
 use Rattle.ob_scan.specs.Exactly.{IsScanCode}
 use Rattle.ob_scan.specs.Tokens.{Tokens}
-use Rattle.ob_parse.specs.declared.tree.Cell.{Cell}
+use Rattle.ob_tree.specs.declared.tree.Cell.{Cell}
 use Rattle.ob_parse.specs.Grammar.{Derives}
 use Rattle.ob_parse.specs.Reading.{IsParseCode}
 

@@ -6,17 +6,17 @@ use Rattle.ob_scan.specs.declared.token.Kind.{Kind}
 use Rattle.ob_scan.specs.declared.token.Kind.TheVariants as kinds
 use Rattle.ob_scan.specs.declared.token.Symbol.TheVariants as s
 use Rattle.ob_scan.specs.declared.token.Token.{Token}
-use Rattle.ob_parse.specs.declared.tree.Qualident.{Qualident}
-use Rattle.ob_parse.specs.declared.tree.FormalType.{FormalType, roll-FormalType}
-use Rattle.ob_parse.specs.declared.tree.FormalType.TheOpen.{FormalType-F}
-use Rattle.ob_parse.specs.declared.tree.FormalSection.{FormalSection}
-use Rattle.ob_parse.specs.declared.tree.Formals.{Formals}
-use Rattle.ob_parse.specs.declared.tree.ConstDeclaration.{ConstDeclaration}
-use Rattle.ob_parse.specs.declared.tree.TypeDeclaration.{TypeDeclaration}
-use Rattle.ob_parse.specs.declared.tree.TypedNames.{TypedNames}
-use Rattle.ob_parse.specs.declared.tree.Declarations.{Declarations, roll-Declarations}
-use Rattle.ob_parse.specs.declared.tree.Procedure.{Procedure, roll-Procedure}
-use Rattle.ob_parse.specs.declared.tree.Returned.{Returned}
+use Rattle.ob_tree.specs.declared.tree.Qualident.{Qualident}
+use Rattle.ob_tree.specs.declared.tree.FormalType.{FormalType, roll-FormalType}
+use Rattle.ob_tree.specs.declared.tree.FormalType.TheOpen.{FormalType-F}
+use Rattle.ob_tree.specs.declared.tree.FormalSection.{FormalSection}
+use Rattle.ob_tree.specs.declared.tree.Formals.{Formals}
+use Rattle.ob_tree.specs.declared.tree.ConstDeclaration.{ConstDeclaration}
+use Rattle.ob_tree.specs.declared.tree.TypeDeclaration.{TypeDeclaration}
+use Rattle.ob_tree.specs.declared.tree.TypedNames.{TypedNames}
+use Rattle.ob_tree.specs.declared.tree.Declarations.{Declarations, roll-Declarations}
+use Rattle.ob_tree.specs.declared.tree.Procedure.{Procedure, roll-Procedure}
+use Rattle.ob_tree.specs.declared.tree.Returned.{Returned}
 use Rattle.ob_parse.specs.Reading.{Outcome, Reader, ◌>>=◌, ◌>>◌, pure, refuse, eat, expect, ident, opens, many, where_some, not_there, separated, optional, closed_by, if_ident}
 use Rattle.ob_parse.specs.NameReading.{ident_def, qualident}
 use Rattle.ob_parse.specs.ExpressionReading as expression

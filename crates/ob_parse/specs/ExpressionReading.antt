@@ -6,24 +6,24 @@ use Rattle.ob_scan.specs.declared.token.Kind.TheVariants as kinds
 use Rattle.ob_scan.specs.declared.token.Span.{Span}
 use Rattle.ob_scan.specs.declared.token.Symbol.TheVariants as s
 use Rattle.ob_scan.specs.declared.token.Token.{Token}
-use Rattle.ob_parse.specs.declared.tree.Sign.{Sign}
-use Rattle.ob_parse.specs.declared.tree.Sign.TheVariants as sign
-use Rattle.ob_parse.specs.declared.tree.Relation.{Relation}
-use Rattle.ob_parse.specs.declared.tree.Relation.TheVariants as relation
-use Rattle.ob_parse.specs.declared.tree.AddOperator.{AddOperator}
-use Rattle.ob_parse.specs.declared.tree.AddOperator.TheVariants as add
-use Rattle.ob_parse.specs.declared.tree.MulOperator.{MulOperator}
-use Rattle.ob_parse.specs.declared.tree.MulOperator.TheVariants as mul
-use Rattle.ob_parse.specs.declared.tree.Expr.{Expr, roll-Expr}
-use Rattle.ob_parse.specs.declared.tree.Related.{Related, roll-Related}
-use Rattle.ob_parse.specs.declared.tree.Simple.{Simple, roll-Simple}
-use Rattle.ob_parse.specs.declared.tree.AddedTerm.{AddedTerm, roll-AddedTerm}
-use Rattle.ob_parse.specs.declared.tree.Term.{Term, roll-Term}
-use Rattle.ob_parse.specs.declared.tree.NextFactor.{NextFactor, roll-NextFactor}
-use Rattle.ob_parse.specs.declared.tree.Factor.{Factor, roll-Factor}
-use Rattle.ob_parse.specs.declared.tree.Designator.{Designator, roll-Designator}
-use Rattle.ob_parse.specs.declared.tree.Selector.{Selector, roll-Selector}
-use Rattle.ob_parse.specs.declared.tree.Factor.TheOpen.{Factor-F, Selector-F}
+use Rattle.ob_tree.specs.declared.tree.Sign.{Sign}
+use Rattle.ob_tree.specs.declared.tree.Sign.TheVariants as sign
+use Rattle.ob_tree.specs.declared.tree.Relation.{Relation}
+use Rattle.ob_tree.specs.declared.tree.Relation.TheVariants as relation
+use Rattle.ob_tree.specs.declared.tree.AddOperator.{AddOperator}
+use Rattle.ob_tree.specs.declared.tree.AddOperator.TheVariants as add
+use Rattle.ob_tree.specs.declared.tree.MulOperator.{MulOperator}
+use Rattle.ob_tree.specs.declared.tree.MulOperator.TheVariants as mul
+use Rattle.ob_tree.specs.declared.tree.Expr.{Expr, roll-Expr}
+use Rattle.ob_tree.specs.declared.tree.Related.{Related, roll-Related}
+use Rattle.ob_tree.specs.declared.tree.Simple.{Simple, roll-Simple}
+use Rattle.ob_tree.specs.declared.tree.AddedTerm.{AddedTerm, roll-AddedTerm}
+use Rattle.ob_tree.specs.declared.tree.Term.{Term, roll-Term}
+use Rattle.ob_tree.specs.declared.tree.NextFactor.{NextFactor, roll-NextFactor}
+use Rattle.ob_tree.specs.declared.tree.Factor.{Factor, roll-Factor}
+use Rattle.ob_tree.specs.declared.tree.Designator.{Designator, roll-Designator}
+use Rattle.ob_tree.specs.declared.tree.Selector.{Selector, roll-Selector}
+use Rattle.ob_tree.specs.declared.tree.Factor.TheOpen.{Factor-F, Selector-F}
 use Rattle.ob_parse.specs.Reading.{Reader, ◌>>=◌, ◌>>◌, pure, refuse, eat, expect, ident, operator, opens, many, where_some, not_there}
 
 abbrev pub sign_of : Kind → Option Sign

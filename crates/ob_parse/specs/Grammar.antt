@@ -7,14 +7,14 @@ use Rattle.ob_base.specs.declared.fault.Refused.TheVariants as refused
 use Rattle.ob_scan.specs.declared.token.Span.{Span}
 use Rattle.ob_scan.specs.declared.token.Symbol.TheVariants as s
 use Rattle.ob_scan.specs.declared.token.Token.{Token}
-use Rattle.ob_parse.specs.declared.tree.Import.{Import}
-use Rattle.ob_parse.specs.declared.tree.Module.{Module}
-use Rattle.ob_parse.specs.declared.tree.Command.{Command}
-use Rattle.ob_parse.specs.declared.tree.Cell.{Cell}
-use Rattle.ob_parse.specs.declared.tree.Cell.TheVariants as cells
-use Rattle.ob_parse.specs.Phrase.{Phrase, ◌⨾◌, symbol_at, symbol, ident, each, maybe, separated, optional}
-use Rattle.ob_parse.specs.Statement.{statements}
-use Rattle.ob_parse.specs.Declaration.{declarations, name_again}
+use Rattle.ob_tree.specs.declared.tree.Import.{Import}
+use Rattle.ob_tree.specs.declared.tree.Module.{Module}
+use Rattle.ob_tree.specs.declared.tree.Command.{Command}
+use Rattle.ob_tree.specs.declared.tree.Cell.{Cell}
+use Rattle.ob_tree.specs.declared.tree.Cell.TheVariants as cells
+use Rattle.ob_tree.specs.Phrase.{Phrase, ◌⨾◌, symbol_at, symbol, ident, each, maybe, separated, optional}
+use Rattle.ob_tree.specs.Statement.{statements}
+use Rattle.ob_tree.specs.Declaration.{declarations, name_again}
 use Rattle.ob_parse.specs.Reading.{IsParseCode}
 
 -- how many constructs nest

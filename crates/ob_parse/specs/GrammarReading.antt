@@ -5,12 +5,12 @@ use Rattle.ob_scan.specs.declared.token.Kind.{Kind}
 use Rattle.ob_scan.specs.declared.token.Kind.TheVariants as kinds
 use Rattle.ob_scan.specs.declared.token.Symbol.TheVariants as s
 use Rattle.ob_scan.specs.declared.token.Token.{Token}
-use Rattle.ob_parse.specs.declared.tree.Ident.{Ident}
-use Rattle.ob_parse.specs.declared.tree.Import.{Import}
-use Rattle.ob_parse.specs.declared.tree.Module.{Module}
-use Rattle.ob_parse.specs.declared.tree.Command.{Command}
-use Rattle.ob_parse.specs.declared.tree.Cell.{Cell}
-use Rattle.ob_parse.specs.declared.tree.Cell.TheVariants as cells
+use Rattle.ob_tree.specs.declared.tree.Ident.{Ident}
+use Rattle.ob_tree.specs.declared.tree.Import.{Import}
+use Rattle.ob_tree.specs.declared.tree.Module.{Module}
+use Rattle.ob_tree.specs.declared.tree.Command.{Command}
+use Rattle.ob_tree.specs.declared.tree.Cell.{Cell}
+use Rattle.ob_tree.specs.declared.tree.Cell.TheVariants as cells
 use Rattle.ob_parse.specs.Reading.{Reader, ◌>>=◌, ◌>>◌, pure, eat, expect, ident, many, where_some, not_there, separated, optional, if_ident}
 use Rattle.ob_parse.specs.StatementReading.{statements}
 use Rattle.ob_parse.specs.DeclarationReading.{declarations, name_again}

@@ -1,9 +1,3 @@
-pub mod Phrase
-pub mod Name
-pub mod Expression
-pub mod Statement
-pub mod Structure
-pub mod Declaration
 pub mod Grammar
 pub mod Reading
 pub mod NameReading
@@ -14,4 +8,3 @@ pub mod DeclarationReading
 pub mod GrammarReading
 pub mod CellText
 pub mod TreeOf
-pub mod FirstToken

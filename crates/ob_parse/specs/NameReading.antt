@@ -6,12 +6,12 @@ use Rattle.ob_scan.specs.declared.token.Kind.TheVariants as kinds
 use Rattle.ob_scan.specs.declared.token.Span.{Span}
 use Rattle.ob_scan.specs.declared.token.Symbol.TheVariants as s
 use Rattle.ob_scan.specs.declared.token.Token.{Token}
-use Rattle.ob_parse.specs.declared.tree.Ident.{Ident}
-use Rattle.ob_parse.specs.declared.tree.IdentDef.{IdentDef}
-use Rattle.ob_parse.specs.declared.tree.Qualident.{Qualident}
-use Rattle.ob_parse.specs.declared.tree.Label.{Label}
-use Rattle.ob_parse.specs.declared.tree.Label.TheVariants as labels
-use Rattle.ob_parse.specs.declared.tree.LabelRange.{LabelRange}
+use Rattle.ob_tree.specs.declared.tree.Ident.{Ident}
+use Rattle.ob_tree.specs.declared.tree.IdentDef.{IdentDef}
+use Rattle.ob_tree.specs.declared.tree.Qualident.{Qualident}
+use Rattle.ob_tree.specs.declared.tree.Label.{Label}
+use Rattle.ob_tree.specs.declared.tree.Label.TheVariants as labels
+use Rattle.ob_tree.specs.declared.tree.LabelRange.{LabelRange}
 use Rattle.ob_parse.specs.Reading.{Reader, and_then, ◌>>=◌, pure, refuse, eat, ident, where_some}
 
 unfoldable pub ident_def : Reader IdentDef

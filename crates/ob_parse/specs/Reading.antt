@@ -10,7 +10,7 @@ use Rattle.ob_scan.specs.declared.token.Span.{Span}
 use Rattle.ob_scan.specs.declared.token.Symbol.{Symbol}
 use Rattle.ob_scan.specs.declared.token.Token.{Token}
 use Rattle.ob_scan.specs.Symbols.{same_symbol}
-use Rattle.ob_parse.specs.declared.tree.Ident.{Ident}
+use Rattle.ob_tree.specs.declared.tree.Ident.{Ident}
 
 abbrev pub Outcome : Type 0 → Type 0
 Outcome A = Result (A × List Token) Code

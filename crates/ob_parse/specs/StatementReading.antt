@@ -7,13 +7,13 @@ use Rattle.ob_scan.specs.declared.token.Kind.TheVariants as kinds
 use Rattle.ob_scan.specs.declared.token.Symbol.{Symbol}
 use Rattle.ob_scan.specs.declared.token.Symbol.TheVariants as s
 use Rattle.ob_scan.specs.declared.token.Token.{Token}
-use Rattle.ob_parse.specs.declared.tree.Expr.{Expr}
-use Rattle.ob_parse.specs.declared.tree.Designator.{Designator}
-use Rattle.ob_parse.specs.declared.tree.Statement.{Statement, roll-Statement}
-use Rattle.ob_parse.specs.declared.tree.Branch.{Branch, roll-Branch}
-use Rattle.ob_parse.specs.declared.tree.Case.{Case, roll-Case}
-use Rattle.ob_parse.specs.declared.tree.ForHead.{ForHead}
-use Rattle.ob_parse.specs.declared.tree.Statement.TheOpen.{Statement-F}
+use Rattle.ob_tree.specs.declared.tree.Expr.{Expr}
+use Rattle.ob_tree.specs.declared.tree.Designator.{Designator}
+use Rattle.ob_tree.specs.declared.tree.Statement.{Statement, roll-Statement}
+use Rattle.ob_tree.specs.declared.tree.Branch.{Branch, roll-Branch}
+use Rattle.ob_tree.specs.declared.tree.Case.{Case, roll-Case}
+use Rattle.ob_tree.specs.declared.tree.ForHead.{ForHead}
+use Rattle.ob_tree.specs.declared.tree.Statement.TheOpen.{Statement-F}
 use Rattle.ob_parse.specs.Reading.{Reader, ◌>>=◌, ◌>>◌, pure, refuse, eat, expect, ident, many, where_some, not_there, separated, optional}
 use Rattle.ob_parse.specs.NameReading.{label_range}
 use Rattle.ob_parse.specs.ExpressionReading as expression

@@ -6,9 +6,9 @@ use Rattle.ob_scan.specs.declared.token.Kind.TheVariants as kinds
 use Rattle.ob_scan.specs.declared.token.Span.{Span}
 use Rattle.ob_scan.specs.declared.token.Symbol.TheVariants as s
 use Rattle.ob_scan.specs.declared.token.Token.{Token}
-use Rattle.ob_parse.specs.declared.tree.TypeExpr.{TypeExpr, roll-TypeExpr}
-use Rattle.ob_parse.specs.declared.tree.TypedNames.{TypedNames, roll-TypedNames}
-use Rattle.ob_parse.specs.declared.tree.TypeExpr.TheOpen.{TypeExpr-F}
+use Rattle.ob_tree.specs.declared.tree.TypeExpr.{TypeExpr, roll-TypeExpr}
+use Rattle.ob_tree.specs.declared.tree.TypedNames.{TypedNames, roll-TypedNames}
+use Rattle.ob_tree.specs.declared.tree.TypeExpr.TheOpen.{TypeExpr-F}
 use Rattle.ob_parse.specs.Reading.{Reader, ◌>>=◌, ◌>>◌, pure, refuse, expect, opens, separated, closed_by}
 use Rattle.ob_parse.specs.NameReading.{ident_def, qualident}
 use Rattle.ob_parse.specs.ExpressionReading as expression

@@ -6,9 +6,9 @@ ghost use Rattle.ob_parse.specs.Grammar.{Derives, AnswersTree, FaultsOnly};
 ghost use Rattle.ob_parse.specs.Reading.{Reads, many, if_ident};
 
 use crate::parser::Parser;
-use crate::tree::{Cell, Command};
 use ob_base::{Code, Items, Refused};
 use ob_scan::{Kind, Span, Symbol, Token};
+use ob_tree::tree::{Cell, Command};
 use std::alloc::Global;
 
 impl Parser<'_> {

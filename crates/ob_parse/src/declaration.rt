@@ -6,9 +6,9 @@ ghost use Rattle.ob_parse.specs.DeclarationReading as spec;
 ghost use Rattle.ob_parse.specs.Reading.{Reads, many, optional, if_ident};
 
 use crate::parser::Parser;
-use crate::tree::{ConstDeclaration, Returned, TypeDeclaration, TypedNames};
 use ob_base::{Items, Refused};
 use ob_scan::Symbol;
+use ob_tree::tree::{ConstDeclaration, Returned, TypeDeclaration, TypedNames};
 
 impl Parser<'_> {
     /// The constants, if CONST comes next.

@@ -6,11 +6,11 @@ ghost use Rattle.ob_parse.specs.ExpressionReading.{inner, inner_factor};
 ghost use Rattle.ob_parse.specs.Reading.{Reads, many};
 
 use crate::parser::Parser;
-use crate::tree::{
-    AddedTerm, Designator, Expr, Factor, NextFactor, Related, Selector, Simple, Term,
-};
 use ob_base::{Boxed, Code, Items, Refused};
 use ob_scan::{Kind, Span, Symbol, Token};
+use ob_tree::tree::{
+    AddedTerm, Designator, Expr, Factor, NextFactor, Related, Selector, Simple, Term,
+};
 
 impl Parser<'_> {
     /// An expression in which `levels` more constructs may nest.

@@ -6,9 +6,9 @@ ghost use Rattle.ob_parse.specs.DeclarationReading as spec;
 ghost use Rattle.ob_parse.specs.Reading.{Reads, separated, next_item, closed_by};
 
 use crate::parser::Parser;
-use crate::tree::{FormalSection, FormalType, Formals, Qualident};
 use ob_base::{Boxed, Items, Refused};
 use ob_scan::Symbol;
+use ob_tree::tree::{FormalSection, FormalType, Formals, Qualident};
 
 impl Parser<'_> {
     /// The type of a formal parameter, in which `levels` more constructs may nest.

@@ -2,7 +2,7 @@
 
 ghost use Rattle.std.specs.Prelude.{◌≡◌, ◌↔◌, ℕ, List, Some};
 ghost use Rattle.ob_scan.specs.declared.token.Token.{Token};
-ghost use Rattle.ob_parse.specs.declared.tree.Cell.{Cell};
+ghost use Rattle.ob_tree.specs.declared.tree.Cell.{Cell};
 ghost use Rattle.ob_parse.specs.Grammar.{Derives};
 ghost use Rattle.ob_parse.specs.CellText.{IsCellOf};
 ghost use Rattle.ob_parse.specs.TreeOf.{tree_of, cell_of};

@@ -6,9 +6,9 @@ ghost use Rattle.ob_parse.specs.GrammarReading as spec;
 ghost use Rattle.ob_parse.specs.Reading.{Reads, separated, next_item, optional};
 
 use crate::parser::Parser;
-use crate::tree::{Ident, Import, Module};
 use ob_base::{Items, Refused};
 use ob_scan::Symbol;
+use ob_tree::tree::{Ident, Import, Module};
 
 /// How many constructs nest.
 const MAX_NESTING: u32 = 200;

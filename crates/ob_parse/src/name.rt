@@ -7,9 +7,9 @@ ghost use Rattle.ob_parse.specs.Reading as reading;
 ghost use Rattle.ob_parse.specs.Reading.{Reads, separated, next_item};
 
 use crate::parser::Parser;
-use crate::tree::{Ident, IdentDef, Label, LabelRange, Qualident};
 use ob_base::{Code, Items, Refused};
 use ob_scan::{Kind, Symbol, Token};
+use ob_tree::tree::{Ident, IdentDef, Label, LabelRange, Qualident};
 
 impl Parser<'_> {
     /// A name that is declared, with or without an export mark.

@@ -4,9 +4,9 @@ ghost use Rattle.std.specs.Prelude.{◌≡◌, ◌≢◌, ℕ, suc, ◌≤◌, �
 ghost use Rattle.ob_parse.specs.Reading as reading;
 ghost use Rattle.ob_parse.specs.Reading.{Reads, IsFault};
 
-use crate::tree::Ident;
 use ob_base::{Code, Fault, Refused};
 use ob_scan::{Kind, Span, Symbol, Token, same_symbol};
+use ob_tree::tree::Ident;
 use std::alloc::Global;
 
 /// The tokens that are left.

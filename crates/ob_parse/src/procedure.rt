@@ -8,9 +8,9 @@ ghost use Rattle.ob_parse.specs.StatementReading.{statements};
 ghost use Rattle.ob_parse.specs.Reading.{Reads, many, optional};
 
 use crate::parser::Parser;
-use crate::tree::{Declarations, Ident, Procedure, Statement};
 use ob_base::{Boxed, Code, Items, Refused};
 use ob_scan::{Kind, Span, Symbol, Token};
+use ob_tree::tree::{Declarations, Ident, Procedure, Statement};
 
 impl Parser<'_> {
     /// The name that stands behind END.

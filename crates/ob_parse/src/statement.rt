@@ -6,9 +6,9 @@ ghost use Rattle.ob_parse.specs.StatementReading as spec;
 ghost use Rattle.ob_parse.specs.Reading.{Reads, many, next_item, optional, separated};
 
 use crate::parser::Parser;
-use crate::tree::{Branch, Case, Expr, ForHead, Statement};
 use ob_base::{Boxed, Items, Refused};
 use ob_scan::{Kind, Span, Symbol, Token};
+use ob_tree::tree::{Branch, Case, Expr, ForHead, Statement};
 
 impl Parser<'_> {
     /// A sequence of statements, which opens among `levels` more constructs by the word or sign at `span`.

@@ -7,9 +7,9 @@ ghost use Rattle.ob_parse.specs.StructureReading.{inner};
 ghost use Rattle.ob_parse.specs.Reading.{Reads, separated, next_item, closed_by};
 
 use crate::parser::Parser;
-use crate::tree::{TypeExpr, TypedNames};
 use ob_base::{Boxed, Code, Items, Refused};
 use ob_scan::{Kind, Span, Symbol, Token};
+use ob_tree::tree::{TypeExpr, TypedNames};
 
 impl Parser<'_> {
     /// A type in which `levels` more constructs may nest.

@@ -5,9 +5,9 @@ ghost use Rattle.ob_parse.specs.Grammar.{AnswersTree};
 ghost use Rattle.ob_parse.specs.CellText.{IsCellOf, FaultsBreak, SameCode};
 
 use crate::cell::parse;
-use crate::tree::Cell;
 use ob_base::{Fault, Refused};
 use ob_scan::scan;
+use ob_tree::tree::Cell;
 use std::alloc::Global;
 
 /// A refusal at the end of the text is placed just behind the last character.

@@ -41,7 +41,7 @@ pub levels_record : (r : RecordType) → levels (Record r) ≡ levels_in (out-Re
 unfolding out-RecordType denote.Hole.Carrier.out
 levels_record (RecordType' name k fields) = ap (λ n. n + 1) (row_levels _ fields ∙ ap levels_in (sym (items_shown-the_row-Field-1 k fields)))
 
-pub cells_open : (e : ObType) → cells (Open e) ≡ 0
+pub cells_open : (e : ObType) → cells (Open e) ≡ cells e
 unfolding Rattle.ob_types.specs.declared.structure.ObType.TheBlock.hidden-the_row-ObType-0 denote.Hole.Carrier.hidden
 cells_open e = refl
 

@@ -1,4 +1,5 @@
--- Types whose arrays have elements, so that each value of them takes cells.
+-- Types whose arrays have elements, so that each value of them takes cells; and exported variables of so few cells that each of
+-- them can be named.
 use Rattle.std.specs.Prelude.{◌<◌, List, [], ◌∷◌}
 use Rattle.ob_types.specs.declared.exports.Exported.{Exported}
 use Rattle.ob_types.specs.declared.exports.Object.{Object}
@@ -8,6 +9,7 @@ use Rattle.ob_types.specs.declared.structure.ObType.{ObType, end_of-ObType, more
 use Rattle.ob_types.specs.declared.structure.ObType.TheBlock.{Row_of-Field, end_of-Field, more_of-Field}
 use Rattle.ob_types.specs.declared.structure.ObType.TheVariants.{Basic as OfBasic, Array', Open', Record}
 use Rattle.ob_types.specs.declared.structure.RecordType.{RecordType'}
+use Rattle.ob_types.specs.Types.{cells}
 
 abbrev mutual
   pub IsSolid : ObType → Type 0
@@ -25,11 +27,11 @@ abbrev pub FieldsSolid : List Field → Type 0
 FieldsSolid [] = Unit {0}
 FieldsSolid (f ∷ fs) = IsSolid f.of × FieldsSolid fs
 
--- the types of what a module exports
+-- what a module exports: a variable has fewer than 2^31 cells
 abbrev pub ObjectSolid : Object → Type 0
 ObjectSolid (object.Constant c) = Unit {0}
 ObjectSolid (object.TypeName t) = IsSolid t
-ObjectSolid (object.Variable t) = IsSolid t
+ObjectSolid (object.Variable t) = IsSolid t × (cells t < 2147483648)
 ObjectSolid (object.Procedure s) = Unit {0}
 
 abbrev pub ExportsSolid : List Exported → Type 0

@@ -14,12 +14,13 @@ use Rattle.ob_types.specs.declared.structure.RecordType.{RecordType'}
 
 -- ---- cells and levels
 
--- the cells of a value. A record has one at least. An open array has none of its own: it is a variable of the caller
+-- the cells of a value. A record has one at least. An open array is a variable of the caller, of any length: one element stands
+-- for it
 abbrev mutual
   pub cells : ObType → ℕ
   cells (OfBasic b) = 1
   cells (Array' n p (more_of-ObType element end_of-ObType)) = n * cells element
-  cells (Open' p (more_of-ObType element end_of-ObType)) = 0
+  cells (Open' p (more_of-ObType element end_of-ObType)) = cells element
   cells (Record (RecordType' name k fields)) = max 1 (cells_of fields)
 
   pub cells_of : {k : _} → Row_of-Field k → ℕ

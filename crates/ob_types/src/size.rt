@@ -11,7 +11,8 @@ pub const MAX_CELLS: u32 = 65_536;
 /// The most words ARRAY and RECORD that may stand in one another, where a type is written out.
 pub const MAX_LEVELS: u32 = 200;
 
-/// How many cells a value of the type takes: `u32::MAX` stands for that many or more. An open array has none of its own (0).
+/// How many cells a value of the type takes: `u32::MAX` stands for that many or more. An open array counts as one
+/// element.
 #[cycle(size)]
 #[tactic(auto, using(crate::proofs::Equations::cells_array, crate::proofs::Equations::cells_record))]
 pub fn zero_size(of: &ObType) -> u32
@@ -20,7 +21,7 @@ pub fn zero_size(of: &ObType) -> u32
     match of {
         ObType::Basic(_) => 1,
         ObType::Array(length, element) => length.saturating_mul(zero_size(element.get())),
-        ObType::Open(_) => 0,
+        ObType::Open(element) => zero_size(element.get()),
         ObType::Record(record) => fields_size(record.fields.as_slice()).max(1),
     }
 }

@@ -33,13 +33,14 @@ use Rattle.ob_gen.specs.Code.{line, extent_at, parameter_row, own_row, named_bef
 use Rattle.ob_gen.specs.Correct.{IsCodeOfProgram}
 use Rattle.ob_code.proofs.machine.Runs.{stays, steps_on, performs}
 use Rattle.ob_gen.proofs.machine.Reaches.{HasAt, has_front, has_back, has_all, Running, conf, here, lines_in, Good, Reaches, AnyNumber, AnyDone, SoMany, follows, binds, ties, moved, BeginsWith, Same, Longer}
-use Rattle.ob_gen.proofs.machine.Store.{Inside, IsRow, length-image, count-shape, size-shape, shape-append, shape_at, size-append, image-append, row-append, row-shape, append-assoc, count-append, item-next, before-next, get-front, leads-front, offset-front, grows, shrinks, shrinks-shape, before-within}
+use Rattle.ob_gen.proofs.machine.Store.{Inside, IsRow, length-image, count-shape, size-shape, shape-append, shape_at, size-append, image-append, row-append, row-shape, append-assoc, count-append, item-next, before-next, get-front, leads-front, offset-front, grows, shrinks, shrinks-shape}
 use Rattle.ob_gen.proofs.machine.Zeros.{shape-zeros, image-zeros}
 use Rattle.ob_gen.proofs.machine.Places.{rooted, IsObject, PlaceFits, VariableFits, FrameFits}
 use Rattle.ob_gen.proofs.machine.Passing.{PassedFit, names_passed, pile, results, CallsRun}
 use Rattle.ob_gen.proofs.machine.Expressions.{expr_runs}
 use Rattle.ob_gen.proofs.machine.Actions.{variables_hold, action_runs}
 use Rattle.ob_gen.proofs.machine.Statements.{list_runs}
+use Rattle.ob_gen.proofs.machine.Few.{own_few}
 use Rattle.ob_gen.proofs.machine.Frames.{held_own, own_of, names_own, passed_row, passed_names, passed_all, passed_size, variable_at, StoreFits, get_left, get_right}
 use Rattle.ob_gen.proofs.machine.Linked.{CodeAt, callee_at, names_at, frame_fits}
 
@@ -73,12 +74,6 @@ room_left : (more depth : ℕ) → suc more + depth ≡ max_depth → nat_lt dep
 room_left more depth e = grind (arith, nat_tests)
 
 -- ---- what a call finds
-
-parameters_low : (ps : List Parameter) → size (parameter_row ps) ≤ length ps
-parameters_low [] = omega arith
-parameters_low (parameter.Value ∷ ps) = let e = parameters_low ps in omega (arith, e)
-parameters_low (parameter.Place t ∷ ps) = let e = parameters_low ps in omega (arith, e)
-parameters_low (parameter.Open t ∷ ps) = let e = parameters_low ps in omega (arith, e)
 
 parameters-row : (ps : List Parameter) → IsRow (parameter_row ps)
 parameters-row [] = tt
@@ -167,14 +162,11 @@ module _ (program : Program) (code : Code) (faces : ℕ → List Face) (runs : �
         let ext = extent_at (own_row names') x in
         let name = rooted code r' (root.OfCall ext) in
         let v = variable_at s' (count w.store) x (length (image w.store)) own held.0 ext name there_frame at_frame before_frame held.2 refl refl in
-        let within = before-within (own_row names') x in
-        let limit = c.fits.2 in
-        let some = parameters_low c.tree.parameters in
         subst (VariableFits code r' s' names' scope' (variable.OfProcedure x)) (sym held.1)
         (record {
           place = Part (Part Whole (count w.store)) x;
           stands = λ v q. refl;
-          root = record { found = λ pc stack pending w. refl; low = omega (arith, within, limit, some, size_own) };
+          root = record { found = λ pc stack pending w. refl; low = own_few c.tree.parameters c.tree.variables x c.fits.2 };
           fits = v.0;
           at = v.1;
         })

@@ -12,18 +12,17 @@ use Rattle.ob_mean.specs.declared.module.TypedModule.{TypedModule}
 use Rattle.ob_mean.specs.declared.module.Loaded.{Loaded}
 use Rattle.ob_mean.specs.declared.face.Face.{Face}
 use Rattle.ob_mean.specs.declared.face.Heading.{Heading}
-use Rattle.ob_mean.specs.Values.{Whole, Part, Value, size, before}
+use Rattle.ob_mean.specs.Values.{Whole, Part, Value, before}
 use Rattle.ob_mean.specs.Shapes.{zeros, opening_row}
 use Rattle.ob_mean.specs.Expressions.{Scope}
 use Rattle.ob_mean.specs.Programs.{Program, opening_store, imports_in, imports_of, procedure_in, exported_in, home_of, procedure_of, scope_at}
-use Rattle.ob_mean.specs.WellFormed.{Object, Of, Names, face_object, shape_object, variable_object, own_object, named_object, own_heading, face_heading, heading_of, called, names_in, names_of, ProcedureFits, ProceduresFit, FacesFit, AreHeadings, IsFaceOf, Shows, AllShow, cell_limit}
+use Rattle.ob_mean.specs.WellFormed.{Object, Of, Names, face_object, shape_object, variable_object, own_object, named_object, own_heading, face_heading, heading_of, called, names_in, names_of, ProcedureFits, ProceduresFit, AreHeadings, IsFaceOf, Shows, AllShow}
 use Rattle.ob_code.specs.declared.instr.Procedure.{Procedure}
-use Rattle.ob_code.specs.declared.instr.Extent.{Extent}
 use Rattle.ob_code.specs.Machine.{Code, imports_in as code_imports_in, import_number, cells_in, procedure_in as code_procedure_in, exported_number, target_of, number_of, part_of}
 use Rattle.ob_gen.specs.Code.{extent_at, face_row}
 use Rattle.ob_gen.specs.Correct.{IsCodeOf, AreCompiled, AllRun, IsCodeOfProgram}
 use Rattle.ob_gen.proofs.machine.Reaches.{Running}
-use Rattle.ob_gen.proofs.machine.Store.{before-within}
+use Rattle.ob_gen.proofs.machine.Few.{variables_few, faces_few}
 use Rattle.ob_gen.proofs.machine.Zeros.{declared_row}
 use Rattle.ob_gen.proofs.machine.Places.{VariableFits, FrameFits, some_same}
 use Rattle.ob_gen.proofs.machine.Frames.{HeldAt, held_module, held_import, variable_at, StoreFits, module_at}
@@ -56,11 +55,6 @@ face_found (Some face) x h e = (face, refl, e)
 face_holds : (o : Option Face) (x : ℕ) (b : Object) → face_object o x ≡ Some b → (face : Face) × (o ≡ Some face) × (shape_object (slice_get face.variables x) ≡ Some b)
 face_holds None x b e = absurd (let n : None ≡ Some b = e in cc)
 face_holds (Some face) x b e = (face, refl, e)
-
-faces_low : (fs : List Face) (i : ℕ) (face : Face) → FacesFit fs → slice_get fs i ≡ Some face → size (zeros face.variables) < cell_limit
-faces_low [] i face h e = absurd (let n : None ≡ Some face = e in cc)
-faces_low (f ∷ fs) zero face h e = subst (λ (y : Face). size (zeros y.variables) < cell_limit) (some_same f face e) h.0
-faces_low (f ∷ fs) (suc i) face h e = faces_low fs i face h.1 e
 
 pub compiled_at : (faces : List Face) (m : TypedModule) (fs : List TypedProcedure) (gs : List Procedure) (p : ℕ) (f : TypedProcedure) → AreCompiled faces m fs gs → slice_get fs p ≡ Some f → (g : Procedure) × (slice_get gs p ≡ Some g) × IsCodeOf (names_of faces m f) f.body f.result g
 compiled_at faces m [] gs p f h e = absurd (let n : None ≡ Some f = e in cc)
@@ -194,7 +188,7 @@ module _ (program : Program) (code : Code) (faces : ℕ → List Face) (runs : �
       record {
         place = Part (Part Whole r.home) x;
         stands = λ w q. refl;
-        root = record { found = λ pc stack pending w. refl; low = let a = before-within (opening_row vs) x in let b = may.linked.formed.cells in omega (arith, a, b) };
+        root = record { found = λ pc stack pending w. refl; low = variables_few vs x may.linked.formed.variables };
         fits = v.0;
         at = v.1;
       }
@@ -212,12 +206,11 @@ module _ (program : Program) (code : Code) (faces : ℕ → List Face) (runs : �
       let name = part_of (cells_in (slice_get code (import_number code r.home i))) e' in
       let base = before (opening_store program) there in
       let cells : cells_in (slice_get code (import_number code r.home i)) ≡ base = ap (λ n. cells_in (slice_get code n)) (import_same r.home i ok) ∙ cells_same there shows.1 in
-      let low = faces_low (faces r.home) i face may.linked.formed.known has_face in
       let v = variable_at s there x base (declared_row vs) t e' name at_s.there at_s.is at_s.at (subst (HeldAt (declared_row vs) x t) (sym same_e) held) (ap (λ n. n + e'.from) cells) refl in
       record {
         place = Part (Part Whole there) x;
         stands = λ w q. ap (λ l. Part (Part Whole (slice_index l i)) x) (imports_same r.home ok);
-        root = record { found = λ pc stack pending w. refl; low = let a = before-within (zeros face.variables) x in let b = ap (λ (z : Extent). z.cells) same_e in omega (arith, a, b, low) };
+        root = record { found = λ pc stack pending w. refl; low = faces_few (faces r.home) i x may.linked.formed.known };
         fits = v.0;
         at = v.1;
       }

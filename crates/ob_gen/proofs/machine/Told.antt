@@ -38,7 +38,7 @@ use Rattle.ob_mean.specs.declared.statement.TypedStatement.TheBlock.{Row_of-Bran
 use Rattle.ob_mean.specs.declared.statement.TypedStatement.TheVariants.{Simple, If', Case', While', Repeat', For'}
 use Rattle.ob_mean.specs.Values.{Value, append, count, size, item, before, row}
 use Rattle.ob_mean.specs.Shapes.{zero_of, zeros, opening_row}
-use Rattle.ob_mean.specs.WellFormed.{face_object, own_object, Object, Of, OpenOf, Names, is_there, object_of, variable_object, elements_in, called, named_object, cell_limit, IsBasic, IsText, ExprFits, ExprsFit, OperationsFit, IndexesFit, IsPassed, RowPassed, ListPassed, IsRead, InputFits, OutputFits, ActionFits, HeadFits, StatFits, StatsFit, BranchesFit, ArmsFit, ListFits, ResultFits, FacesFit, names_in, names_of, ProceduresFit, IsWellFormed}
+use Rattle.ob_mean.specs.WellFormed.{face_object, own_object, Object, Of, OpenOf, Names, is_there, object_of, variable_object, elements_in, called, named_object, IsBasic, IsText, ExprFits, ExprsFit, OperationsFit, IndexesFit, IsPassed, RowPassed, ListPassed, IsRead, InputFits, OutputFits, ActionFits, HeadFits, StatFits, StatsFit, BranchesFit, ArmsFit, ListFits, ResultFits, ShapesFit, VariablesFit, FacesFit, names_in, names_of, ProceduresFit, IsWellFormed}
 use Rattle.ob_code.specs.declared.kinds.Kind.{Kind}
 use Rattle.ob_code.specs.declared.kinds.Kind.TheVariants.{Number, UpTo, Inside, Absent}
 use Rattle.ob_code.specs.declared.kinds.Known.{Known}
@@ -58,12 +58,13 @@ use Rattle.ob_code.specs.declared.instr.CodeModule.{CodeModule}
 use Rattle.ob_code.specs.Valid.{entry_of}
 use Rattle.ob_code.specs.Kinds.{Kinds, NameKinds, Rows, Covers, LieAmong, LieInElement, LieInName, Lie, IsLong, ArrayLies, TextLies, TargetLies, LengthIs, IsFew as FewCells, ArePassed, literal, low, inside, moved, element, operands_of, names_of as passed_names, entry_results, results_kinds, nothing, Arrives, known_at, Keeps, HasKinds, IsMeasured}
 use Rattle.ob_gen.specs.Code.{line, extent_at, parameter_row, own_row, face_row, root_of, root_in, zero_in, zero_element, cells_of, length_in, length_of, span_of, element_cells, and_code, or_code, value_one, name_one, row_values, row_names, list_values, list_names, read_code, expr_code, offset_code, operations_code, every_code, either_code, argument_code, arguments_code, passed_code, target_of, input_code, output_code, assign_code, action_code, Guarded, loop_code, for_relation, for_guard, for_step, for_code, stat_code, stats_code, branches, arms_code, list_code, result_code, procedure_code, named_before, name_number}
-use Rattle.ob_gen.specs.Correct.{named_count, name_kind, name_kinds, parameter_count, IsCodeOf, AreCompiled}
+use Rattle.ob_gen.specs.Correct.{named_count, name_kind, name_kinds, IsCodeOf, AreCompiled}
 use Rattle.ob_gen.specs.Generated.{valued_count, heading_entry, IsGenerated}
-use Rattle.ob_gen.proofs.machine.Store.{size-append, before-within, count-row, size-row}
+use Rattle.ob_gen.proofs.machine.Store.{before-within, count-row, size-row}
 use Rattle.ob_gen.proofs.machine.Places.{some_same, not_open, closed_module, closed_shape, closed_face, closed_own, shape_some, elements_some, field_some, field_is}
+use Rattle.ob_gen.proofs.machine.Few.{variables_few, own_few, faces_few}
 use Rattle.ob_gen.proofs.machine.Frames.{HeldAt, held_module, held_zeros}
-use Rattle.ob_gen.proofs.machine.Fitting.{row_counts, list_counts, valued, parameters_row, parameters_size, face_there, IsNamed, callee_entry, room_at, IsRoomy, named_in, generated_valid}
+use Rattle.ob_gen.proofs.machine.Fitting.{row_counts, list_counts, valued, face_there, IsNamed, callee_entry, room_at, IsRoomy, named_in, generated_valid}
 use Rattle.ob_gen.proofs.machine.Telling.{push, number, with_results, cover_self, arrives_at, result, here, Tells, tells_none, tells_join, tells_more, tells_one, tells_choice, AllTell, first_tells, loop_tells, repeat_tells, arm_tells, whole_tells}
 
 of_same : (t u : Shape) → Of t ≡ Of u → t ≡ u
@@ -200,16 +201,11 @@ own_cells (parameter.Place u ∷ ps) ts zero t e = absurd (let n : None ≡ Some
 own_cells (parameter.Open u ∷ ps) ts zero t e = absurd (let n : None ≡ Some (Of t) = e in cc)
 own_cells (p ∷ ps) ts (suc x) t e = own_cells ps ts x t e
 
--- modules and calls have so few cells
+-- each variable of modules and calls has so few cells
 record IsFew (names : Names) : Type 0 where
   faces : FacesFit names.faces
-  variables : size (opening_row names.variables) < cell_limit
-  own : size (own_row names) < cell_limit
-
-faces_few : (faces : List Face) (i : ℕ) → FacesFit faces → size (face_row (slice_get faces i)) < 2147483648
-faces_few [] i h = omega arith
-faces_few (face ∷ rest) zero h = omega (arith, h.0)
-faces_few (face ∷ rest) (suc i) h = faces_few rest i h.1
+  variables : VariablesFit names.variables
+  own : ShapesFit names.own
 
 -- ---- numbers on the stack
 
@@ -240,10 +236,6 @@ given_more m n js ks x =
 
 given_none : (n : ℕ) (x : Known) → record { operands = over n x.operands; names = x.names } ≡ given n [] x
 given_none n x = ap (λ l. record { operands = over n x.operands; names = l }) (sym (append-nil x.names))
-
-parameters_counted : (ps : List Parameter) → parameter_count ps ≡ length ps
-parameters_counted [] = refl
-parameters_counted (p ∷ ps) = ap suc (parameters_counted ps)
 
 module _ (names : Names) (m : CodeModule) (f : Procedure) (known : IsNamed names m f) (few : IsFew names) where
   abbrev own : NameKinds
@@ -279,9 +271,9 @@ module _ (names : Names) (m : CodeModule) (f : Procedure) (known : IsNamed names
       absurd (not_open k.kind t (sym k.object))
 
   variable_low : (v : Variable) → FewCells (root_of names v)
-  variable_low (variable.OfModule x) = let w = before-within (opening_row names.variables) x in omega (arith, w, few.variables)
-  variable_low (variable.OfImport i x) = let w = before-within (face_row (slice_get names.faces i)) x in let c = faces_few names.faces i few.faces in omega (arith, w, c)
-  variable_low (variable.OfProcedure x) = let w = before-within (own_row names) x in omega (arith, w, few.own)
+  variable_low (variable.OfModule x) = let c = variables_few names.variables x few.variables in omega (arith, c)
+  variable_low (variable.OfImport i x) = let c = faces_few names.faces i x few.faces in omega (arith, c)
+  variable_low (variable.OfProcedure x) = let c = own_few names.parameters names.own x few.own in omega (arith, c)
   variable_low (variable.ByParameter x) = tt
 
   root_low : (d : Designator) → FewCells (root_in names d)
@@ -704,21 +696,17 @@ module _ (faces : List Face) (m : TypedModule) (code : CodeModule) (formed : IsW
   abbrev names_with : List Parameter → List Shape → Names
   names_with ps ts = record { faces = faces; variables = m.variables; procedures = m.procedures; parameters = ps; own = ts }
 
-  few_in : (ps : List Parameter) (ts : List Shape) → length ps + size (zeros ts) < cell_limit → IsFew (names_with ps ts)
-  few_in ps ts few =
-      let sum = size-append (parameter_row ps) (zeros ts) (parameters_row ps) in
-      let row = parameters_size ps in
-      let counted = parameters_counted ps in
-      record { faces = formed.known; variables = formed.cells; own = omega (arith, few, sum, row, counted) }
+  few_in : (ps : List Parameter) (ts : List Shape) → ShapesFit ts → IsFew (names_with ps ts)
+  few_in ps ts few = record { faces = formed.known; variables = formed.variables; own = few }
 
-  one_measured : (ps : List Parameter) (ts : List Shape) (body : List TypedStatement) (result : Option TypedExpr) (g : Procedure) → IsCodeOf (names_with ps ts) body result g → ListFits (names_with ps ts) body → ResultFits (names_with ps ts) result → length ps + size (zeros ts) < cell_limit → IsRoomy g → HasKinds code g
+  one_measured : (ps : List Parameter) (ts : List Shape) (body : List TypedStatement) (result : Option TypedExpr) (g : Procedure) → IsCodeOf (names_with ps ts) body result g → ListFits (names_with ps ts) body → ResultFits (names_with ps ts) result → ShapesFit ts → IsRoomy g → HasKinds code g
   one_measured ps ts body result g is fit gives few room =
       procedure_measured (names_with ps ts) code g (named_in faces m code formed made ps ts g is.cells is.names_taken is.stand_for room) (few_in ps ts few) body result is fit gives
 
   each_measured : (fs : List TypedProcedure) (gs : List Procedure) → AreCompiled faces m fs gs → ProceduresFit faces m fs → (p : ℕ) (g : Procedure) → slice_get gs p ≡ Some g → IsRoomy g → HasKinds code g
   each_measured [] [] h fit p g e room = absurd h
   each_measured [] (x ∷ []) h fit zero g e room =
-      one_measured [] [] m.body None g (subst (IsCodeOf (names_in faces m) m.body None) (some_same x g e) h) formed.body tt (omega arith) room
+      one_measured [] [] m.body None g (subst (IsCodeOf (names_in faces m) m.body None) (some_same x g e) h) formed.body tt tt room
   each_measured [] (x ∷ []) h fit (suc p) g e room = absurd (let n : None ≡ Some g = e in cc)
   each_measured [] (x ∷ (y ∷ gs)) h fit p g e room = absurd h
   each_measured (f ∷ fs) [] h fit p g e room = absurd h

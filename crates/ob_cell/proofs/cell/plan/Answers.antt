@@ -1,7 +1,7 @@
 use Rattle.std.proofs.Common.{List, sym, ◌∙◌, ap, subst}
-use Rattle.ob_parse.specs.declared.tree.Cell.{Cell}
-use Rattle.ob_parse.specs.declared.tree.Cell.TheVariants as cells
-use Rattle.ob_parse.specs.declared.tree.Command.{Command}
+use Rattle.ob_tree.specs.declared.tree.Cell.{Cell}
+use Rattle.ob_tree.specs.declared.tree.Cell.TheVariants as cells
+use Rattle.ob_tree.specs.declared.tree.Command.{Command}
 use Rattle.ob_link.specs.Looking.{in_store}
 use Rattle.ob_cell.specs.Oberon.{IsTreeOf}
 use Rattle.ob_cell.specs.Planned.{IsPlanned}

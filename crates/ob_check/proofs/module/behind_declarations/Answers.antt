@@ -1,5 +1,5 @@
 use Rattle.std.proofs.Common.{◌∙◌, ap, subst}
-use Rattle.ob_declare.specs.Rule.{Judges}
+use Rattle.ob_scope.specs.Rule.{Judges}
 use Rattle.ob_check.specs.Modules as spec
 use Rattle.ob_check.proofs.module.behind_declarations.Goals as goal
 

@@ -1,4 +1,4 @@
-use Rattle.ob_declare.specs.Rule.{answer}
+use Rattle.ob_scope.specs.Rule.{answer}
 use Rattle.ob_check.specs.Modules as spec
 use Rattle.ob_check.proofs.Answering as answering
 use Rattle.ob_check.proofs.module.check.Goals as goal

@@ -1,5 +1,5 @@
 use Rattle.std.proofs.Common.{◌≡◌, ◌+◌, ◌*◌, drop}
-use Rattle.ob_declare.specs.Rule.{answer, through}
+use Rattle.ob_scope.specs.Rule.{answer, through}
 use Rattle.ob_check.specs.Procedures as spec
 use Rattle.ob_check.proofs.procedure.+procedures.Given as goal
 

@@ -1,8 +1,8 @@
 use Rattle.std.proofs.Common.{rules, ◌≡◌, None, ap}
-use Rattle.ob_declare.specs.declared.rule.RuleCode.TheVariants as code
-use Rattle.ob_declare.specs.Block.{find}
+use Rattle.ob_scope.specs.declared.rule.RuleCode.TheVariants as code
+use Rattle.ob_scope.specs.Block.{find}
 use Rattle.ob_declare.specs.Declarations as spec
-use Rattle.ob_declare.proofs.Exact.{judged_needs}
+use Rattle.ob_scope.proofs.Exact.{judged_needs}
 use Rattle.ob_declare.proofs.declaration.constant_declared.Goals as goal
 
 pub returns : goal.returns

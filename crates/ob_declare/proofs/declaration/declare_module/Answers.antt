@@ -1,5 +1,5 @@
 use Rattle.ob_declare.specs.Declarations as spec
-use Rattle.ob_declare.proofs.Exact.{judged_found, judged_only, judged_broken}
+use Rattle.ob_scope.proofs.Exact.{judged_found, judged_only, judged_broken}
 use Rattle.ob_declare.proofs.declaration.declare_module.Goals as goal
 
 pub returns-clause-found : goal.returns-clause-found

@@ -1,11 +1,11 @@
 use Rattle.std.proofs.Common.{rules, ◌≡◌, false, not, subst, ap}
 use Rattle.std.specs.Str.{bytes_eq}
-use Rattle.ob_declare.specs.declared.rule.RuleCode.TheVariants as code
-use Rattle.ob_declare.specs.declared.imports.StandardName.{StandardName}
-use Rattle.ob_declare.specs.Imports.{standard_named}
-use Rattle.ob_declare.specs.Rule.{Judges}
+use Rattle.ob_scope.specs.declared.rule.RuleCode.TheVariants as code
+use Rattle.ob_scope.specs.declared.imports.StandardName.{StandardName}
+use Rattle.ob_scope.specs.Imports.{standard_named}
+use Rattle.ob_scope.specs.Rule.{Judges}
 use Rattle.ob_declare.specs.Declarations as spec
-use Rattle.ob_declare.proofs.Exact.{judged_needs}
+use Rattle.ob_scope.proofs.Exact.{judged_needs}
 use Rattle.ob_declare.proofs.declaration.import_named.Goals as goal
 
 pub returns : goal.returns

@@ -1,8 +1,8 @@
 use Rattle.std.proofs.Common.{◌≡◌, ℕ, Option, Ok, subst}
-use Rattle.ob_declare.specs.Rule.{answer}
-use Rattle.ob_declare.specs.Imports.{module_place}
+use Rattle.ob_scope.specs.Rule.{answer}
+use Rattle.ob_scope.specs.Imports.{module_place}
 use Rattle.ob_declare.specs.Declarations as spec
-use Rattle.ob_declare.proofs.Exact.{judged_then}
+use Rattle.ob_scope.proofs.Exact.{judged_then}
 use Rattle.ob_declare.proofs.declaration.other_module.Goals as goal
 
 pub returns : goal.returns

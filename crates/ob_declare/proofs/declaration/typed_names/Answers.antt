@@ -1,8 +1,8 @@
 use Rattle.std.proofs.Common.{[]}
-use Rattle.ob_parse.specs.declared.tree.TypedNames.{out-TypedNames}
-use Rattle.ob_declare.specs.Rule.{through}
+use Rattle.ob_tree.specs.declared.tree.TypedNames.{out-TypedNames}
+use Rattle.ob_scope.specs.Rule.{through}
 use Rattle.ob_declare.specs.Declarations as spec
-use Rattle.ob_declare.proofs.Exact.{judged_then}
+use Rattle.ob_scope.proofs.Exact.{judged_then}
 use Rattle.ob_declare.proofs.declaration.typed_names.Goals as goal
 
 pub returns : goal.returns

@@ -1,5 +1,5 @@
 use Rattle.std.proofs.Common.{◌≡◌, drop}
-use Rattle.ob_declare.specs.Rule.{answer, through}
+use Rattle.ob_scope.specs.Rule.{answer, through}
 use Rattle.ob_declare.specs.Headings as spec
 use Rattle.ob_declare.proofs.heading.all_parameters.Given as goal
 

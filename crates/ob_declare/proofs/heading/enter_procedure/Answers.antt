@@ -1,10 +1,10 @@
 use Rattle.std.proofs.Common.{rules, ◌≡◌, None, ap}
-use Rattle.ob_declare.specs.declared.rule.RuleCode.TheVariants as code
-use Rattle.ob_parse.specs.declared.tree.Procedure.{out-Procedure}
-use Rattle.ob_declare.specs.Block.{find}
+use Rattle.ob_scope.specs.declared.rule.RuleCode.TheVariants as code
+use Rattle.ob_tree.specs.declared.tree.Procedure.{out-Procedure}
+use Rattle.ob_scope.specs.Block.{find}
 use Rattle.ob_declare.specs.Declarations.{is_new}
 use Rattle.ob_declare.specs.Headings as spec
-use Rattle.ob_declare.proofs.Exact.{judged_needs}
+use Rattle.ob_scope.proofs.Exact.{judged_needs}
 use Rattle.ob_declare.proofs.heading.enter_procedure.Goals as goal
 
 pub returns : goal.returns

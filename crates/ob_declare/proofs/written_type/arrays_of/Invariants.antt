@@ -1,5 +1,5 @@
 use Rattle.std.proofs.Common.{◌≡◌, ◌≤◌, take, length, reverse}
-use Rattle.ob_declare.specs.Rule.{answer, through}
+use Rattle.ob_scope.specs.Rule.{answer, through}
 use Rattle.ob_declare.specs.WrittenTypes as spec
 use Rattle.ob_declare.proofs.written_type.arrays_of.Given as goal
 

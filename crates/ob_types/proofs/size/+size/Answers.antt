@@ -13,4 +13,7 @@ zero_size-returns-in-Array t c =
     ∙ ap (λ n. min n 4294967295) (sym (ap cells c.in-Array.is ∙ cells_array c.in-Array.length c.in-Array.element))
 
 pub zero_size-returns-in-Open : goal.zero_size-returns-in-Open
-zero_size-returns-in-Open t c = ap (λ n. min n 4294967295) (sym (ap cells c.in-Open.is ∙ cells_open c.in-Open.field-0))
+zero_size-returns-in-Open t c =
+    c.zero_size-in-Open.ensures
+    ∙ ap (λ t. min (cells t) 4294967295) c.get-in-Open.ensures
+    ∙ ap (λ n. min n 4294967295) (sym (ap cells c.in-Open.is ∙ cells_open c.in-Open.element))

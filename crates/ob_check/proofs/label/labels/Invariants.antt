@@ -1,7 +1,0 @@
-use Rattle.std.proofs.Common.{◌≡◌, [], drop}
-use Rattle.ob_declare.specs.Rule.{answer, through}
-use Rattle.ob_check.specs.Labels as spec
-use Rattle.ob_check.proofs.label.labels.Given as goal
-
-abbrev pub invariant-loop-r : goal.invariant-loop-r
-invariant-loop-r l = answer (through (spec.next_range l.imports l.scope l.character) (l.fn.all, []) l.list) ≡ answer (through (spec.next_range l.imports l.scope l.character) (l.so_far, l.arm) (drop l.r-index l.list))

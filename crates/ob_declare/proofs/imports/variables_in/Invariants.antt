@@ -1,6 +1,0 @@
-use Rattle.std.proofs.Common.{◌≡◌, ◌++◌, drop}
-use Rattle.ob_declare.specs.Exports as spec
-use Rattle.ob_declare.proofs.imports.variables_in.Given as goal
-
-abbrev pub invariant-loop-e : goal.invariant-loop-e
-invariant-loop-e l = l.so_far ++ spec.variables_in (drop l.e-index l.exports) ≡ spec.variables_in l.exports

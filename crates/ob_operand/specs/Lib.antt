@@ -1,0 +1,9 @@
+pub mod Judging
+pub mod Operands
+pub mod Joining
+pub mod Relations
+pub mod Functions
+pub mod Selecting
+pub mod Named
+pub mod Names
+pub mod Passing

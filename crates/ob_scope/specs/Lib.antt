@@ -1,0 +1,12 @@
+pub mod RuleCodes
+pub mod Told
+pub mod Rule
+pub mod Stack
+pub mod Names
+pub mod Block
+pub mod LoadedTree
+pub mod Exports
+pub mod Predeclared
+pub mod Scope
+pub mod Imports
+pub mod Tables

@@ -1,0 +1,6 @@
+//! The variables of a module while it is checked: the declared ones, and behind them its strings, each once.
+#![tactic(auto)]
+
+mod variables;
+
+pub use variables::Variables;

@@ -1,0 +1,7 @@
+pub mod Phrase
+pub mod Name
+pub mod Expression
+pub mod Statement
+pub mod Structure
+pub mod Declaration
+pub mod FirstToken
