@@ -1,7 +1,7 @@
 use Rattle.std.proofs.Common.{◌≡◌, true, false, rules}
 use Rattle.js_shelf.proofs.RefusalLemmas.{is_good}
-use Rattle.js_shelf.proofs.DeviceLemmas.{AreMoved, move_missing, move_exists, move_done}
-use Rattle.js_shelf.proofs.file.move_to.Goals as goal
+use Rattle.js_files.proofs.DeviceLemmas.{AreMoved, move_missing, move_exists, move_done}
+use Rattle.js_files.proofs.file.move_to.Goals as goal
 
 pub returns-then-not-branch : goal.returns-then-not-branch
 returns-then-not-branch g c =

@@ -2,8 +2,7 @@
 ghost use Rattle.std.specs.Prelude.{◌≡◌, None, IfOk, string_bytes};
 ghost use Rattle.js_shelf.specs.Places.{below_root};
 
-use crate::path::is_step;
-use crate::{Bytes, Device, DeviceFault, Kind, Name, Names, Place};
+use js_shelf::{Bytes, Device, DeviceFault, Kind, Name, Names, Place, is_step};
 use std::alloc::AllocError;
 use std::fs::{OpenFile, OpenOptions};
 use std::io::{ErrorKind, Read, Write};
@@ -28,15 +27,6 @@ const SPARE: &str = "/\\new";
 pub struct SystemFolder<R: Files + AllocGlobal + Clone + Drop> {
     rt: R,
     root: String,
-}
-
-impl From<io::Error> for DeviceFault {
-    fn from(error: io::Error) -> DeviceFault {
-        match error.kind() {
-            ErrorKind::OutOfMemory => DeviceFault::Memory,
-            _ => DeviceFault::Failed,
-        }
-    }
 }
 
 impl<R: Files + AllocGlobal + Clone + Drop> SystemFolder<R> {

@@ -3,9 +3,11 @@ ghost use Rattle.std.specs.Prelude.{◌≡◌, ◌&&◌, is_some, IfOk};
 ghost use Rattle.js_shelf.specs.Shelves.{HasCause, Tells, Gets, Lists, Puts, Renames, Deletes, is_folder, is_below};
 ghost use Rattle.js_shelf.specs.Devices.{Finds};
 
-use crate::path::{is_below, is_below_root, is_path};
 use crate::system::SystemFolder;
-use crate::{Device, DeviceFault, Item, Kind, Names, Place, Shelf, ShelfRefusal};
+use js_shelf::{
+    Device, DeviceFault, Item, Kind, Names, Place, Shelf, ShelfRefusal, is_below, is_below_root,
+    is_path,
+};
 use std::alloc::{AllocError, Global};
 use std::rt::Files;
 
