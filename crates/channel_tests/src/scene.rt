@@ -1,8 +1,8 @@
 //! A channel at seat 3 of an inbox, and what comes of its turns.
 
 use jk_board::{Board, Follower};
-use jk_core::{Arrival, What};
 use jk_language::Language;
+use jk_log::{Arrival, What};
 use jk_queues::{Inbox, Seat, Taker};
 use js_ws::{Channel, Names, Turn, channel_turn};
 use json_form::Text;

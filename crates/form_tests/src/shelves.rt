@@ -1,4 +1,5 @@
-use js_shelf::{Bytes, FileShelf, Item, MemoryShelf, Shelf, ShelfRefusal, is_path};
+use js_files::FileShelf;
+use js_shelf::{Bytes, Item, MemoryShelf, Shelf, ShelfRefusal, is_path};
 use std::alloc::Global;
 use std::fs;
 use std::fs::OpenFile;

@@ -1,7 +1,7 @@
 -- How entries are copied, and what a follower has read.
 use Rattle.std.proofs.Common.{◌≡◌, ℕ, ◌+◌, ◌≤◌, min, List, ◌++◌, take, drop, length, sym, ap, ◌∙◌}
 use Rattle.std.proofs.lemmas.List.{take_all, take_min, length-take, take-append-le}
-use Rattle.jk_core.specs.declared.entry.Entry.{Entry}
+use Rattle.jk_log.specs.declared.entry.Entry.{Entry}
 use Rattle.jk_board.specs.Boards.{StartsWith}
 use Rattle.jk_board.proofs.Lists.{take-add}
 

@@ -4,7 +4,7 @@ use denote.RattleType.{RattleType}
 use Rattle.std.proofs.Crossing.{crosses}
 use Rattle.left_right.proofs.reader.Reader.TheSendSync as reader
 use Rattle.jk_language.specs.declared.language.Language as language
-use Rattle.jk_core.proofs.Crossing.{entry_send, entry_sync}
+use Rattle.jk_log.proofs.Crossing.{entry_send, entry_sync}
 use Rattle.jk_board.proofs.posted.Row.TheSendSync as row
 use Rattle.jk_board.specs.contracts.posted.Publication as Publication
 use Rattle.jk_board.specs.contracts.posted.Posted as Posted

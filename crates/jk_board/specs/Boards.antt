@@ -2,10 +2,10 @@
 -- What boards are: beginnings of what a legal log of a kernel shows.
 use Rattle.std.specs.Prelude.{◌≡◌, List, ◌++◌}
 use Rattle.jk_language.specs.Spoken.{Spoken}
-use Rattle.jk_core.specs.declared.entry.Entry.{Entry}
-use Rattle.jk_core.specs.Log.{Log}
-use Rattle.jk_core.specs.Legal.{IsLegal}
-use Rattle.jk_core.specs.Render.{render}
+use Rattle.jk_log.specs.declared.entry.Entry.{Entry}
+use Rattle.jk_log.specs.Log.{Log}
+use Rattle.jk_log.specs.Legal.{IsLegal}
+use Rattle.jk_log.specs.Render.{render}
 
 -- a list that begins with another
 abbrev pub StartsWith : List Entry → List Entry → Type 0

@@ -1,7 +1,7 @@
 -- To be believed.
 -- What a clause sees of the ends of a board. L is the language, and S, T, M are its sessions, trees and machines.
 use Rattle.std.specs.Prelude.{◌≡◌, List, [], take}
-use Rattle.jk_core.specs.declared.entry.Entry.{Entry}
+use Rattle.jk_log.specs.declared.entry.Entry.{Entry}
 use Rattle.atomic_table.specs.Seated.{TableId}
 use Rattle.left_right.specs.Sides.{view}
 use Rattle.jk_board.specs.Posted.{all_of}

@@ -2,7 +2,7 @@
 -- What a publisher has pending.
 use Rattle.std.specs.Prelude.{◌≡◌, List, [], ◌∷◌}
 use Rattle.jk_language.specs.Spoken.{Spoken}
-use Rattle.jk_core.specs.declared.entry.Entry.{Entry}
+use Rattle.jk_log.specs.declared.entry.Entry.{Entry}
 use Rattle.jk_board.specs.declared.publisher.Replace.{Replace}
 use Rattle.jk_board.specs.Posted.{all_of}
 use Rattle.jk_board.specs.Boards.{StartsWith, IsBoard}

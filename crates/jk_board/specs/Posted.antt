@@ -3,7 +3,7 @@
 use Rattle.std.specs.Prelude.{List, ◌++◌}
 use Rattle.std.specs.declared.vec.Vec.{Vec}
 use Rattle.std.specs.declared.alloc.Global.{Global}
-use Rattle.jk_core.specs.declared.entry.Entry.{Entry}
+use Rattle.jk_log.specs.declared.entry.Entry.{Entry}
 use Rattle.jk_board.specs.declared.posted.Posted.{Posted}
 use Rattle.jk_board.specs.Levels.{of_newest, of_older, of_oldest, RowEndsWith}
 

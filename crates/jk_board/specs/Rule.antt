@@ -4,7 +4,7 @@ use Rattle.std.specs.Prelude.{◌≡◌, ℕ, List, [], ◌∷◌}
 use mathlib.Core.Option.{some}
 use lib.ListN.{get_elem?}
 use Rattle.jk_language.specs.Spoken.{Spoken}
-use Rattle.jk_core.specs.declared.entry.Entry.{Entry}
+use Rattle.jk_log.specs.declared.entry.Entry.{Entry}
 use Rattle.jk_board.specs.declared.posted.Posted.{Posted}
 use Rattle.jk_board.specs.declared.rule.Seen.{Seen}
 use Rattle.jk_board.specs.Posted.{all_of}

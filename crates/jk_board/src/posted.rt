@@ -1,7 +1,7 @@
 //! A board: rows of what was published, which its copies share.
 ghost use Rattle.jk_board.specs.Levels.{AreWhole};
 
-use jk_core::Entry;
+use jk_log::Entry;
 use std::alloc::{AllocError, Global};
 use std::sync::Arc;
 

@@ -5,8 +5,8 @@ ghost use Rattle.jk_board.specs.Posted.{all_of};
 
 use crate::posted::Posted;
 use crate::rule::{Grows, Seen};
-use jk_core::Entry;
 use jk_language::Language;
+use jk_log::Entry;
 use left_right::Absorb;
 use left_right::writer::Writer;
 use std::alloc::AllocError;

@@ -3,8 +3,8 @@
 use crate::posted::Posted;
 use atomic_table::{Join, Split};
 use crossbeam_utils::rule::{Outcome, Protocol};
-use jk_core::Entry;
 use jk_language::Language;
+use jk_log::Entry;
 use std::collections::LinkedList;
 use std::marker::PhantomData;
 

@@ -4,27 +4,27 @@ use Rattle.std.specs.Prelude.{◌&&◌, ◌==◌, not}
 use Rattle.jk_language.specs.Parts.{Line as AsLine}
 use Rattle.jk_language.specs.MachineState.{MachineState}
 use Rattle.jk_language.specs.Spoken.{Spoken, IsLanguage}
-use Rattle.jk_core.specs.declared.arrival.Arrival.{Arrival}
-use Rattle.jk_core.specs.declared.arrival.Sort.{Sort}
-use Rattle.jk_core.specs.declared.arrival.Sort.TheVariants as sort
-use Rattle.jk_core.specs.Asked.{input_in, sort_as}
+use Rattle.jk_log.specs.declared.arrival.Arrival.{Arrival}
+use Rattle.jk_log.specs.declared.arrival.Sort.{Sort}
+use Rattle.jk_log.specs.declared.arrival.Sort.TheVariants as sort
+use Rattle.jk_log.specs.Asked.{input_in, sort_as}
 use Rattle.jk_core.specs.declared.desk.Active.{Active}
 use Rattle.jk_core.specs.declared.desk.Wants.{Wants}
 use Rattle.jk_core.specs.declared.desk.Wants.TheVariants as wants
 use Rattle.jk_core.specs.declared.desk.Place.{Place}
 use Rattle.jk_core.specs.declared.desk.Place.TheVariants.{Resting, Running as Runs}
 use Rattle.jk_core.specs.declared.desk.Desk.{Desk}
-use Rattle.jk_core.specs.declared.mark.Item.TheVariants.{Took, Marked}
-use Rattle.jk_core.specs.declared.mark.Kind.TheVariants.{Interrupt, Join, KernelInfo, Leave, Line, Restart}
+use Rattle.jk_log.specs.declared.mark.Item.TheVariants.{Took, Marked}
+use Rattle.jk_log.specs.declared.mark.Kind.TheVariants.{Interrupt, Join, KernelInfo, Leave, Line, Restart}
 use Rattle.jp_msg.specs.declared.message.Completeness.{Completeness}
-use Rattle.jk_core.specs.declared.mark.Cause.{Cause}
-use Rattle.jk_core.specs.declared.mark.Cause.TheVariants as cause
-use Rattle.jk_core.specs.Log.{Log, Running, arrivals, option_at, running, running_with, session, count as count_of, option_with, lined, unread, left, asker, asked_of, input_at}
+use Rattle.jk_log.specs.declared.mark.Cause.{Cause}
+use Rattle.jk_log.specs.declared.mark.Cause.TheVariants as cause
+use Rattle.jk_log.specs.Log.{Log, Running, arrivals, option_at, running, running_with, session, count as count_of, option_with, lined, unread, left, asker, asked_of, input_at}
 use Rattle.jk_core.specs.State.{KernelState}
 use Rattle.jk_core.specs.Steps.{aborting, answered, given_to, noted, shut, stops_with, took, stopped, taken}
 use Rattle.jk_core.specs.Kept.{CanStop, HoldsAt, IsHeld, IsKept, IsLineBy, IsLineFor, IsRunBy, IsWanting, RunsBy, Stands, StandsFor, WantsAt, line_to, lined_up, marked_as}
 use Rattle.jk_core.proofs.Keeps.{idle_fails, lined_runs, runs_as, some_same}
-use Rattle.jk_core.proofs.Logs.{input_grows, input_newest}
+use Rattle.jk_log.proofs.Logs.{input_grows, input_newest}
 use Rattle.jk_core.proofs.Desks.{no_given, wants_grows}
 use Rattle.jk_core.proofs.Turns.{has_more}
 use Rattle.jk_core.proofs.Orders.{waits_few}

@@ -12,7 +12,7 @@ use Rattle.jk_language.specs.declared.outcome.Turned.TheVariants as turned
 use Rattle.jk_language.specs.Spoken.{Spoken, IsLanguage}
 use Rattle.jk_language.specs.Beginning.{IsFresh}
 use Rattle.jp_msg.specs.declared.message.Execute.{Execute}
-use Rattle.jk_core.specs.declared.arrival.Arrival.{Arrival}
+use Rattle.jk_log.specs.declared.arrival.Arrival.{Arrival}
 use Rattle.jk_core.specs.declared.desk.Active.{Active}
 use Rattle.jk_core.specs.declared.desk.Wants.{Wants}
 use Rattle.jk_core.specs.declared.desk.Wants.TheVariants as wants
@@ -21,28 +21,28 @@ use Rattle.jk_core.specs.declared.desk.Place.TheVariants.{Resting, Running as Ru
 use Rattle.jk_core.specs.declared.desk.Desk.{Desk}
 use Rattle.jk_core.specs.declared.start.Opening.{Opening}
 use Rattle.jk_core.specs.declared.start.Opening.TheVariants as opening
-use Rattle.jk_core.specs.declared.job.Parsed.{Parsed}
-use Rattle.jk_core.specs.declared.job.Parsed.TheVariants as parsed
-use Rattle.jk_core.specs.Results.{IsResult}
-use Rattle.jk_core.specs.declared.mark.Item.{Item}
-use Rattle.jk_core.specs.declared.mark.Item.TheVariants.{Marked}
-use Rattle.jk_core.specs.declared.mark.Kind.TheVariants.{Abort, Answer, Ask, Begin, End, Flush, Refuse, Stop}
-use Rattle.jk_core.specs.declared.mark.Ending.TheVariants as ending
-use Rattle.jk_core.specs.declared.mark.Cause.{Cause}
-use Rattle.jk_core.specs.declared.mark.Cause.TheVariants as cause
+use Rattle.jk_log.specs.declared.job.Parsed.{Parsed}
+use Rattle.jk_log.specs.declared.job.Parsed.TheVariants as parsed
+use Rattle.jk_log.specs.Results.{IsResult}
+use Rattle.jk_log.specs.declared.mark.Item.{Item}
+use Rattle.jk_log.specs.declared.mark.Item.TheVariants.{Marked}
+use Rattle.jk_log.specs.declared.mark.Kind.TheVariants.{Abort, Answer, Ask, Begin, End, Flush, Refuse, Stop}
+use Rattle.jk_log.specs.declared.mark.Ending.TheVariants as ending
+use Rattle.jk_log.specs.declared.mark.Cause.{Cause}
+use Rattle.jk_log.specs.declared.mark.Cause.TheVariants as cause
 use Rattle.jk_core.specs.declared.kernel.Work.{Work}
 use Rattle.jk_core.specs.declared.kernel.Work.TheVariants as work
 use Rattle.jk_core.specs.declared.script.Waiting.{Waiting}
 use Rattle.jk_core.specs.declared.script.Task.{Task}
 use Rattle.jk_core.specs.declared.script.Task.TheVariants.{Cell, Query}
-use Rattle.jk_core.specs.Log.{Log, Running, running, session, count as count_of, meaning, shown_in, stood_in, next_count, option_or, option_with, opened, flushed_at, asking, left, execute_at, seat_at}
-use Rattle.jk_core.specs.Legal.{IsLineless, MayAsk}
+use Rattle.jk_log.specs.Log.{Log, Running, running, session, count as count_of, meaning, shown_in, stood_in, next_count, option_or, option_with, opened, flushed_at, asking, left, execute_at, seat_at}
+use Rattle.jk_log.specs.Legal.{IsLineless, MayAsk}
 use Rattle.jk_core.specs.State.{KernelState, first_of, is_cell}
 use Rattle.jk_core.specs.Steps.{allows_at, answering, begun, closing, broken, closed, failing, flushed as flushed_to, gone_on, has_lines, limit, noted, sliced, written, written_out, stopped, stops_at, with_waits, BeginsAt, Closes, GoesOn, GoesWithout, IsBrokenAt, Starts, StartsAs, StartsFirst, Takes}
 use Rattle.jk_core.specs.Kept.{HoldsAt, IsKept, IsOf, IsRunBy, IsWanting, Opens, Stands, WantsAt, AllWait, IsCellAt, IsTaskAt}
 use Rattle.jk_core.specs.Slices.{HasAsked, HasCome, IsAtWork, may_ask}
 use Rattle.jk_core.proofs.Keeps.{answering_going, answering_idle, answering_moves, answering_waits, failing_moves, first_found, flushed_runs, asking_runs, no_lines, meaning_shown, silent_slice, kept-takes, some_same, stops_same}
-use Rattle.jk_core.proofs.Logs.{input_grows}
+use Rattle.jk_log.proofs.Logs.{input_grows}
 use Rattle.jk_core.proofs.Turns.{count_same, lacks, law_of, may_by, not_lineless, not_stopped, ran_same, seat_left, stood_at}
 
 -- answers after which no cell runs

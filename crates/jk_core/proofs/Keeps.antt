@@ -13,35 +13,35 @@ use Rattle.jk_language.specs.Spoken.{Spoken, IsLanguage}
 use Rattle.jk_language.specs.declared.outcome.Turned.{Turned}
 use Rattle.jk_language.specs.declared.outcome.Turned.TheVariants as turned
 use Rattle.jp_msg.specs.declared.message.Execute.{Execute}
-use Rattle.jk_core.specs.declared.arrival.Arrival.{Arrival}
-use Rattle.jk_core.specs.declared.arrival.Sort.{Sort}
-use Rattle.jk_core.specs.declared.arrival.Sort.TheVariants as sort
+use Rattle.jk_log.specs.declared.arrival.Arrival.{Arrival}
+use Rattle.jk_log.specs.declared.arrival.Sort.{Sort}
+use Rattle.jk_log.specs.declared.arrival.Sort.TheVariants as sort
 use Rattle.jp_msg.specs.declared.message.Completeness.{Completeness}
 use Rattle.jp_msg.specs.declared.message.Request.{Request}
-use Rattle.jk_core.specs.Asked.{input_in, query_in, sort_as}
-use Rattle.jk_core.specs.Queries.{IsStatusOf}
-use Rattle.jk_core.specs.declared.job.Parsed.{Parsed}
-use Rattle.jk_core.specs.declared.job.Parsed.TheVariants as parsed
-use Rattle.jk_core.specs.declared.mark.Item.{Item}
-use Rattle.jk_core.specs.declared.mark.Item.TheVariants.{Took}
-use Rattle.jk_core.specs.declared.mark.Mark.{Mark}
-use Rattle.jk_core.specs.declared.mark.Kind.{Kind}
-use Rattle.jk_core.specs.declared.mark.Kind.TheVariants.{Join, Leave, Flush, Ask, Line, End, Stop, Refuse, Answer, Interrupt, KernelInfo, Restart}
-use Rattle.jk_core.specs.declared.mark.Ending.{Ending}
-use Rattle.jk_core.specs.declared.mark.Ending.TheVariants as ending
-use Rattle.jk_core.specs.declared.mark.Cause.{Cause}
-use Rattle.jk_core.specs.declared.mark.Cause.TheVariants as cause
+use Rattle.jk_log.specs.Asked.{input_in, query_in, sort_as}
+use Rattle.jk_log.specs.Queries.{IsStatusOf}
+use Rattle.jk_log.specs.declared.job.Parsed.{Parsed}
+use Rattle.jk_log.specs.declared.job.Parsed.TheVariants as parsed
+use Rattle.jk_log.specs.declared.mark.Item.{Item}
+use Rattle.jk_log.specs.declared.mark.Item.TheVariants.{Took}
+use Rattle.jk_log.specs.declared.mark.Mark.{Mark}
+use Rattle.jk_log.specs.declared.mark.Kind.{Kind}
+use Rattle.jk_log.specs.declared.mark.Kind.TheVariants.{Join, Leave, Flush, Ask, Line, End, Stop, Refuse, Answer, Interrupt, KernelInfo, Restart}
+use Rattle.jk_log.specs.declared.mark.Ending.{Ending}
+use Rattle.jk_log.specs.declared.mark.Ending.TheVariants as ending
+use Rattle.jk_log.specs.declared.mark.Cause.{Cause}
+use Rattle.jk_log.specs.declared.mark.Cause.TheVariants as cause
 use Rattle.jk_core.specs.declared.kernel.Work.{Work}
 use Rattle.jk_core.specs.declared.kernel.Work.TheVariants.{Rest, NeedsParse, Ran, NeedsLine, NoMemory}
 use Rattle.jk_core.specs.declared.script.Waiting.{Waiting}
 use Rattle.jk_core.specs.declared.script.Task.{Task}
 use Rattle.jk_core.specs.declared.script.Task.TheVariants.{Cell, Query}
-use Rattle.jk_core.specs.Log.{Log, Running, waits_as, running, running_with, waiting, session, meaning, meaning_in, shown_in, stood, stood_in, count, next_count, arrivals, ended, raised, execute_at, seat_at, asker, option_with, option_or, opened, flushed_at, asking, lined, unread, nones}
-use Rattle.jk_core.specs.Legal.{Answers, Flushes, Due, AnswerDue, MarkDue, FlushDue, StopDue, abort_due, due_by, due_of, Settles, dues_of, dues_after, ends_due, line_due, fails_due, dues_after_end, dues_after_stop, waiting_dues, MayAsk, Lacks, MayCome, MayMark, EndsSo, IsForced, JustFlushed, IsLegal, IsStopped, StopsFor, owed}
+use Rattle.jk_log.specs.Log.{Log, Running, waits_as, running, running_with, waiting, session, meaning, meaning_in, shown_in, stood, stood_in, count, next_count, arrivals, ended, raised, execute_at, seat_at, asker, option_with, option_or, opened, flushed_at, asking, lined, unread, nones}
+use Rattle.jk_log.specs.Legal.{Answers, Flushes, Due, AnswerDue, MarkDue, FlushDue, StopDue, abort_due, due_by, due_of, Settles, dues_of, dues_after, ends_due, line_due, fails_due, dues_after_end, dues_after_stop, waiting_dues, MayAsk, Lacks, MayCome, MayMark, EndsSo, IsForced, JustFlushed, IsLegal, IsStopped, StopsFor, owed}
 use Rattle.jk_core.specs.State.{KernelState, first_of, is_cell}
 use Rattle.jk_core.specs.Steps.{aborting, answering, by_task, closing, failing, interrupted, shut, stopped, waits_with, took, noted, given_to, answered, taken, with_waits, begun, broken, gone_on, has_lines, sliced, written, limit, ran_after, Closes, GoesOn, GoesWithout, IsBrokenAt, AnswersFirst, Moves, Starts, StartsAs, StartsFirst, Takes, Works}
 use Rattle.jk_core.specs.Kept.{IsKept, IsGoing, IsHeld, IsStanding, AllWait, IsCellAt, IsTaskAt, IsWaiting, from_cell}
-use Rattle.jk_core.proofs.Logs.{execute_grows, execute_newest, executes, no_execute, queries, query_grows, query_newest}
+use Rattle.jk_log.proofs.Logs.{execute_grows, execute_newest, executes, no_execute, queries, query_grows, query_newest}
 
 owes_next : (log : Log) (d : Due) (ds more : List Due) → owed log ≡ d ∷ ds → drop 1 (owed log) ++ more ≡ ds ++ more
 owes_next log d ds more e = rw e refl

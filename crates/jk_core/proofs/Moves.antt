@@ -2,15 +2,15 @@
 use Rattle.std.proofs.Common.{zero, suc, true, false, ℕ, List, [], ◌∷◌, sym, subst, Option, None, Some, inl, inr}
 use Rattle.jk_language.specs.declared.outcome.Turned.{Turned}
 use Rattle.jk_language.specs.declared.outcome.Turned.TheVariants as turned
-use Rattle.jk_core.specs.declared.job.Parsed.{Parsed}
-use Rattle.jk_core.specs.declared.job.Parsed.TheVariants as parsed
-use Rattle.jk_core.specs.declared.mark.Kind.{Kind}
-use Rattle.jk_core.specs.declared.mark.Kind.TheVariants.{Begin, Answer, Line, Restart}
+use Rattle.jk_log.specs.declared.job.Parsed.{Parsed}
+use Rattle.jk_log.specs.declared.job.Parsed.TheVariants as parsed
+use Rattle.jk_log.specs.declared.mark.Kind.{Kind}
+use Rattle.jk_log.specs.declared.mark.Kind.TheVariants.{Begin, Answer, Line, Restart}
 use Rattle.jk_core.specs.declared.kernel.Work.{Work}
 use Rattle.jk_core.specs.declared.kernel.Work.TheVariants.{Rest, NeedsParse, Ran, NeedsLine, NoMemory}
 use Rattle.jk_core.specs.declared.script.Waiting.{Waiting}
-use Rattle.jk_core.specs.Log.{Running, meaning, next_count, lined}
-use Rattle.jk_core.specs.declared.mark.Cause.{Cause}
+use Rattle.jk_log.specs.Log.{Running, meaning, next_count, lined}
+use Rattle.jk_log.specs.declared.mark.Cause.{Cause}
 use Rattle.std.proofs.Common.{Bool}
 use Rattle.jk_core.proofs.Keeps.{answering_moves, failing_moves}
 use Rattle.jk_core.specs.declared.script.Task.{Task}

@@ -9,10 +9,10 @@ use Rattle.jp_msg.specs.declared.message.Completeness.{Completeness}
 use Rattle.jk_core.specs.declared.script.Task.{Task}
 use Rattle.jk_core.specs.declared.script.Task.TheVariants.{Cell, Query}
 use Rattle.std.specs.List.Sorted.{IsNonDecreasingBy, IsPartitionPoint}
-use Rattle.jk_core.specs.declared.arrival.Sort.{Sort}
-use Rattle.jk_core.specs.declared.arrival.Sort.TheVariants as sort
+use Rattle.jk_log.specs.declared.arrival.Sort.{Sort}
+use Rattle.jk_log.specs.declared.arrival.Sort.TheVariants as sort
 use Rattle.jk_core.specs.declared.script.Waiting.{Waiting}
-use Rattle.jk_core.specs.Log.{Log}
+use Rattle.jk_log.specs.Log.{Log}
 use Rattle.jk_core.specs.State.{Ascends, PassedBy, is_cell}
 use Rattle.jk_core.specs.Steps.{CanKeep, first_after, waits_with}
 use Rattle.jk_core.proofs.Keeps.{some_same}

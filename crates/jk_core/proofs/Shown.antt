@@ -1,18 +1,19 @@
 -- What was handed on and what is pending are the render of the log.
 use Rattle.std.proofs.Common.{◌≡◌, ℕ, List, [], ◌∷◌, ◌++◌, length, drop, take, refl, sym, ◌∙◌, ap, append_assoc}
 use Rattle.std.proofs.lemmas.List.{append-nil, take-append-drop}
-use Rattle.jk_core.specs.declared.arrival.Arrival.{Arrival}
-use Rattle.jk_core.specs.declared.arrival.Sort.{Sort}
-use Rattle.jk_core.specs.declared.arrival.Sort.TheVariants as sort
-use Rattle.jk_core.specs.Asked.{input_in, sort_as}
+use Rattle.jk_log.specs.declared.arrival.Arrival.{Arrival}
+use Rattle.jk_log.specs.declared.arrival.Sort.{Sort}
+use Rattle.jk_log.specs.declared.arrival.Sort.TheVariants as sort
+use Rattle.jk_log.specs.Asked.{input_in, sort_as}
 use Rattle.std.proofs.Common.{Option, None, Some, inl, inr, subst}
-use Rattle.jk_core.specs.declared.entry.Entry.{Entry}
+use Rattle.jk_log.specs.declared.entry.Entry.{Entry}
 use Rattle.jk_core.specs.declared.kernel.Work.{Work}
-use Rattle.jk_core.specs.Log.{running, takes, asker}
-use Rattle.jk_core.specs.declared.mark.Kind.TheVariants.{Interrupt}
+use Rattle.jk_log.specs.Log.{running, takes, asker}
+use Rattle.jk_log.specs.declared.mark.Kind.TheVariants.{Interrupt}
 use Rattle.jp_msg.specs.declared.message.Completeness.{Completeness}
-use Rattle.jk_core.specs.Render.{render}
-use Rattle.jk_core.specs.State.{KernelState, joined}
+use Rattle.jk_log.specs.Render.{render}
+use Rattle.jk_core.specs.State.{KernelState}
+use Rattle.jk_log.specs.Pending.{joined}
 use Rattle.jk_core.specs.Steps.{answered, noted, given_to, took, taken, without, Takes, Works}
 use Rattle.jk_core.proofs.Moves.{IsMoved, interrupted_moves, shut_moves, works_moves}
 use Rattle.jk_language.specs.Spoken.{Spoken}

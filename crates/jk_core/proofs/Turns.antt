@@ -12,9 +12,9 @@ use Rattle.jk_language.specs.declared.outcome.Turned.{Turned}
 use Rattle.jk_language.specs.declared.outcome.Turned.TheVariants as turned
 use Rattle.jk_core.specs.declared.desk.Active.{Active}
 use Rattle.jk_core.specs.declared.desk.Wants.TheVariants as wants
-use Rattle.jk_core.specs.declared.mark.Kind.TheVariants.{Line}
-use Rattle.jk_core.specs.Log.{Log, Running, running, session, count, meaning, stood, left, lined}
-use Rattle.jk_core.specs.Legal.{IsLineless, Lacks, MayAsk}
+use Rattle.jk_log.specs.declared.mark.Kind.TheVariants.{Line}
+use Rattle.jk_log.specs.Log.{Log, Running, running, session, count, meaning, stood, left, lined}
+use Rattle.jk_log.specs.Legal.{IsLineless, Lacks, MayAsk}
 use Rattle.jk_core.specs.State.{KernelState}
 use Rattle.jk_core.specs.Steps.{flushed, has_lines, noted, written, written_out, GoesWithout}
 use Rattle.jk_core.specs.Kept.{IsOf}

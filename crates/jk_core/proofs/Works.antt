@@ -2,7 +2,7 @@
 use Rattle.std.proofs.Common.{◌⊎◌, ◌≡◌, ℕ, ◌≤◌, Bool, true, false, List, [], ◌∷◌, ◌++◌, refl, sym, ◌∙◌, ap, subst, arith, Option, None, Some, inl, inr}
 use Rattle.std.specs.Prelude.{◌&&◌, find, not}
 use Rattle.std.proofs.Common.{cond}
-use Rattle.jk_core.specs.Log.{option_or}
+use Rattle.jk_log.specs.Log.{option_or}
 use Rattle.std.proofs.lemmas.List.{append-nil}
 use Rattle.jk_language.specs.Parts.{Line as AsLine, Meaning}
 use Rattle.jk_language.specs.MachineState.{MachineState, here}
@@ -12,17 +12,17 @@ use Rattle.jk_language.specs.Spoken.{Spoken, IsLanguage}
 use Rattle.jk_core.specs.declared.desk.Active.{Active}
 use Rattle.jk_core.specs.declared.desk.Wants.{Wants}
 use Rattle.jk_core.specs.declared.desk.Wants.TheVariants as wants
-use Rattle.jk_core.specs.declared.job.Parsed.{Parsed}
-use Rattle.jk_core.specs.declared.job.Parsed.TheVariants as parsed
-use Rattle.jk_core.specs.declared.mark.Kind.TheVariants.{Line}
+use Rattle.jk_log.specs.declared.job.Parsed.{Parsed}
+use Rattle.jk_log.specs.declared.job.Parsed.TheVariants as parsed
+use Rattle.jk_log.specs.declared.mark.Kind.TheVariants.{Line}
 use Rattle.jk_core.specs.declared.kernel.Work.{Work}
 use Rattle.jk_core.specs.declared.kernel.Work.TheVariants as work
 use Rattle.jk_core.specs.declared.script.Waiting.{Waiting}
 use Rattle.jp_msg.specs.declared.message.Completeness.{Completeness}
 use Rattle.jk_core.specs.declared.script.Task.{Task}
 use Rattle.jk_core.specs.declared.script.Task.TheVariants.{Cell, Query}
-use Rattle.jk_core.specs.Log.{Log, Running, running, session, meaning, flushed_at, asking, lined, nones, left, input_at}
-use Rattle.jk_core.specs.Legal.{IsLineless}
+use Rattle.jk_log.specs.Log.{Log, Running, running, session, meaning, flushed_at, asking, lined, nones, left, input_at}
+use Rattle.jk_log.specs.Legal.{IsLineless}
 use Rattle.jk_core.specs.State.{KernelState, first_of, is_cell}
 use Rattle.jk_core.specs.Steps.{answering, begun, by_task, has_lines, limit, noted, with_waits, AnswersFirst, FirstAsks, GoesOn, GoesWithout, IsAsking, NoneStarts, Starts, StartsAs, StartsFirst, Works}
 use Rattle.jk_core.specs.Kept.{IsWanting, RunsBy, StartsOr, first_is_read, from_cell, has_asked, is_asking, is_read}

@@ -1,31 +1,31 @@
 -- What a kernel keeps true.
 use Rattle.std.specs.Prelude.{◌⊎◌, ◌≡◌, Bool, true, false, not, ◌&&◌, ℕ, ◌≤◌, is_some, find, List, [], ◌∷◌, length, map, Option, None, Some}
 use Rattle.jk_language.specs.declared.outcome.Refusal.TheVariants.{Compile}
-use Rattle.jk_core.specs.declared.arrival.Sort.{Sort}
-use Rattle.jk_core.specs.declared.arrival.Sort.TheVariants as sort
-use Rattle.jk_core.specs.declared.mark.Kind.TheVariants.{Interrupt, Join, KernelInfo, Leave, Line}
+use Rattle.jk_log.specs.declared.arrival.Sort.{Sort}
+use Rattle.jk_log.specs.declared.arrival.Sort.TheVariants as sort
+use Rattle.jk_log.specs.declared.mark.Kind.TheVariants.{Interrupt, Join, KernelInfo, Leave, Line}
 use Rattle.jk_language.specs.Parts.{Line as AsLine}
 use Rattle.jk_language.specs.Spoken.{Spoken}
 use Rattle.jk_language.specs.MachineState.{MachineState, here}
 use Rattle.jk_language.specs.Beginning.{IsFresh}
 use Rattle.jp_msg.specs.declared.message.Execute.{Execute}
-use Rattle.jk_core.specs.declared.job.Parsed.{Parsed}
-use Rattle.jk_core.specs.declared.job.Parsed.TheVariants as parsed
+use Rattle.jk_log.specs.declared.job.Parsed.{Parsed}
+use Rattle.jk_log.specs.declared.job.Parsed.TheVariants as parsed
 use Rattle.jk_core.specs.declared.script.Waiting.{Waiting}
 use Rattle.jk_core.specs.declared.script.Task.{Task}
 use Rattle.jk_core.specs.declared.script.Task.TheVariants.{Cell, Query}
 use Rattle.jk_core.specs.declared.desk.Active.{Active}
 use Rattle.jk_core.specs.declared.desk.Wants.{Wants}
 use Rattle.jk_core.specs.declared.desk.Wants.TheVariants.{Nothing, Asked, Given}
-use Rattle.jk_core.specs.declared.mark.Cause.TheVariants.{Interrupted}
+use Rattle.jk_log.specs.declared.mark.Cause.TheVariants.{Interrupted}
 use Rattle.jk_core.specs.declared.desk.Place.{Place}
 use Rattle.jk_core.specs.declared.desk.Place.TheVariants.{Resting, Running as Runs}
 use Rattle.jk_core.specs.declared.desk.Desk.{Desk}
 use Rattle.jk_core.specs.declared.start.Opening.{Opening}
 use Rattle.jk_core.specs.declared.start.Opening.TheVariants as opening
-use Rattle.jk_core.specs.Results.{IsResult}
-use Rattle.jk_core.specs.Log.{Log, option_or, Running, running, waiting, session, shown_in, stood_in, nones, left, count, execute_at, input_at}
-use Rattle.jk_core.specs.Legal.{Answers, EachFollows, Due, owed, StopsFor}
+use Rattle.jk_log.specs.Results.{IsResult}
+use Rattle.jk_log.specs.Log.{Log, option_or, Running, running, waiting, session, shown_in, stood_in, nones, left, count, execute_at, input_at}
+use Rattle.jk_log.specs.Legal.{Answers, EachFollows, Due, owed, StopsFor}
 use Rattle.jk_core.specs.State.{KernelState, is_cell}
 use Rattle.jk_core.specs.Steps.{by_task, has_lines, interrupted, noted, shut, AnswersFirst}
 use Rattle.jk_core.specs.declared.kernel.Work.{Work}

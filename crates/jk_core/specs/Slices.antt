@@ -10,8 +10,8 @@ use Rattle.jk_language.specs.Runs.{IsGiven, OutcomeIs, tells_end, tells_line}
 use Rattle.jk_core.specs.declared.desk.Active.{Active}
 use Rattle.jk_core.specs.declared.desk.Wants.{Wants}
 use Rattle.jk_core.specs.declared.desk.Wants.TheVariants.{Nothing, Asked, Given}
-use Rattle.jk_core.specs.Log.{Log, Running, running, session, meaning, stood, left}
-use Rattle.jk_core.specs.Legal.{IsLineless}
+use Rattle.jk_log.specs.Log.{Log, Running, running, session, meaning, stood, left}
+use Rattle.jk_log.specs.Legal.{IsLineless}
 use Rattle.jk_core.specs.State.{KernelState}
 use Rattle.jk_core.specs.Steps.{has_lines, GoesWithout}
 use Rattle.jk_core.specs.Kept.{IsOf}

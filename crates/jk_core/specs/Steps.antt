@@ -10,32 +10,32 @@ use Rattle.jk_language.specs.declared.outcome.Turned.{Turned}
 use Rattle.jk_language.specs.declared.outcome.Turned.TheVariants as turned
 use Rattle.jk_language.specs.Runs.{IsGiven, OutcomeIs}
 use Rattle.jp_msg.specs.declared.message.Execute.{Execute}
-use Rattle.jk_core.specs.declared.arrival.Arrival.{Arrival}
-use Rattle.jk_core.specs.declared.arrival.Sort.{Sort}
-use Rattle.jk_core.specs.declared.arrival.Sort.TheVariants as sort
+use Rattle.jk_log.specs.declared.arrival.Arrival.{Arrival}
+use Rattle.jk_log.specs.declared.arrival.Sort.{Sort}
+use Rattle.jk_log.specs.declared.arrival.Sort.TheVariants as sort
 use Rattle.jp_msg.specs.declared.message.Completeness.{Completeness}
-use Rattle.jk_core.specs.Asked.{query_in, input_in, sort_as}
-use Rattle.jk_core.specs.Queries.{IsStatusOf}
-use Rattle.jk_core.specs.declared.job.Job.{Job}
-use Rattle.jk_core.specs.Results.{Reading}
+use Rattle.jk_log.specs.Asked.{query_in, input_in, sort_as}
+use Rattle.jk_log.specs.Queries.{IsStatusOf}
+use Rattle.jk_log.specs.declared.job.Job.{Job}
+use Rattle.jk_log.specs.Results.{Reading}
 use Rattle.jk_core.specs.declared.kernel.Used.{Used}
 use Rattle.jk_core.specs.declared.kernel.Used.TheVariants.{Kept, Stranger}
-use Rattle.jk_core.specs.declared.job.Parsed.{Parsed}
-use Rattle.jk_core.specs.declared.job.Parsed.TheVariants as parsed
-use Rattle.jk_core.specs.declared.mark.Item.TheVariants.{Took, Marked}
-use Rattle.jk_core.specs.declared.mark.Kind.{Kind}
-use Rattle.jk_core.specs.declared.mark.Kind.TheVariants.{Join, Leave, Begin, Flush, Ask, Line, End, Stop, Refuse, Abort, Answer, Interrupt, KernelInfo, Restart}
-use Rattle.jk_core.specs.declared.mark.Ending.TheVariants as ending
-use Rattle.jk_core.specs.declared.mark.Cause.{Cause}
-use Rattle.jk_core.specs.declared.mark.Cause.TheVariants as cause
+use Rattle.jk_log.specs.declared.job.Parsed.{Parsed}
+use Rattle.jk_log.specs.declared.job.Parsed.TheVariants as parsed
+use Rattle.jk_log.specs.declared.mark.Item.TheVariants.{Took, Marked}
+use Rattle.jk_log.specs.declared.mark.Kind.{Kind}
+use Rattle.jk_log.specs.declared.mark.Kind.TheVariants.{Join, Leave, Begin, Flush, Ask, Line, End, Stop, Refuse, Abort, Answer, Interrupt, KernelInfo, Restart}
+use Rattle.jk_log.specs.declared.mark.Ending.TheVariants as ending
+use Rattle.jk_log.specs.declared.mark.Cause.{Cause}
+use Rattle.jk_log.specs.declared.mark.Cause.TheVariants as cause
 use Rattle.jk_core.specs.declared.kernel.Work.{Work}
 use Rattle.jk_core.specs.declared.kernel.Work.TheVariants.{Rest, NeedsParse, Ran, NeedsLine, NoMemory}
 use Rattle.jk_core.specs.declared.script.Waiting.{Waiting}
 use Rattle.jk_core.specs.declared.script.Task.{Task}
 use Rattle.jk_core.specs.declared.script.Task.TheVariants.{Cell, Query}
-use Rattle.jk_core.specs.Log.{Log, Running, running, session, meaning, stood, lined, left, asker, count, next_count, arrivals, ended, execute_at, option_with, option_or}
-use Rattle.jk_core.specs.Legal.{MayAsk, Lacks}
-use Rattle.jk_core.specs.Render.{entries_at}
+use Rattle.jk_log.specs.Log.{Log, Running, running, session, meaning, stood, lined, left, asker, count, next_count, arrivals, ended, execute_at, option_with, option_or}
+use Rattle.jk_log.specs.Legal.{MayAsk, Lacks}
+use Rattle.jk_log.specs.Render.{entries_at}
 use Rattle.jk_core.specs.State.{KernelState, is_cell}
 
 -- the turns of the cell that runs, after a mark

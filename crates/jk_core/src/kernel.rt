@@ -1,19 +1,18 @@
 //! The kernel, as its driver calls it.
 
 ghost use Rattle.std.specs.Prelude.{◌≡◌, [], length, take, OnOk, OnErr, IfOk, IfErr, Ok};
-ghost use Rattle.jk_core.specs.Legal.{IsLegal};
+ghost use Rattle.jk_log.specs.Legal.{IsLegal};
 ghost use Rattle.jk_core.specs.Steps.{Takes, without, is_at_rest as rests, Works, GivesJob, Hands};
-ghost use Rattle.jk_core.specs.Log.{ended as ended_of};
-ghost use Rattle.jk_core.specs.State.{joined, fresh};
+ghost use Rattle.jk_log.specs.Log.{ended as ended_of};
+ghost use Rattle.jk_log.specs.Pending.{joined};
+ghost use Rattle.jk_core.specs.State.{fresh};
 
-use crate::arrival::Arrival;
 use crate::desk::{Desk, Place, new_desk};
-use crate::entry::Entry;
-use crate::job::{Job, ParsedCell};
 use crate::run::work_on;
 use crate::script::{Script, keep};
 use crate::taking::take_in;
 use jk_language::Language;
+use jk_log::{Arrival, Entry, Job, ParsedCell};
 use std::alloc::{AllocError, AllocFailed, Global};
 use std::marker::Model;
 

@@ -1,7 +1,7 @@
 //! One slice: the cell that runs goes on, or what waits first begins.
 
 ghost use Rattle.std.specs.Prelude.{◌≡◌, ℕ, ◌≤◌, false, length, Some, None, ◌⊎◌, OnOk, OnErr};
-ghost use Rattle.jk_core.specs.Log.{count as count_of, running};
+ghost use Rattle.jk_log.specs.Log.{count as count_of, running};
 ghost use Rattle.jk_core.specs.Steps.{Works, answering};
 ghost use Rattle.jk_core.specs.Kept.{IsKept, RunsBy, Stands, first_is_read as first_is_read_of, is_asking, is_read as is_read_of};
 ghost use Rattle.jk_core.specs.Slices.{IsAtWork};

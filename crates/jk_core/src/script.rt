@@ -5,17 +5,16 @@ ghost use Rattle.std.specs.Vec.{vec_capacity, vec_len};
 ghost use Rattle.jk_core.specs.Steps.{closing, noted, took, waits_with, with_waits, with_ran, ran_after, without, GivesJob, Hands, CanKeep, first_after as first_after_of};
 ghost use Rattle.jk_core.specs.Kept.{AllWait, IsKept};
 ghost use Rattle.jk_core.specs.State.{Ascends, PassedBy, WaitingOf, is_cell as is_cell_of};
-ghost use Rattle.jk_core.specs.Log.{arrival_at, ended as ended_of, ends as ends_of, execute_at, input_at, seat_at, left, option_with};
-ghost use Rattle.jk_core.specs.State.{first_of, fresh, joined, pending_from};
+ghost use Rattle.jk_log.specs.Log.{ended as ended_of, ends as ends_of, execute_at, input_at, seat_at, left, option_with};
+ghost use Rattle.jk_core.specs.State.{first_of, fresh};
+ghost use Rattle.jk_log.specs.Pending.{joined, pending_from};
 
-use crate::arrival::{Arrival, Sort, execute_sent, input_sent, sort_of};
-use crate::entry::Entry;
-use crate::job::{Job, Parsed, ParsedCell};
 use crate::kernel::Used;
-use crate::leaves::Leaves;
-use crate::mark::{Item, Kind, Mark};
-use crate::show::next_entries;
 use jk_language::Language;
+use jk_log::{
+    Arrival, Entry, Item, Job, Kind, Leaves, Mark, Parsed, ParsedCell, Sort, arrival_in,
+    execute_sent, input_sent, next_entries, sort_of,
+};
 use jp_msg::{Completeness, Execute};
 use json_form::Text;
 use std::alloc::{AllocError, AllocFailed, Global};
@@ -60,8 +59,9 @@ pub(crate) struct Script<T> {
 impl<T> Model for Script<T> {
     ghost use Rattle.std.specs.Prelude.{◌≡◌, ◌-◌, ◌≤◌, ◌<◌, ℕ, Some, length, reverse, slice_get};
     ghost use Rattle.std.specs.Vec.{vec_capacity, vec_len};
-    ghost use Rattle.jk_core.specs.Log.{arrivals, ended as ended_of};
-    ghost use Rattle.jk_core.specs.State.{Ascends, PassedBy, last_leave};
+    ghost use Rattle.jk_log.specs.Log.{arrivals, ended as ended_of};
+    ghost use Rattle.jk_core.specs.State.{Ascends, PassedBy};
+    ghost use Rattle.jk_log.specs.Leaving.{last_leave};
     ghost use Rattle.jk_core.specs.State.{ScriptState, state_of};
     ghost use Rattle.std.specs.Coded.{codes};
     ghost use Rattle.json_form.specs.contracts.kept.Json as json;
@@ -353,19 +353,6 @@ fn ended_by(kind: &Kind, ended: bool) -> bool
         | Kind::Answer { .. }
         | Kind::Interrupt
         | Kind::KernelInfo => ended,
-    }
-}
-
-/// The arrival at a place of these items.
-pub(crate) fn arrival_in(items: &[Item], at: usize) -> Option<&Arrival>
-    ensures { option_copied result ≡ arrival_at at (reverse items.now) }
-{
-    match items.get(at) {
-        Some(item) => match item {
-            Item::Took(arrival) => Some(arrival),
-            Item::Marked(_) => None,
-        },
-        None => None,
     }
 }
 

@@ -1,7 +1,7 @@
 //! Slices of a cell that runs.
 
 ghost use Rattle.std.specs.Prelude.{false, IsTrue, ◌&&◌, ◌≡◌, ℕ, ◌+◌, ◌-◌, ◌<◌, ◌≤◌, ◌^◌, Some, None, if◌then◌else◌, length, IfSome, IfNone, OnOk, OnErr};
-ghost use Rattle.jk_core.specs.Log.{count as count_of, left, running, Running};
+ghost use Rattle.jk_log.specs.Log.{count as count_of, left, running, Running};
 ghost use Rattle.jk_core.specs.Steps.{flushed, failing, limit as limit_of, noted, GoesOn};
 ghost use Rattle.jk_core.specs.Kept.{Stands};
 ghost use Rattle.jk_core.specs.Slices.{IsAtWork, HasCome, HasStuck, may_ask as may_ask_of};
@@ -10,10 +10,10 @@ ghost use Rattle.jk_language.specs.Runs.{HasTurned};
 
 use crate::desk::{Active, Desk, Place, Wants};
 use crate::kernel::Work;
-use crate::mark::{Cause, Ending, Kind};
 use crate::script::Script;
 use crate::taking::fail;
 use jk_language::{Language, Turned};
+use jk_log::{Cause, Ending, Kind};
 use json_form::Text;
 
 /// Runs a cell for at most so many turns, flushes it, and marks its end if it ended.

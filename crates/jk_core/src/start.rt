@@ -1,21 +1,20 @@
 //! Beginning what waits first.
 
 ghost use Rattle.std.specs.Prelude.{◌≡◌, ◌≢◌, ℕ, ◌+◌, ◌≤◌, List, length, true, IfOk, IfErr, Some, None, ◌⊎◌};
-ghost use Rattle.jk_core.specs.Log.{count as count_of, session as session_of, next_count as next_count_of, execute_at, running};
-ghost use Rattle.jk_core.specs.Results.{IsResult};
+ghost use Rattle.jk_log.specs.Log.{count as count_of, session as session_of, next_count as next_count_of, execute_at, running};
+ghost use Rattle.jk_log.specs.Results.{IsResult};
 ghost use Rattle.jk_core.specs.Steps.{answering, stops_at as stops_at_of, allows_at as allows_at_of, broken, BeginsAt, IsBrokenAt};
 ghost use Rattle.jp_msg.specs.declared.message.Execute.{Execute as ExecuteOf};
 ghost use Rattle.jk_core.specs.Kept.{IsKept, Stands, Opens, StartsOr, first_is_read};
 ghost use Rattle.jk_language.specs.Beginning.{IsFresh};
 
 use crate::desk::{Active, Desk, Place, Wants};
-use crate::job::Parsed;
 use crate::kernel::Work;
-use crate::mark::{Ending, Kind};
 use crate::script::{Script, Task};
 use crate::slice::go_on;
 use crate::taking::fail;
 use jk_language::{Begun, Language, Refusal};
+use jk_log::{Ending, Kind, Parsed};
 use json_form::Text;
 use std::alloc::Global;
 

@@ -1,17 +1,15 @@
 //! Taking what arrives, and the marks that stand directly after it.
 
 ghost use Rattle.std.specs.Prelude.{◌≡◌, ℕ, ◌+◌, ◌<◌, ◌≤◌, List, is_some, length, OnOk, IfOk, IfErr, IfSome};
-ghost use Rattle.jk_core.specs.Asked.{input_in};
-ghost use Rattle.jk_core.specs.Log.{asker, running};
+ghost use Rattle.jk_log.specs.Asked.{input_in};
+ghost use Rattle.jk_log.specs.Log.{asker, running};
 ghost use Rattle.jk_core.specs.Steps.{Takes, aborting, failing, interrupted, shut, stopped, stops_with};
 ghost use Rattle.jk_core.specs.Kept.{IsKept, IsLineBy, IsLineFor, Stands, StandsFor, CanStop, line_to, lined_up, marked_as};
 
-use crate::arrival::{Arrival, Sort, input_sent, sort_of};
 use crate::desk::{Active, Desk, Place, Wants, take_place};
-use crate::mark::{Cause, Kind};
-use crate::query::status_of;
 use crate::script::{Script, closing_kind};
 use jk_language::Language;
+use jk_log::{Arrival, Cause, Kind, Sort, input_sent, sort_of, status_of};
 use json_form::Text;
 use std::alloc::{AllocError, AllocFailed};
 

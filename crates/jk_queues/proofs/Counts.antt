@@ -1,7 +1,7 @@
 -- How many arrivals stand in an inbox of which all seats are known.
 use Rattle.std.proofs.Common.{◌≡◌, ℕ, zero, suc, ◌+◌, ◌<◌, ◌≤◌, ◌==◌, Bool, true, false, cond, List, [], ◌∷◌, ◌++◌, length, sym, refl, ap, ◌∙◌, subst, arith, lit<}
 use Rattle.std.proofs.lemmas.List.{length-append}
-use Rattle.jk_core.specs.declared.arrival.Arrival.{Arrival}
+use Rattle.jk_log.specs.declared.arrival.Arrival.{Arrival}
 use Rattle.jk_queues.specs.declared.part.Part.{Part}
 use Rattle.jk_queues.specs.declared.part.Sender.{Sender}
 use Rattle.crossbeam_queue.specs.Fifo.{Held}

@@ -3,7 +3,7 @@ use denote.Param.Send.{IsSend, sendable}
 use Rattle.std.proofs.Crossing.{crosses}
 use Rattle.atomic_table.proofs.shared.Seat.TheSendSync as pass
 use Rattle.crossbeam_queue.proofs.array_queue.Slotted.TheSendSync as queue
-use Rattle.jk_core.proofs.Crossing.{arrival_send}
+use Rattle.jk_log.proofs.Crossing.{arrival_send}
 use Rattle.jk_queues.specs.contracts.inbox.Seat as Seat
 use Rattle.jk_queues.specs.contracts.inbox.Taker as Taker
 

@@ -6,7 +6,7 @@ use lib.ListN.{get_elem?}
 use Rattle.crossbeam_queue.specs.Fifo.{Pushes, Pops, Forks, Merges, Learns}
 use Rattle.crossbeam_queue.proofs.Lists.{at_set}
 use Rattle.std.proofs.lemmas.List.{length-append}
-use Rattle.jk_core.specs.declared.arrival.Arrival.{Arrival}
+use Rattle.jk_log.specs.declared.arrival.Arrival.{Arrival}
 use Rattle.jk_queues.specs.declared.part.Part.{Part}
 use Rattle.jk_queues.specs.declared.part.Sender.{Sender}
 use Rattle.jk_queues.specs.Inbox.{sender, part, of, Each, SentIn, IsSeated, Fits, InOrder, Stands, sends, takes, nobody, own, fresh, whole}

@@ -2,8 +2,8 @@
 use Rattle.std.proofs.Common.{◌≡◌, All, List, [], ◌∷◌, ◌++◌, map, refl, sym, ap, ◌∙◌, append_assoc, append-nil}
 use Rattle.std.proofs.lemmas.List.{map-append}
 use Rattle.std.proofs.lemmas.List.Elements.{All-push, All-same, All-weaker}
-use Rattle.jk_core.specs.declared.job.Job.{Job}
-use Rattle.jk_core.specs.Results.{Reading}
+use Rattle.jk_log.specs.declared.job.Job.{Job}
+use Rattle.jk_log.specs.Results.{Reading}
 use Rattle.jk_queues.specs.declared.pool.Pool.{Pool}
 use Rattle.jk_queues.specs.declared.pool.WorkerEnd.{WorkerEnd}
 use Rattle.jk_queues.specs.Pool.{taken_by, made_by, IsNewEnd, IsSamePool, IsSameEnd}

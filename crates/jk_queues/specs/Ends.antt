@@ -4,7 +4,7 @@ use Rattle.std.specs.Prelude.{◌≡◌, ℕ, false, List, [], ◌∷◌}
 use Rattle.atomic_table.specs.Seated.{TableId}
 use Rattle.crossbeam_queue.specs.Passes.{view}
 use Rattle.jk_queues.specs.Inbox.{own, of, part, sender}
-use Rattle.jk_core.specs.declared.arrival.Arrival.{Arrival}
+use Rattle.jk_log.specs.declared.arrival.Arrival.{Arrival}
 use Rattle.jk_queues.specs.declared.part.Part.{Part}
 use Rattle.jk_queues.specs.declared.inbox.Seat.{Seat}
 use Rattle.jk_queues.specs.declared.inbox.Seats.{Seats}

@@ -4,7 +4,7 @@ use Rattle.std.specs.Prelude.{◌≡◌, ℕ, ◌-◌, ◌<◌, ◌≤◌, ◌==
 use Rattle.std.specs.List.{filter}
 use mathlib.Core.Option.{some}
 use lib.ListN.{get_elem?}
-use Rattle.jk_core.specs.declared.arrival.Arrival.{Arrival}
+use Rattle.jk_log.specs.declared.arrival.Arrival.{Arrival}
 use Rattle.jk_queues.specs.declared.part.Part.{Part}
 use Rattle.jk_queues.specs.declared.part.Sender.{Sender}
 

@@ -4,7 +4,7 @@ use Rattle.std.specs.Prelude.{◌≡◌, Bool, List, []}
 use Rattle.atomic_table.specs.Seated.{TableId}
 use Rattle.crossbeam_queue.specs.Passes.{view}
 use Rattle.crossbeam_utils.specs.Seq.{cell_view}
-use Rattle.jk_core.specs.declared.job.Job.{Job}
+use Rattle.jk_log.specs.declared.job.Job.{Job}
 use Rattle.jk_queues.specs.declared.line.Hand.{Hand}
 use Rattle.jk_queues.specs.declared.pool.Pool.{Pool}
 use Rattle.jk_queues.specs.declared.pool.WorkerEnd.{WorkerEnd}

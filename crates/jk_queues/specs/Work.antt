@@ -1,8 +1,8 @@
 -- To be believed.
 -- What a worker has done.
 use Rattle.std.specs.Prelude.{◌≡◌, ℕ, ◌≤◌, true, List, [], ◌∷◌, ◌++◌, map, length}
-use Rattle.jk_core.specs.declared.job.Job.{Job}
-use Rattle.jk_core.specs.Results.{Reading}
+use Rattle.jk_log.specs.declared.job.Job.{Job}
+use Rattle.jk_log.specs.Results.{Reading}
 use Rattle.jk_queues.specs.Pool.{taken_by, made_by, found_stopped, IsSameEnd}
 use Rattle.jk_queues.specs.declared.pool.WorkerEnd.{WorkerEnd}
 use Rattle.jk_queues.specs.declared.pool.work.Round.{Round}

@@ -7,7 +7,7 @@ ghost use Rattle.jk_queues.specs.Inbox.{own};
 use crate::part::Part;
 use crate::rule::Queue;
 use crossbeam_queue::Pass;
-use jk_core::Arrival;
+use jk_log::Arrival;
 use std::alloc::Global;
 use std::sync::Arc;
 

@@ -10,5 +10,5 @@ pub mod rule;
 pub mod stop;
 
 pub use inbox::{Full, Inbox, Left, Seat, Seats, Taker, close};
-pub use jk_core::{Job, ParsedCell};
+pub use jk_log::{Job, ParsedCell};
 pub use pool::{Gate, Pool, WorkerEnd, worker};

@@ -1,6 +1,6 @@
 //! What the passes of the inbox know. No value of these types is made.
 
-use jk_core::Arrival;
+use jk_log::Arrival;
 use std::collections::LinkedList;
 
 /// A seat and all that it sent.

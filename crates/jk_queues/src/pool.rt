@@ -8,7 +8,7 @@ use crate::line::{Hand, OnePusher, OneTaker};
 use crate::stop::{Known, Stop};
 use crossbeam_queue::{Pass, RuledArrayQueue};
 use crossbeam_utils::atomic::seq_cell;
-use jk_core::Job;
+use jk_log::Job;
 use std::alloc::Global;
 use std::sync::Arc;
 

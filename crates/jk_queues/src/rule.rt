@@ -3,7 +3,7 @@
 use crate::part::Part;
 use crossbeam_queue::RuledArrayQueue;
 use crossbeam_queue::protocol::{Join, Lesson, Outcome, Protocol, Split};
-use jk_core::Arrival;
+use jk_log::Arrival;
 
 /// Of each seat, what was taken and then what stands in the queue is what it sent, in order.
 pub struct InOrder;
@@ -38,7 +38,7 @@ pub struct Takes;
 impl Outcome<Arrival, Part> for Takes {
     ghost use Rattle.std.specs.Prelude.{◌≡◌, ◌∷◌, List};
     ghost use Rattle.jk_queues.specs.Inbox.{takes, Stands};
-    ghost use Rattle.jk_core.specs.declared.arrival.Arrival.{Arrival};
+    ghost use Rattle.jk_log.specs.declared.arrival.Arrival.{Arrival};
 
     ghost then = { λ v x w. (w ≡ takes v x) × ((items : List Arrival) × Stands v (x ∷ items)) };
 }

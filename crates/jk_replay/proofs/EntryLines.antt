@@ -1,7 +1,7 @@
 -- Lines of entries, one more at a time.
 use Rattle.std.proofs.Common.{◌≡◌, ℕ, ◌+◌, ◌<◌, List, [], ◌∷◌, ◌++◌, length, take, get_or, sym, ap, ◌∙◌, append_assoc, append-nil}
 use Rattle.std.proofs.lemmas.List.{take_more}
-use Rattle.jk_core.specs.declared.entry.Entry.{Entry}
+use Rattle.jk_log.specs.declared.entry.Entry.{Entry}
 use Rattle.jk_replay.specs.Shown.{entry_line, entry_lines}
 
 lines_append : (xs : List Entry) (x : Entry) → entry_lines (xs ++ x ∷ []) ≡ entry_lines xs ++ entry_line x

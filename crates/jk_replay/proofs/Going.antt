@@ -2,18 +2,19 @@
 use Rattle.std.proofs.Common.{◌≡◌, ℕ, zero, suc, List, [], ◌∷◌, ◌++◌, length, refl, sym, ap, ◌∙◌, subst, append_assoc, append-nil, arith, inl, inr}
 use Rattle.std.proofs.lemmas.List.{take_all, drop_all}
 use Rattle.jk_language.specs.Spoken.{Spoken, IsLanguage}
-use Rattle.jk_core.specs.declared.arrival.Arrival.{Arrival}
-use Rattle.jk_core.specs.declared.arrival.What.{What}
-use Rattle.jk_core.specs.declared.arrival.What.TheVariants as what
-use Rattle.jk_core.specs.declared.entry.Entry.{Entry}
+use Rattle.jk_log.specs.declared.arrival.Arrival.{Arrival}
+use Rattle.jk_log.specs.declared.arrival.What.{What}
+use Rattle.jk_log.specs.declared.arrival.What.TheVariants as what
+use Rattle.jk_log.specs.declared.entry.Entry.{Entry}
 use Rattle.jk_core.specs.declared.kernel.Used.{Used}
 use Rattle.jk_core.specs.declared.kernel.Used.TheVariants.{Kept, Stranger}
 use Rattle.jk_core.specs.declared.kernel.Work.{Work}
 use Rattle.jk_core.specs.Kept.{IsKept}
-use Rattle.jk_core.specs.Legal.{IsLegal}
-use Rattle.jk_core.specs.Render.{render}
-use Rattle.jk_core.specs.Results.{Reading}
-use Rattle.jk_core.specs.State.{KernelState, fresh, joined}
+use Rattle.jk_log.specs.Legal.{IsLegal}
+use Rattle.jk_log.specs.Render.{render}
+use Rattle.jk_log.specs.Results.{Reading}
+use Rattle.jk_core.specs.State.{KernelState, fresh}
+use Rattle.jk_log.specs.Pending.{joined}
 use Rattle.jk_core.specs.Steps.{Hands, Works, with_given, without}
 use Rattle.jk_core.proofs.Handed.{kept-hands}
 use Rattle.jk_core.proofs.Keeps.{kept-takes, kept-works, kept_legal}

@@ -4,8 +4,8 @@ use Rattle.std.specs.Prelude.{IfOk, OnOk}
 use Rattle.std.specs.declared.alloc.Global.{Global}
 use Rattle.jp_msg.specs.declared.message.Message.{Message}
 use Rattle.jk_language.specs.Spoken.{Spoken}
-use Rattle.jk_core.specs.declared.arrival.What.{What}
-use Rattle.jk_core.specs.declared.arrival.What.TheVariants as what
+use Rattle.jk_log.specs.declared.arrival.What.{What}
+use Rattle.jk_log.specs.declared.arrival.What.TheVariants as what
 use Rattle.jk_core.specs.State.{KernelState}
 use Rattle.jk_replay.specs.declared.step.Step.TheVariants as step
 use Rattle.jk_replay.specs.Replaying.{ReplayState, Joins, Sends, sent_on, ParsesOne, shown, pending_lines, StepDone, with_kernel, with_seat}

@@ -7,14 +7,15 @@ use Rattle.jp_msg.specs.declared.message.Message.{Message}
 use Rattle.jp_msg.specs.declared.message.Channel.{Channel}
 use Rattle.jp_msg.specs.declared.message.Channel.TheVariants as channel
 use Rattle.jk_language.specs.Spoken.{Spoken}
-use Rattle.jk_core.specs.declared.arrival.What.{What}
-use Rattle.jk_core.specs.declared.arrival.What.TheVariants as what
-use Rattle.jk_core.specs.declared.job.Job.{Job}
+use Rattle.jk_log.specs.declared.arrival.What.{What}
+use Rattle.jk_log.specs.declared.arrival.What.TheVariants as what
+use Rattle.jk_log.specs.declared.job.Job.{Job}
 use Rattle.jk_core.specs.declared.kernel.Used.{Used}
 use Rattle.jk_core.specs.declared.kernel.Work.{Work}
 use Rattle.jk_core.specs.declared.kernel.Work.TheVariants as work
-use Rattle.jk_core.specs.Results.{Reading, IsResult}
-use Rattle.jk_core.specs.State.{KernelState, joined}
+use Rattle.jk_log.specs.Results.{Reading, IsResult}
+use Rattle.jk_core.specs.State.{KernelState}
+use Rattle.jk_log.specs.Pending.{joined}
 use Rattle.jk_core.specs.Steps.{Takes, GivesJob, Hands, Works, without}
 use Rattle.jk_replay.specs.declared.step.Step.{Step}
 use Rattle.jk_replay.specs.declared.step.Step.TheVariants as step

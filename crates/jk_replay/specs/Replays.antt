@@ -7,9 +7,9 @@ use Rattle.json_form.specs.declared.fault.Fault.{Fault}
 use Rattle.json_form.specs.declared.fault.Fault.TheVariants.{NotJson, TooLong}
 use Rattle.json_form.specs.Forms.{◌>>=◌}
 use Rattle.jk_language.specs.Spoken.{Spoken}
-use Rattle.jk_core.specs.Legal.{IsLegal}
-use Rattle.jk_core.specs.Log.{running}
-use Rattle.jk_core.specs.Render.{render}
+use Rattle.jk_log.specs.Legal.{IsLegal}
+use Rattle.jk_log.specs.Log.{running}
+use Rattle.jk_log.specs.Render.{render}
 use Rattle.jk_core.specs.State.{KernelState, fresh}
 use Rattle.jk_core.specs.Steps.{FirstUnread, IsAsking, is_at_rest}
 use Rattle.jk_replay.specs.declared.input.Line.{Line}

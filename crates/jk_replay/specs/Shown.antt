@@ -7,12 +7,12 @@ use Rattle.jp_msg.specs.declared.message.Message.{Message}
 use Rattle.jp_msg.specs.declared.message.Output.{Output}
 use Rattle.jp_msg.specs.Building.{output_type}
 use Rattle.jp_msg.specs.Writing.{fields, channel_name, output_form}
-use Rattle.jk_core.specs.declared.entry.Entry.{Entry}
-use Rattle.jk_core.specs.declared.entry.To.{To}
-use Rattle.jk_core.specs.declared.entry.To.TheVariants.{All, Seat, Nobody}
-use Rattle.jk_core.specs.declared.entry.Told.{Told}
-use Rattle.jk_core.specs.declared.entry.Told.TheVariants.{Joined, Left}
-use Rattle.jk_core.specs.declared.entry.Told.TheVariants as told
+use Rattle.jk_log.specs.declared.entry.Entry.{Entry}
+use Rattle.jk_log.specs.declared.entry.To.{To}
+use Rattle.jk_log.specs.declared.entry.To.TheVariants.{All, Seat, Nobody}
+use Rattle.jk_log.specs.declared.entry.Told.{Told}
+use Rattle.jk_log.specs.declared.entry.Told.TheVariants.{Joined, Left}
+use Rattle.jk_log.specs.declared.entry.Told.TheVariants as told
 
 -- the identifier of the parent
 abbrev pub parent_id : Option Message → List ℕ

@@ -7,8 +7,9 @@ ghost use Rattle.jk_replay.specs.Replays.{opening};
 
 use crate::show::show;
 use crate::step::Step;
-use jk_core::{Arrival, Kernel, What, Work};
+use jk_core::{Kernel, Work};
 use jk_language::Language;
+use jk_log::{Arrival, What};
 use jp_msg::{Channel, Message};
 use json_form::{Fault, Shared};
 use std::alloc::{AllocError, Global};

@@ -7,7 +7,7 @@ ghost use Rattle.serde_json.specs.Written.{has_float, compact_text};
 ghost use Rattle.std.specs.Prelude.{codes};
 ghost use Rattle.jk_replay.specs.Shown as spec;
 
-use jk_core::{Entry, To, Told};
+use jk_log::{Entry, To, Told};
 use jp_msg::{Output, output_json};
 use json_form::Json;
 use serde_json::{Value, json};

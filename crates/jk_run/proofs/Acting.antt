@@ -2,15 +2,16 @@
 use Rattle.std.proofs.Common.{◌≡◌, ℕ, true, false, inl, inr, List, [], ◌∷◌, ◌++◌, take, refl, sym, ◌∙◌, ap, subst, Option, None, Some}
 use Rattle.std.proofs.lemmas.List.{append-nil}
 use Rattle.jk_language.specs.Spoken.{Spoken}
-use Rattle.jk_core.specs.declared.arrival.Arrival.{Arrival}
-use Rattle.jk_core.specs.declared.entry.Entry.{Entry}
-use Rattle.jk_core.specs.declared.job.Job.{Job}
+use Rattle.jk_log.specs.declared.arrival.Arrival.{Arrival}
+use Rattle.jk_log.specs.declared.entry.Entry.{Entry}
+use Rattle.jk_log.specs.declared.job.Job.{Job}
 use Rattle.jk_core.specs.declared.kernel.Used.{Used}
 use Rattle.jk_core.specs.declared.kernel.Used.TheVariants.{Kept, Stranger}
 use Rattle.jk_core.specs.declared.kernel.Work.{Work as Worked}
-use Rattle.jk_core.specs.Log.{ended, takes}
-use Rattle.jk_core.specs.Results.{Reading}
-use Rattle.jk_core.specs.State.{KernelState, joined}
+use Rattle.jk_log.specs.Log.{ended, takes}
+use Rattle.jk_log.specs.Results.{Reading}
+use Rattle.jk_core.specs.State.{KernelState}
+use Rattle.jk_log.specs.Pending.{joined}
 use Rattle.jk_core.specs.Steps.{Takes, GivesJob, Hands, Works, without}
 use Rattle.jk_core.proofs.Shown.{IsShown, shown_takes, shown_without, shown_works, takes_taken}
 use Rattle.jk_run.specs.Acts.{DriverState, driven, Act, Take, GiveJob, Hand, Work, Publish, Does, Drives, Leads, MovesKernel, GivesJobs, HandsResults, MovesBoard}

@@ -2,10 +2,11 @@
 use Rattle.std.proofs.Common.{◌≡◌, List, [], ◌∷◌, ◌++◌, take, refl, sym, ◌∙◌, ap, subst, true, false, inl, inr}
 use Rattle.std.specs.Prelude.{remove}
 use Rattle.jk_language.specs.Spoken.{Spoken}
-use Rattle.jk_core.specs.declared.arrival.Arrival.{Arrival}
-use Rattle.jk_core.specs.declared.entry.Entry.{Entry}
-use Rattle.jk_core.specs.State.{KernelState, joined}
-use Rattle.jk_core.specs.Log.{ended}
+use Rattle.jk_log.specs.declared.arrival.Arrival.{Arrival}
+use Rattle.jk_log.specs.declared.entry.Entry.{Entry}
+use Rattle.jk_core.specs.State.{KernelState}
+use Rattle.jk_log.specs.Pending.{joined}
+use Rattle.jk_log.specs.Log.{ended}
 use Rattle.jk_core.specs.Steps.{taken, GivesJob, Hands, Works, without}
 use Rattle.std.proofs.Common.{Some}
 use Rattle.jk_world.specs.World.{World, Event, Step, Takes}

@@ -5,19 +5,19 @@ use Rattle.jk_language.specs.Spoken.{Spoken}
 use Rattle.jk_language.specs.declared.outcome.Turned.{Turned}
 use Rattle.jk_language.specs.declared.outcome.Turned.TheVariants as turned
 use Rattle.jk_language.specs.declared.outcome.Refusal.{Refusal}
-use Rattle.jk_core.specs.declared.job.Job.{Job}
-use Rattle.jk_core.specs.declared.job.Parsed.{Parsed}
-use Rattle.jk_core.specs.declared.job.Parsed.TheVariants as parsed
+use Rattle.jk_log.specs.declared.job.Job.{Job}
+use Rattle.jk_log.specs.declared.job.Parsed.{Parsed}
+use Rattle.jk_log.specs.declared.job.Parsed.TheVariants as parsed
 use Rattle.jk_core.specs.declared.kernel.Used.{Used}
 use Rattle.jk_core.specs.declared.kernel.Used.TheVariants.{Kept, Stranger}
 use Rattle.jk_core.specs.declared.kernel.Work.{Work}
 use Rattle.jk_core.specs.declared.kernel.Work.TheVariants.{Rest, NeedsParse, Ran, NeedsLine, NoMemory}
-use Rattle.jk_core.specs.declared.mark.Kind.TheVariants.{Answer, Line}
+use Rattle.jk_log.specs.declared.mark.Kind.TheVariants.{Answer, Line}
 use Rattle.jk_core.specs.declared.script.Waiting.{Waiting}
 use Rattle.jk_core.specs.declared.script.Task.{Task}
 use Rattle.jk_core.specs.declared.script.Task.TheVariants.{Cell, Query}
-use Rattle.jk_core.specs.Log.{Running, lined, meaning}
-use Rattle.jk_core.specs.Results.{Reading}
+use Rattle.jk_log.specs.Log.{Running, lined, meaning}
+use Rattle.jk_log.specs.Results.{Reading}
 use Rattle.jk_core.specs.State.{KernelState, is_cell}
 use Rattle.jk_core.specs.Steps.{aborting, answering, begun, broken, closed, closing, failing, first_after, flushed, gone_on, has_lines, limit, noted, sliced, with_result, with_waits, written, AnswersFirst, Closes, GoesOn, GoesWithout, Hands, Moves, Starts, StartsAs, StartsFirst, Works}
 use Rattle.jk_core.proofs.Keeps.{by_tasks, some_same}

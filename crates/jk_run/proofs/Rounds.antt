@@ -4,18 +4,19 @@ use Rattle.std.proofs.lemmas.List.{append-nil, take-append-drop, drop_all}
 use Rattle.std.specs.declared.vec.Vec.{Vec}
 use Rattle.std.specs.declared.alloc.Global.{Global}
 use Rattle.jk_language.specs.Spoken.{Spoken}
-use Rattle.jk_core.specs.declared.arrival.Arrival.{Arrival}
-use Rattle.jk_core.specs.declared.entry.Entry.{Entry}
-use Rattle.jk_core.specs.declared.job.Job.{Job}
+use Rattle.jk_log.specs.declared.arrival.Arrival.{Arrival}
+use Rattle.jk_log.specs.declared.entry.Entry.{Entry}
+use Rattle.jk_log.specs.declared.job.Job.{Job}
 use Rattle.jk_core.specs.declared.kernel.Work.{Work}
-use Rattle.jk_core.specs.Legal.{IsLegal}
-use Rattle.jk_core.specs.Log.{Log, ended, ends, takes}
+use Rattle.jk_log.specs.Legal.{IsLegal}
+use Rattle.jk_log.specs.Log.{Log, ended, ends, takes}
 use Rattle.jk_core.proofs.Moves.{works_moves}
 use Rattle.jk_queues.specs.declared.part.Part.{Part}
 use Rattle.std.specs.Prelude.{◌||◌}
-use Rattle.jk_core.specs.Render.{render}
-use Rattle.jk_core.specs.Results.{Reading}
-use Rattle.jk_core.specs.State.{KernelState, joined}
+use Rattle.jk_log.specs.Render.{render}
+use Rattle.jk_log.specs.Results.{Reading}
+use Rattle.jk_core.specs.State.{KernelState}
+use Rattle.jk_log.specs.Pending.{joined}
 use Rattle.jk_core.specs.Steps.{without, Works}
 use Rattle.jk_core.proofs.Shown.{IsShown, joined-append, shown_works, takes_works}
 use Rattle.jk_board.specs.Boards.{IsBoard}

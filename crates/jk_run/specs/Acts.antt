@@ -2,14 +2,15 @@
 -- What a driver does, step by step: each act is a step of the world (`jk_world`) that the driver makes.
 use Rattle.std.specs.Prelude.{◌≡◌, false, ℕ, List, [], ◌∷◌, ◌++◌, take, Some}
 use Rattle.jk_language.specs.Spoken.{Spoken}
-use Rattle.jk_core.specs.declared.arrival.Arrival.{Arrival}
-use Rattle.jk_core.specs.declared.entry.Entry.{Entry}
-use Rattle.jk_core.specs.declared.job.Job.{Job}
+use Rattle.jk_log.specs.declared.arrival.Arrival.{Arrival}
+use Rattle.jk_log.specs.declared.entry.Entry.{Entry}
+use Rattle.jk_log.specs.declared.job.Job.{Job}
 use Rattle.jk_core.specs.declared.kernel.Used.{Used}
 use Rattle.jk_core.specs.declared.kernel.Work.{Work as Worked}
-use Rattle.jk_core.specs.Log.{ended}
-use Rattle.jk_core.specs.Results.{Reading}
-use Rattle.jk_core.specs.State.{KernelState, joined}
+use Rattle.jk_log.specs.Log.{ended}
+use Rattle.jk_log.specs.Results.{Reading}
+use Rattle.jk_core.specs.State.{KernelState}
+use Rattle.jk_log.specs.Pending.{joined}
 use Rattle.jk_core.specs.Steps.{Takes, GivesJob, Hands, Works, without}
 
 -- what a driver moves: the kernel, the board, the jobs that it gave and the results that it handed to the kernel, each in order

@@ -1,7 +1,7 @@
 -- To be believed.
 -- The world round a driver.
 use Rattle.std.specs.Prelude.{◌≡◌, ℕ, List, ◌∷◌, Some, slice_get}
-use Rattle.jk_core.specs.declared.arrival.Arrival.{Arrival}
+use Rattle.jk_log.specs.declared.arrival.Arrival.{Arrival}
 use Rattle.jk_world.specs.World.{World}
 use Rattle.jk_run.specs.Acts.{DriverState, Act, Take, GiveJob, Hand, Work, Publish}
 

@@ -1,13 +1,14 @@
 //! Taking what arrives.
 ghost use Rattle.std.specs.Prelude.{◌≡◌, ◌++◌, false, Some, MatchResult, IfNone};
-ghost use Rattle.jk_core.specs.Log.{ended, takes};
+ghost use Rattle.jk_log.specs.Log.{ended, takes};
 ghost use Rattle.jk_queues.specs.Ends.{taker_view, taker_inbox, taken_by};
 ghost use Rattle.jk_run.specs.Acts.{MovesKernel};
 ghost use Rattle.jk_run.specs.Driver.{IsEmptied};
 ghost use Rattle.jk_run.specs.Hand.{hand};
 
-use jk_core::{Arrival, Kernel};
+use jk_core::Kernel;
 use jk_language::Language;
+use jk_log::Arrival;
 use jk_queues::Taker;
 use std::sync::Wait;
 

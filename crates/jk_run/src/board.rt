@@ -1,15 +1,16 @@
 //! Publishing what is pending.
 ghost use Rattle.std.specs.Prelude.{◌≡◌, ◌++◌, true, None, Some, length, MatchOption};
-ghost use Rattle.jk_core.specs.Render.{render};
-ghost use Rattle.jk_core.specs.State.{joined};
+ghost use Rattle.jk_log.specs.Render.{render};
+ghost use Rattle.jk_log.specs.Pending.{joined};
 ghost use Rattle.jk_core.specs.Steps.{without};
 ghost use Rattle.jk_board.specs.Ends.{published};
 ghost use Rattle.jk_run.specs.Driver.{Publishes};
 ghost use Rattle.jk_run.specs.Hand.{hand_entries};
 
 use jk_board::Publisher;
-use jk_core::{Entry, Kernel};
+use jk_core::Kernel;
 use jk_language::Language;
+use jk_log::Entry;
 use std::alloc::Global;
 use std::sync::Wait;
 

@@ -1,15 +1,17 @@
 //! What a driver holds.
 ghost use Rattle.std.specs.Prelude.{◌≡◌, ◌++◌, [], None};
-ghost use Rattle.jk_core.specs.Log.{takes};
-ghost use Rattle.jk_core.specs.Render.{render};
-ghost use Rattle.jk_core.specs.State.{fresh, joined};
+ghost use Rattle.jk_log.specs.Log.{takes};
+ghost use Rattle.jk_log.specs.Render.{render};
+ghost use Rattle.jk_core.specs.State.{fresh};
+ghost use Rattle.jk_log.specs.Pending.{joined};
 ghost use Rattle.jk_queues.specs.Ends.{taken_by};
 ghost use Rattle.jk_board.specs.Ends.{published};
 ghost use Rattle.jk_run.specs.Hand.{hand, hand_entries};
 
 use jk_board::Publisher;
-use jk_core::{Arrival, Entry, Job, Kernel, ParsedCell};
+use jk_core::Kernel;
 use jk_language::Language;
+use jk_log::{Arrival, Entry, Job, ParsedCell};
 use jk_queues::{Pool, Taker};
 use std::alloc::Global;
 

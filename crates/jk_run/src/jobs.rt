@@ -1,13 +1,14 @@
 //! Giving jobs to the pool, and handing its results to the kernel.
 ghost use Rattle.std.specs.Prelude.{◌≡◌, ◌++◌, true, Option};
-ghost use Rattle.jk_core.specs.declared.job.Job.{Job};
+ghost use Rattle.jk_log.specs.declared.job.Job.{Job};
 ghost use Rattle.jk_queues.specs.Pool.{offered_by, collected_by, IsSamePool};
 ghost use Rattle.jk_run.specs.Acts.{GivesJobs, HandsResults};
 ghost use Rattle.jk_run.specs.Driver.{HasGiven};
 ghost use Rattle.jk_run.specs.Hand.{hand};
 
-use jk_core::{Job, Kernel, ParsedCell};
+use jk_core::Kernel;
 use jk_language::Language;
+use jk_log::{Job, ParsedCell};
 use jk_queues::Pool;
 use std::sync::Wait;
 

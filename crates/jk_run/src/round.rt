@@ -1,6 +1,6 @@
 //! Rounds of a driver.
 ghost use Rattle.std.specs.Prelude.{◌≡◌, ◌≢◌, ◌≤◌, true, None};
-ghost use Rattle.jk_core.specs.Legal.{IsLegal};
+ghost use Rattle.jk_log.specs.Legal.{IsLegal};
 ghost use Rattle.jk_core.specs.declared.kernel.Work.TheVariants.{NoMemory};
 ghost use Rattle.jk_run.specs.Driver.{HasDriven, AreSameEnds, IsRound};
 

@@ -1,7 +1,7 @@
 //! A driver until its kernel was shut down.
 ghost use Rattle.std.specs.Prelude.{◌≡◌, ◌≢◌, [], None, true, false};
 ghost use Rattle.jk_core.specs.declared.kernel.Work.TheVariants.{NoMemory};
-ghost use Rattle.jk_core.specs.Log.{ended};
+ghost use Rattle.jk_log.specs.Log.{ended};
 ghost use Rattle.jk_queues.specs.Pool.{has_stopped};
 ghost use Rattle.jk_run.specs.Driver.{HasDriven};
 

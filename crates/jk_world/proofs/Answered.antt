@@ -7,27 +7,27 @@ use Rattle.jk_language.specs.Spoken.{Spoken, IsLanguage}
 use Rattle.jp_msg.specs.declared.message.Message.{Message}
 use Rattle.jp_msg.specs.declared.message.Execute.{Execute}
 use Rattle.jp_msg.specs.declared.message.Failure.{Failure}
-use Rattle.jk_core.specs.declared.arrival.Arrival.{Arrival}
-use Rattle.jk_core.specs.declared.arrival.What.{What}
-use Rattle.jk_core.specs.declared.arrival.What.TheVariants as what
-use Rattle.jk_core.specs.declared.entry.Entry.{Entry}
-use Rattle.jk_core.specs.declared.mark.Item.TheVariants.{Took, Marked}
-use Rattle.jk_core.specs.declared.mark.Kind.{Kind}
-use Rattle.jk_core.specs.declared.mark.Kind.TheVariants.{Join, Leave, Begin, Flush, Ask, Line, End, Stop, Refuse, Abort, Answer, Interrupt, KernelInfo, Restart}
-use Rattle.jk_core.specs.declared.mark.Ending.{Ending}
-use Rattle.jk_core.specs.declared.mark.Ending.TheVariants.{Completed, Trapped, Refused}
+use Rattle.jk_log.specs.declared.arrival.Arrival.{Arrival}
+use Rattle.jk_log.specs.declared.arrival.What.{What}
+use Rattle.jk_log.specs.declared.arrival.What.TheVariants as what
+use Rattle.jk_log.specs.declared.entry.Entry.{Entry}
+use Rattle.jk_log.specs.declared.mark.Item.TheVariants.{Took, Marked}
+use Rattle.jk_log.specs.declared.mark.Kind.{Kind}
+use Rattle.jk_log.specs.declared.mark.Kind.TheVariants.{Join, Leave, Begin, Flush, Ask, Line, End, Stop, Refuse, Abort, Answer, Interrupt, KernelInfo, Restart}
+use Rattle.jk_log.specs.declared.mark.Ending.{Ending}
+use Rattle.jk_log.specs.declared.mark.Ending.TheVariants.{Completed, Trapped, Refused}
 use Rattle.jp_msg.specs.declared.message.Channel.TheVariants as channel
 use Rattle.jp_msg.specs.declared.message.Completeness.{Completeness}
 use Rattle.jp_msg.specs.declared.message.Output.{Output}
 use Rattle.jp_msg.specs.declared.message.Output.TheVariants.{InterruptReply, KernelInfoReply, ShutdownReply}
 use Rattle.jp_msg.specs.declared.message.Request.{Request}
 use Rattle.jp_msg.specs.declared.message.Request.TheVariants as request
-use Rattle.jk_core.specs.declared.entry.To.TheVariants.{Seat}
-use Rattle.jk_core.specs.Asked.{message_execute, message_query, execute_in}
-use Rattle.jk_core.specs.Legal.{EachFollows, MayMark, owed}
-use Rattle.jk_core.specs.Failures.{refusal_failure, trap_failure, cause_failure}
-use Rattle.jk_core.specs.Log.{Log, running, seat_at, arrival_at, execute_at, option_at, option_or, flushed_at, asking, lined}
-use Rattle.jk_core.specs.Render.{unless, streamed, begun, failed, ended, shown_of, execute_shown, answered, answer_shown, query_shown, control_shown, entries_of, entries_at}
+use Rattle.jk_log.specs.declared.entry.To.TheVariants.{Seat}
+use Rattle.jk_log.specs.Asked.{message_execute, message_query, execute_in}
+use Rattle.jk_log.specs.Legal.{EachFollows, MayMark, owed}
+use Rattle.jk_log.specs.Failures.{refusal_failure, trap_failure, cause_failure}
+use Rattle.jk_log.specs.Log.{Log, running, seat_at, arrival_at, execute_at, option_at, option_or, flushed_at, asking, lined}
+use Rattle.jk_log.specs.Render.{unless, streamed, begun, failed, ended, shown_of, execute_shown, answered, answer_shown, query_shown, control_shown, entries_of, entries_at}
 use Rattle.jk_world.specs.Cells.{streams, times_closed, runs_at, interrupts}
 use Rattle.jk_world.specs.Requests.{output_audience, shown_at, AllFor, AreFor, text_in, text_told, replies_in, IsShownRight}
 use Rattle.jk_world.proofs.Basics.{cond_same, cond_nil, arrival_past}

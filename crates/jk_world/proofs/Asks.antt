@@ -7,18 +7,18 @@ use Rattle.jk_language.specs.declared.outcome.Outcome.TheVariants as outcome
 use Rattle.jk_language.specs.Parts.{Line as Given, Meaning}
 use Rattle.jk_language.specs.Spoken.{Spoken, IsLanguage}
 use Rattle.jp_msg.specs.declared.message.Execute.{Execute}
-use Rattle.jk_core.specs.declared.arrival.Arrival.{Arrival}
-use Rattle.jk_core.specs.declared.mark.Item.{Item}
-use Rattle.jk_core.specs.declared.mark.Item.TheVariants.{Took, Marked}
-use Rattle.jk_core.specs.declared.mark.Mark.{Mark}
-use Rattle.jk_core.specs.declared.mark.Kind.{Kind}
-use Rattle.jk_core.specs.declared.mark.Kind.TheVariants.{Begin, Flush, Ask, Line, End, Stop, Answer, Interrupt, Restart}
-use Rattle.jk_core.specs.declared.mark.Cause.{Cause}
-use Rattle.jk_core.specs.declared.mark.Cause.TheVariants.{Interrupted, Restarted}
-use Rattle.jk_core.specs.Asked.{sort_as}
-use Rattle.jk_core.specs.Log.{Log, Running, running, running_with, seat_at, session, meaning, stood, execute_at, option_with, opened, flushed_at, asking, lined, unread}
-use Rattle.jk_core.specs.Legal.{Due, MarkDue, AnswerDue, FlushDue, StopDue, IsForced, EachFollows, MayMark, MayCome, Asks, JustFlushed, owed, dues_of, ends_due, waiting_dues}
-use Rattle.jk_core.proofs.Logs.{by_sort}
+use Rattle.jk_log.specs.declared.arrival.Arrival.{Arrival}
+use Rattle.jk_log.specs.declared.mark.Item.{Item}
+use Rattle.jk_log.specs.declared.mark.Item.TheVariants.{Took, Marked}
+use Rattle.jk_log.specs.declared.mark.Mark.{Mark}
+use Rattle.jk_log.specs.declared.mark.Kind.{Kind}
+use Rattle.jk_log.specs.declared.mark.Kind.TheVariants.{Begin, Flush, Ask, Line, End, Stop, Answer, Interrupt, Restart}
+use Rattle.jk_log.specs.declared.mark.Cause.{Cause}
+use Rattle.jk_log.specs.declared.mark.Cause.TheVariants.{Interrupted, Restarted}
+use Rattle.jk_log.specs.Asked.{sort_as}
+use Rattle.jk_log.specs.Log.{Log, Running, running, running_with, seat_at, session, meaning, stood, execute_at, option_with, opened, flushed_at, asking, lined, unread}
+use Rattle.jk_log.specs.Legal.{Due, MarkDue, AnswerDue, FlushDue, StopDue, IsForced, EachFollows, MayMark, MayCome, Asks, JustFlushed, owed, dues_of, ends_due, waiting_dues}
+use Rattle.jk_log.proofs.Logs.{by_sort}
 use Rattle.jk_world.specs.Cells.{begun_in, last_turns, interrupts}
 use Rattle.jk_world.specs.Order.{AllBelow, IsFalling}
 use Rattle.jk_world.specs.Input.{asks_at, IsInputRight}

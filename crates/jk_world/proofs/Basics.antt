@@ -2,7 +2,7 @@
 use Rattle.std.proofs.Common.{◌≡◌, ℕ, ◌≤◌, Bool, true, false, cond, List, [], ◌∷◌, ◌++◌, length, refl, arith, None, Some, eqb}
 use Rattle.std.proofs.lemmas.List.{append-nil}
 use Rattle.std.proofs.lemmas.Bool.{ne_eqb}
-use Rattle.jk_core.specs.Log.{Log, Running, arrival_at}
+use Rattle.jk_log.specs.Log.{Log, Running, arrival_at}
 
 pub no_run : (r : Running) (P : Type 0) → None ≡ Some r → P
 no_run r P e = cc

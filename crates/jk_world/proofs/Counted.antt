@@ -3,14 +3,14 @@ use Rattle.std.proofs.Common.{◌≡◌, ℕ, ◌+◌, Bool, true, false, cond, 
 use Rattle.std.specs.Prelude.{not, ◌&&◌}
 use Rattle.jk_language.specs.Spoken.{Spoken}
 use Rattle.jp_msg.specs.declared.message.Execute.{Execute}
-use Rattle.jk_core.specs.declared.mark.Item.{Item}
-use Rattle.jk_core.specs.declared.mark.Item.TheVariants.{Took, Marked}
-use Rattle.jk_core.specs.declared.mark.Mark.{Mark}
-use Rattle.jk_core.specs.declared.mark.Kind.{Kind}
-use Rattle.jk_core.specs.declared.mark.Kind.TheVariants.{Begin, End, Stop, Refuse, Answer, Restart}
-use Rattle.jk_core.specs.Log.{Log, count, next_count, raised, execute_at, option_or}
-use Rattle.jk_core.specs.Legal.{Due, MarkDue, AnswerDue, FlushDue, StopDue, IsForced, EachFollows, MayMark, owed}
-use Rattle.jk_core.proofs.Logs.{execute_grows}
+use Rattle.jk_log.specs.declared.mark.Item.{Item}
+use Rattle.jk_log.specs.declared.mark.Item.TheVariants.{Took, Marked}
+use Rattle.jk_log.specs.declared.mark.Mark.{Mark}
+use Rattle.jk_log.specs.declared.mark.Kind.{Kind}
+use Rattle.jk_log.specs.declared.mark.Kind.TheVariants.{Begin, End, Stop, Refuse, Answer, Restart}
+use Rattle.jk_log.specs.Log.{Log, count, next_count, raised, execute_at, option_or}
+use Rattle.jk_log.specs.Legal.{Due, MarkDue, AnswerDue, FlushDue, StopDue, IsForced, EachFollows, MayMark, owed}
+use Rattle.jk_log.proofs.Logs.{execute_grows}
 use Rattle.jk_world.specs.Sessions.{begun_places}
 use Rattle.jk_world.specs.Counts.{is_stored_at, stored_among, stored, Tells, TellCounts}
 use Rattle.jk_world.proofs.Once.{AllAsk, asks_grow}

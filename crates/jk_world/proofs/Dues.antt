@@ -2,20 +2,20 @@
 use Rattle.std.proofs.Common.{◌≡◌, ℕ, Bool, true, false, cond, List, [], ◌∷◌, ◌++◌, drop, length, map, refl, sym, ◌∙◌, ap, subst, Option, None, Some}
 use Rattle.jp_msg.specs.declared.message.Execute.{Execute}
 use Rattle.jk_language.specs.Spoken.{Spoken}
-use Rattle.jk_core.specs.declared.arrival.Arrival.{Arrival}
-use Rattle.jk_core.specs.declared.mark.Item.{Item}
-use Rattle.jk_core.specs.declared.mark.Item.TheVariants.{Took, Marked}
-use Rattle.jk_core.specs.declared.mark.Mark.{Mark}
-use Rattle.jk_core.specs.declared.mark.Kind.{Kind}
-use Rattle.jk_core.specs.declared.mark.Kind.TheVariants.{Join, Leave, Begin, Flush, Ask, Line, End, Stop, Refuse, Abort, Answer, Interrupt, KernelInfo, Restart}
-use Rattle.jk_core.specs.declared.mark.Ending.{Ending}
-use Rattle.jk_core.specs.declared.mark.Ending.TheVariants.{Completed, Trapped, Refused}
-use Rattle.jk_core.specs.declared.mark.Cause.{Cause}
-use Rattle.jk_core.specs.declared.mark.Cause.TheVariants.{Memory, Interrupted, Restarted}
-use Rattle.jk_core.specs.Asked.{sort_as, input_in}
-use Rattle.jk_core.specs.Log.{Log, Running, running, running_after, running_with, seat_at, execute_at, asker, option_with, unread, flushed_at, asking, lined}
-use Rattle.jk_core.specs.Legal.{Due, MarkDue, AnswerDue, FlushDue, StopDue, IsForced, EachFollows, MayMark, abort_due, due_by, due_of, waiting_dues, ends_due, line_due, dues_of, fails_due, dues_after_end, dues_after_stop, dues_after, owed}
-use Rattle.jk_core.proofs.Logs.{by_sort, execute_grows}
+use Rattle.jk_log.specs.declared.arrival.Arrival.{Arrival}
+use Rattle.jk_log.specs.declared.mark.Item.{Item}
+use Rattle.jk_log.specs.declared.mark.Item.TheVariants.{Took, Marked}
+use Rattle.jk_log.specs.declared.mark.Mark.{Mark}
+use Rattle.jk_log.specs.declared.mark.Kind.{Kind}
+use Rattle.jk_log.specs.declared.mark.Kind.TheVariants.{Join, Leave, Begin, Flush, Ask, Line, End, Stop, Refuse, Abort, Answer, Interrupt, KernelInfo, Restart}
+use Rattle.jk_log.specs.declared.mark.Ending.{Ending}
+use Rattle.jk_log.specs.declared.mark.Ending.TheVariants.{Completed, Trapped, Refused}
+use Rattle.jk_log.specs.declared.mark.Cause.{Cause}
+use Rattle.jk_log.specs.declared.mark.Cause.TheVariants.{Memory, Interrupted, Restarted}
+use Rattle.jk_log.specs.Asked.{sort_as, input_in}
+use Rattle.jk_log.specs.Log.{Log, Running, running, running_after, running_with, seat_at, execute_at, asker, option_with, unread, flushed_at, asking, lined}
+use Rattle.jk_log.specs.Legal.{Due, MarkDue, AnswerDue, FlushDue, StopDue, IsForced, EachFollows, MayMark, abort_due, due_by, due_of, waiting_dues, ends_due, line_due, dues_of, fails_due, dues_after_end, dues_after_stop, dues_after, owed}
+use Rattle.jk_log.proofs.Logs.{by_sort, execute_grows}
 
 -- ---- an abort that is due is of an execute request
 

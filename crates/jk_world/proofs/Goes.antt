@@ -2,19 +2,20 @@
 use Rattle.std.proofs.Common.{◌≡◌, ℕ, List, [], ◌∷◌, ◌++◌, length, take, refl, sym, ◌∙◌, ap, subst, append_assoc, Option, None, Some}
 use Rattle.std.proofs.lemmas.List.{append-nil}
 use Rattle.jk_language.specs.Spoken.{Spoken}
-use Rattle.jk_core.specs.declared.arrival.Arrival.{Arrival}
+use Rattle.jk_log.specs.declared.arrival.Arrival.{Arrival}
 use Rattle.jk_core.specs.declared.kernel.Used.{Used}
 use Rattle.jk_core.specs.declared.kernel.Used.TheVariants.{Kept, Stranger}
 use Rattle.jp_msg.specs.declared.message.Completeness.{Completeness}
-use Rattle.jk_core.specs.declared.mark.Item.{Item}
-use Rattle.jk_core.specs.declared.mark.Item.TheVariants.{Took, Marked}
-use Rattle.jk_core.specs.declared.mark.Kind.TheVariants.{Join, Leave, Line, Interrupt, KernelInfo}
-use Rattle.jk_core.specs.Asked.{sort_as, input_in}
-use Rattle.jk_core.specs.Log.{Log, running, asker}
-use Rattle.jk_core.specs.Results.{Reading}
-use Rattle.jk_core.specs.State.{KernelState, joined}
+use Rattle.jk_log.specs.declared.mark.Item.{Item}
+use Rattle.jk_log.specs.declared.mark.Item.TheVariants.{Took, Marked}
+use Rattle.jk_log.specs.declared.mark.Kind.TheVariants.{Join, Leave, Line, Interrupt, KernelInfo}
+use Rattle.jk_log.specs.Asked.{sort_as, input_in}
+use Rattle.jk_log.specs.Log.{Log, running, asker}
+use Rattle.jk_log.specs.Results.{Reading}
+use Rattle.jk_core.specs.State.{KernelState}
+use Rattle.jk_log.specs.Pending.{joined}
 use Rattle.jk_core.specs.Steps.{answered, given_to, took, taken, noted, Hands}
-use Rattle.jk_core.proofs.Logs.{by_sort}
+use Rattle.jk_log.proofs.Logs.{by_sort}
 use Rattle.jk_core.proofs.Moves.{IsMoved, interrupted_moves, shut_moves, works_moves}
 use Rattle.js_shelf.specs.Shelves.{Contents}
 use Rattle.jk_world.specs.World.{World, Recording, Event, Send, Take, GiveJob, Parse, Hand, Work, Publish, Read, Start, Record, Put, Move, Save, Store, Takes, Step, Run, IsBeginning, HasGoneOn}

@@ -6,15 +6,15 @@ use Rattle.std.proofs.lemmas.Bool.{ne_eqb}
 use Rattle.jk_language.specs.Parts.{Line as Given}
 use Rattle.jk_language.specs.Spoken.{Spoken, IsLanguage}
 use Rattle.jp_msg.specs.declared.message.Execute.{Execute}
-use Rattle.jk_core.specs.declared.arrival.Arrival.{Arrival}
-use Rattle.jk_core.specs.declared.mark.Item.{Item}
-use Rattle.jk_core.specs.declared.mark.Item.TheVariants.{Took, Marked}
-use Rattle.jk_core.specs.declared.mark.Mark.{Mark}
-use Rattle.jk_core.specs.declared.mark.Kind.{Kind}
-use Rattle.jk_core.specs.declared.mark.Kind.TheVariants.{Begin, Flush, Ask, Line, End, Stop, Restart}
-use Rattle.jk_core.specs.Log.{Log, Running, running, seat_at, waiting, session, stood, stood_in, execute_at, option_or, option_with, opened, flushed_at, asking, lined, unread}
-use Rattle.jk_core.specs.Legal.{EachFollows, MayMark, owed}
-use Rattle.jk_core.proofs.Logs.{execute_grows}
+use Rattle.jk_log.specs.declared.arrival.Arrival.{Arrival}
+use Rattle.jk_log.specs.declared.mark.Item.{Item}
+use Rattle.jk_log.specs.declared.mark.Item.TheVariants.{Took, Marked}
+use Rattle.jk_log.specs.declared.mark.Mark.{Mark}
+use Rattle.jk_log.specs.declared.mark.Kind.{Kind}
+use Rattle.jk_log.specs.declared.mark.Kind.TheVariants.{Begin, Flush, Ask, Line, End, Stop, Restart}
+use Rattle.jk_log.specs.Log.{Log, Running, running, seat_at, waiting, session, stood, stood_in, execute_at, option_or, option_with, opened, flushed_at, asking, lined, unread}
+use Rattle.jk_log.specs.Legal.{EachFollows, MayMark, owed}
+use Rattle.jk_log.proofs.Logs.{execute_grows}
 use Rattle.jk_world.specs.Cells.{times_begun, begun_in, last_turns, lines_at, interrupts}
 use Rattle.jk_world.specs.Sessions.{begun_places, Leaves, LastLeaves, AreHandedOn, IsHandedOn}
 use Rattle.jk_world.proofs.Basics.{no_run, cond_same, cond_no}

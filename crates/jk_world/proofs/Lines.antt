@@ -3,20 +3,20 @@ use Rattle.std.proofs.Common.{◌≡◌, ℕ, Bool, true, false, cond, List, [],
 use Rattle.std.proofs.lemmas.Option.{none-some, same_Some}
 use Rattle.jk_language.specs.Parts.{Line as Given}
 use Rattle.jk_language.specs.Spoken.{Spoken}
-use Rattle.jk_core.specs.declared.arrival.Arrival.{Arrival}
-use Rattle.jk_core.specs.declared.mark.Item.TheVariants.{Took, Marked}
-use Rattle.jk_core.specs.declared.mark.Mark.{Mark}
-use Rattle.jk_core.specs.declared.mark.Kind.{Kind}
-use Rattle.jk_core.specs.declared.mark.Kind.TheVariants.{Line, End, Stop, Answer, Restart}
-use Rattle.jk_core.specs.declared.mark.Ending.{Ending}
-use Rattle.jk_core.specs.declared.mark.Ending.TheVariants.{Completed, Trapped, Refused}
-use Rattle.jk_core.specs.declared.mark.Cause.{Cause}
-use Rattle.jk_core.specs.declared.mark.Cause.TheVariants.{Memory, Interrupted, Restarted}
+use Rattle.jk_log.specs.declared.arrival.Arrival.{Arrival}
+use Rattle.jk_log.specs.declared.mark.Item.TheVariants.{Took, Marked}
+use Rattle.jk_log.specs.declared.mark.Mark.{Mark}
+use Rattle.jk_log.specs.declared.mark.Kind.{Kind}
+use Rattle.jk_log.specs.declared.mark.Kind.TheVariants.{Line, End, Stop, Answer, Restart}
+use Rattle.jk_log.specs.declared.mark.Ending.{Ending}
+use Rattle.jk_log.specs.declared.mark.Ending.TheVariants.{Completed, Trapped, Refused}
+use Rattle.jk_log.specs.declared.mark.Cause.{Cause}
+use Rattle.jk_log.specs.declared.mark.Cause.TheVariants.{Memory, Interrupted, Restarted}
 use Rattle.jp_msg.specs.declared.message.Execute.{Execute}
-use Rattle.jk_core.specs.Asked.{sort_as, input_in}
-use Rattle.jk_core.specs.Log.{Log, Running, running, running_with, execute_at, waiting, asker, asked_of, option_at}
-use Rattle.jk_core.specs.Legal.{Due, MarkDue, AnswerDue, FlushDue, StopDue, MayMark, owed, dues_of, dues_after, dues_after_end, dues_after_stop, fails_due, due_by, due_of, waiting_dues, ends_due, line_due}
-use Rattle.jk_core.proofs.Logs.{by_sort}
+use Rattle.jk_log.specs.Asked.{sort_as, input_in}
+use Rattle.jk_log.specs.Log.{Log, Running, running, running_with, execute_at, waiting, asker, asked_of, option_at}
+use Rattle.jk_log.specs.Legal.{Due, MarkDue, AnswerDue, FlushDue, StopDue, MayMark, owed, dues_of, dues_after, dues_after_end, dues_after_stop, fails_due, due_by, due_of, waiting_dues, ends_due, line_due}
+use Rattle.jk_log.proofs.Logs.{by_sort}
 
 -- a mark that is due is no line
 abbrev pub IsNoLine : Due → Type 0

@@ -7,20 +7,20 @@ use Rattle.std.proofs.Common.{eq-eqb}
 use Rattle.std.proofs.lemmas.Bool.Decides.{eqb_tells}
 use Rattle.jk_language.specs.Spoken.{Spoken}
 use Rattle.jp_msg.specs.declared.message.Execute.{Execute}
-use Rattle.jk_core.specs.declared.arrival.Arrival.{Arrival}
-use Rattle.jk_core.specs.Asked.{sort_as, input_in}
-use Rattle.jk_core.specs.declared.mark.Item.{Item}
-use Rattle.jk_core.specs.declared.mark.Item.TheVariants.{Took, Marked}
-use Rattle.jk_core.specs.declared.mark.Mark.{Mark}
-use Rattle.jk_core.specs.declared.mark.Kind.{Kind}
-use Rattle.jk_core.specs.declared.mark.Kind.TheVariants.{Join, Leave, Begin, Flush, Ask, Line, End, Stop, Refuse, Abort, Answer, Interrupt, KernelInfo, Restart}
-use Rattle.jk_core.specs.declared.mark.Ending.{Ending}
-use Rattle.jk_core.specs.declared.mark.Ending.TheVariants.{Completed, Trapped, Refused}
-use Rattle.jk_core.specs.declared.mark.Cause.{Cause}
-use Rattle.jk_core.specs.declared.mark.Cause.TheVariants.{Memory, Interrupted, Restarted}
-use Rattle.jk_core.specs.Log.{Log, Running, running, waiting, waiting_after, waits_as, execute_at, asker}
-use Rattle.jk_core.specs.Legal.{ends_due, line_due, Due, MarkDue, AnswerDue, FlushDue, StopDue, due_by, due_of, EachFollows, MayMark, JustFlushedBy, IsForced, owed, dues_of, dues_after, dues_after_end, dues_after_stop, fails_due}
-use Rattle.jk_core.proofs.Logs.{by_sort, execute_grows}
+use Rattle.jk_log.specs.declared.arrival.Arrival.{Arrival}
+use Rattle.jk_log.specs.Asked.{sort_as, input_in}
+use Rattle.jk_log.specs.declared.mark.Item.{Item}
+use Rattle.jk_log.specs.declared.mark.Item.TheVariants.{Took, Marked}
+use Rattle.jk_log.specs.declared.mark.Mark.{Mark}
+use Rattle.jk_log.specs.declared.mark.Kind.{Kind}
+use Rattle.jk_log.specs.declared.mark.Kind.TheVariants.{Join, Leave, Begin, Flush, Ask, Line, End, Stop, Refuse, Abort, Answer, Interrupt, KernelInfo, Restart}
+use Rattle.jk_log.specs.declared.mark.Ending.{Ending}
+use Rattle.jk_log.specs.declared.mark.Ending.TheVariants.{Completed, Trapped, Refused}
+use Rattle.jk_log.specs.declared.mark.Cause.{Cause}
+use Rattle.jk_log.specs.declared.mark.Cause.TheVariants.{Memory, Interrupted, Restarted}
+use Rattle.jk_log.specs.Log.{Log, Running, running, waiting, waiting_after, waits_as, execute_at, asker}
+use Rattle.jk_log.specs.Legal.{ends_due, line_due, Due, MarkDue, AnswerDue, FlushDue, StopDue, due_by, due_of, EachFollows, MayMark, JustFlushedBy, IsForced, owed, dues_of, dues_after, dues_after_end, dues_after_stop, fails_due}
+use Rattle.jk_log.proofs.Logs.{by_sort, execute_grows}
 use Rattle.jk_world.specs.Cells.{times_answered}
 
 -- the aborts and answers that are owed are of what waits, in order

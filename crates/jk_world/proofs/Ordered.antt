@@ -3,14 +3,14 @@ use Rattle.std.proofs.Common.{◌≡◌, ℕ, suc, ◌≤◌, ◌<◌, List, [],
 use Rattle.std.specs.Prelude.{slice_get}
 use Rattle.std.proofs.lemmas.List.{append-nil}
 use Rattle.jk_language.specs.Spoken.{Spoken}
-use Rattle.jk_core.specs.declared.arrival.Arrival.{Arrival}
-use Rattle.jk_core.specs.declared.mark.Item.TheVariants.{Took, Marked}
-use Rattle.jk_core.specs.declared.mark.Kind.{Kind}
-use Rattle.jk_core.specs.declared.mark.Kind.TheVariants.{Begin, Refuse, Abort, Answer}
-use Rattle.jk_core.specs.Asked.{sort_as}
-use Rattle.jk_core.specs.Log.{Log, waiting, waits_as}
-use Rattle.jk_core.specs.Legal.{EachFollows, MayMark, owed}
-use Rattle.jk_core.proofs.Logs.{by_sort}
+use Rattle.jk_log.specs.declared.arrival.Arrival.{Arrival}
+use Rattle.jk_log.specs.declared.mark.Item.TheVariants.{Took, Marked}
+use Rattle.jk_log.specs.declared.mark.Kind.{Kind}
+use Rattle.jk_log.specs.declared.mark.Kind.TheVariants.{Begin, Refuse, Abort, Answer}
+use Rattle.jk_log.specs.Asked.{sort_as}
+use Rattle.jk_log.specs.Log.{Log, waiting, waits_as}
+use Rattle.jk_log.specs.Legal.{EachFollows, MayMark, owed}
+use Rattle.jk_log.proofs.Logs.{by_sort}
 use Rattle.jk_world.specs.Order.{AllBelow, IsFalling, answered_places}
 use Rattle.jk_world.proofs.Once.{answers_first, from_first}
 

@@ -6,15 +6,15 @@ use Rattle.std.proofs.lemmas.Bool.Decides.{eqb_tells}
 use Rattle.jk_language.specs.Parts.{Line as Given}
 use Rattle.jk_language.specs.Spoken.{Spoken, IsLanguage}
 use Rattle.jp_msg.specs.declared.message.Execute.{Execute}
-use Rattle.jk_core.specs.declared.mark.Item.{Item}
-use Rattle.jk_core.specs.declared.mark.Item.TheVariants.{Took, Marked}
-use Rattle.jk_core.specs.declared.mark.Mark.{Mark}
-use Rattle.jk_core.specs.declared.mark.Kind.{Kind}
-use Rattle.jk_core.specs.declared.mark.Kind.TheVariants.{Begin, Flush, End, Stop, Answer}
-use Rattle.jk_core.specs.declared.mark.Cause.{Cause}
-use Rattle.jk_core.specs.Log.{Log, Running, running, waiting, session, stood, execute_at}
-use Rattle.jk_core.specs.Legal.{Due, MarkDue, AnswerDue, FlushDue, StopDue, IsForced, EachFollows, MayMark, Stops, owed}
-use Rattle.jk_core.proofs.Logs.{execute_grows}
+use Rattle.jk_log.specs.declared.mark.Item.{Item}
+use Rattle.jk_log.specs.declared.mark.Item.TheVariants.{Took, Marked}
+use Rattle.jk_log.specs.declared.mark.Mark.{Mark}
+use Rattle.jk_log.specs.declared.mark.Kind.{Kind}
+use Rattle.jk_log.specs.declared.mark.Kind.TheVariants.{Begin, Flush, End, Stop, Answer}
+use Rattle.jk_log.specs.declared.mark.Cause.{Cause}
+use Rattle.jk_log.specs.Log.{Log, Running, running, waiting, session, stood, execute_at}
+use Rattle.jk_log.specs.Legal.{Due, MarkDue, AnswerDue, FlushDue, StopDue, IsForced, EachFollows, MayMark, Stops, owed}
+use Rattle.jk_log.proofs.Logs.{execute_grows}
 use Rattle.jk_world.specs.Cells.{begins, answers, times_answered, times_begun, times_ended, begun_in, last_turns, lines_at, closed_as, runs_at, flushed_meaning, TellsEnd, CellIsRight}
 use Rattle.jk_world.proofs.Basics.{cond_same, cond_no}
 use Rattle.jk_world.proofs.Once.{answers_first, answered_at_most_once, first_new}

@@ -14,19 +14,19 @@ use Rattle.jp_msg.specs.declared.message.Output.{Output}
 use Rattle.jp_msg.specs.declared.message.Output.TheVariants.{KernelInfoReply, IsCompleteReply, CompleteReply, InspectReply, HistoryReply, CommInfoReply, InterruptReply, ShutdownReply}
 use Rattle.jp_msg.specs.declared.message.Request.{Request}
 use Rattle.jp_msg.specs.declared.message.Request.TheVariants as request
-use Rattle.jk_core.specs.declared.arrival.Arrival.{Arrival}
-use Rattle.jk_core.specs.declared.arrival.What.{What}
-use Rattle.jk_core.specs.declared.arrival.What.TheVariants as what
-use Rattle.jk_core.specs.declared.entry.Entry.{Entry}
-use Rattle.jk_core.specs.declared.mark.Item.TheVariants.{Took, Marked}
-use Rattle.jk_core.specs.declared.mark.Mark.{Mark}
-use Rattle.jk_core.specs.declared.mark.Kind.{Kind}
-use Rattle.jk_core.specs.declared.mark.Kind.TheVariants.{Join, Leave, Begin, Flush, Ask, Line, End, Stop, Refuse, Abort, Answer, Interrupt, KernelInfo, Restart}
-use Rattle.jk_core.specs.Asked.{content_execute, content_query, query_in, request_query}
-use Rattle.jk_core.specs.Legal.{Due, MarkDue, AnswerDue, FlushDue, StopDue, Answers, EachFollows, IsForced, MayMark, owed}
-use Rattle.jk_core.specs.Log.{Log, arrival_at, option_at, option_or, query_at}
-use Rattle.jk_core.specs.Queries.{IsStatus, reply_to}
-use Rattle.jk_core.specs.Render.{answered, answer_shown, control_shown, entries_at, entries_of, execute_shown, query_shown, render, shown_of}
+use Rattle.jk_log.specs.declared.arrival.Arrival.{Arrival}
+use Rattle.jk_log.specs.declared.arrival.What.{What}
+use Rattle.jk_log.specs.declared.arrival.What.TheVariants as what
+use Rattle.jk_log.specs.declared.entry.Entry.{Entry}
+use Rattle.jk_log.specs.declared.mark.Item.TheVariants.{Took, Marked}
+use Rattle.jk_log.specs.declared.mark.Mark.{Mark}
+use Rattle.jk_log.specs.declared.mark.Kind.{Kind}
+use Rattle.jk_log.specs.declared.mark.Kind.TheVariants.{Join, Leave, Begin, Flush, Ask, Line, End, Stop, Refuse, Abort, Answer, Interrupt, KernelInfo, Restart}
+use Rattle.jk_log.specs.Asked.{content_execute, content_query, query_in, request_query}
+use Rattle.jk_log.specs.Legal.{Due, MarkDue, AnswerDue, FlushDue, StopDue, Answers, EachFollows, IsForced, MayMark, owed}
+use Rattle.jk_log.specs.Log.{Log, arrival_at, option_at, option_or, query_at}
+use Rattle.jk_log.specs.Queries.{IsStatus, reply_to}
+use Rattle.jk_log.specs.Render.{answered, answer_shown, control_shown, entries_at, entries_of, execute_shown, query_shown, render, shown_of}
 use Rattle.jk_world.specs.Answers.{IsReplied, IsShownOnce, answers_query, exchange, outputs_in, times_query_answered}
 use Rattle.jk_world.specs.Cells.{answers, times_answered}
 use Rattle.jk_world.specs.Requests.{AreFor, message_in, shown_at}

@@ -8,22 +8,22 @@ use Rattle.jk_language.specs.Parts.{Line as Given}
 use Rattle.jk_language.specs.Spoken.{Spoken, IsLanguage}
 use Rattle.jp_msg.specs.declared.message.Message.{Message}
 use Rattle.jp_msg.specs.declared.message.Execute.{Execute}
-use Rattle.jk_core.specs.declared.arrival.Arrival.{Arrival}
-use Rattle.jk_core.specs.declared.arrival.What.{What}
-use Rattle.jk_core.specs.declared.arrival.What.TheVariants as what
-use Rattle.jk_core.specs.declared.mark.Item.{Item}
-use Rattle.jk_core.specs.declared.mark.Item.TheVariants.{Took, Marked}
-use Rattle.jk_core.specs.declared.mark.Mark.{Mark}
-use Rattle.jk_core.specs.declared.mark.Kind.{Kind}
-use Rattle.jk_core.specs.declared.mark.Kind.TheVariants.{Begin, Flush, Ask, Line, End, Stop, Refuse, Abort, Answer, Restart}
+use Rattle.jk_log.specs.declared.arrival.Arrival.{Arrival}
+use Rattle.jk_log.specs.declared.arrival.What.{What}
+use Rattle.jk_log.specs.declared.arrival.What.TheVariants as what
+use Rattle.jk_log.specs.declared.mark.Item.{Item}
+use Rattle.jk_log.specs.declared.mark.Item.TheVariants.{Took, Marked}
+use Rattle.jk_log.specs.declared.mark.Mark.{Mark}
+use Rattle.jk_log.specs.declared.mark.Kind.{Kind}
+use Rattle.jk_log.specs.declared.mark.Kind.TheVariants.{Begin, Flush, Ask, Line, End, Stop, Refuse, Abort, Answer, Restart}
 use Rattle.jp_msg.specs.declared.message.Content.{Content}
 use Rattle.jp_msg.specs.declared.message.Content.TheVariants as content
 use Rattle.jp_msg.specs.declared.message.Request.{Request}
 use Rattle.jp_msg.specs.declared.message.Request.TheVariants as request
-use Rattle.jk_core.specs.Asked.{sort_as, execute_in, content_sort, shell_sort, control_sort, stdin_sort}
-use Rattle.jk_core.specs.Log.{Log, Running, running, running_with, seat_at, arrival_at, option_at, waiting, session, meaning, stood, execute_at, option_with, opened, flushed_at, asking, lined, unread, nones}
-use Rattle.jk_core.specs.Legal.{Due, MarkDue, AnswerDue, FlushDue, StopDue, IsForced, EachFollows, MayMark, MayCome, owed}
-use Rattle.jk_core.proofs.Logs.{execute_grows}
+use Rattle.jk_log.specs.Asked.{sort_as, execute_in, content_sort, shell_sort, control_sort, stdin_sort}
+use Rattle.jk_log.specs.Log.{Log, Running, running, running_with, seat_at, arrival_at, option_at, waiting, session, meaning, stood, execute_at, option_with, opened, flushed_at, asking, lined, unread, nones}
+use Rattle.jk_log.specs.Legal.{Due, MarkDue, AnswerDue, FlushDue, StopDue, IsForced, EachFollows, MayMark, MayCome, owed}
+use Rattle.jk_log.proofs.Logs.{execute_grows}
 use Rattle.jk_world.specs.Cells.{times_answered, streams, last_turns, fresh_lines, lines_at, begun_in, interrupts, request_interrupts, content_interrupts, flushed_meaning}
 use Rattle.jk_world.proofs.Basics.{no_run, cond_same, cond_nil}
 use Rattle.jk_world.proofs.Once.{answers_first, first_new}

@@ -7,15 +7,15 @@ use Rattle.std.proofs.lemmas.Bool.{eqb-true, ne_eqb}
 use Rattle.jk_language.specs.Parts.{Line as Given}
 use Rattle.jk_language.specs.Spoken.{Spoken, IsLanguage}
 use Rattle.jp_msg.specs.declared.message.Execute.{Execute}
-use Rattle.jk_core.specs.declared.arrival.Arrival.{Arrival}
-use Rattle.jk_core.specs.declared.mark.Item.TheVariants.{Took, Marked}
-use Rattle.jk_core.specs.declared.mark.Mark.{Mark}
-use Rattle.jk_core.specs.declared.mark.Kind.{Kind}
-use Rattle.jk_core.specs.declared.mark.Kind.TheVariants.{Join, Leave, Begin, Flush, Ask, Line, End, Stop, Answer, Interrupt, KernelInfo}
-use Rattle.jk_core.specs.Asked.{sort_as, input_in}
-use Rattle.jk_core.specs.Log.{Log, Running, running, seat_at, arrival_at, execute_at, asker, asked_of, left, nones, option_at, option_or, option_with, flushed_at, lined}
-use Rattle.jk_core.specs.Legal.{Due, MarkDue, AnswerDue, FlushDue, StopDue, EachFollows, MayMark, owed, dues_of, line_due}
-use Rattle.jk_core.proofs.Logs.{by_sort, execute_within}
+use Rattle.jk_log.specs.declared.arrival.Arrival.{Arrival}
+use Rattle.jk_log.specs.declared.mark.Item.TheVariants.{Took, Marked}
+use Rattle.jk_log.specs.declared.mark.Mark.{Mark}
+use Rattle.jk_log.specs.declared.mark.Kind.{Kind}
+use Rattle.jk_log.specs.declared.mark.Kind.TheVariants.{Join, Leave, Begin, Flush, Ask, Line, End, Stop, Answer, Interrupt, KernelInfo}
+use Rattle.jk_log.specs.Asked.{sort_as, input_in}
+use Rattle.jk_log.specs.Log.{Log, Running, running, seat_at, arrival_at, execute_at, asker, asked_of, left, nones, option_at, option_or, option_with, flushed_at, lined}
+use Rattle.jk_log.specs.Legal.{Due, MarkDue, AnswerDue, FlushDue, StopDue, EachFollows, MayMark, owed, dues_of, line_due}
+use Rattle.jk_log.proofs.Logs.{by_sort, execute_within}
 use Rattle.jk_world.specs.Cells.{lines_at, fresh_lines, interrupts}
 use Rattle.jk_world.specs.Input.{texts_in, all_lines, listed, sent_lines, IsPartOf}
 use Rattle.jk_world.proofs.Basics.{no_run, cond_same, arrival_past}

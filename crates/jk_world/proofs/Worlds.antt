@@ -6,14 +6,15 @@ use Rattle.std.proofs.lemmas.List.{take-append-drop, drop_at, length-append, app
 use Rattle.std.proofs.lemmas.List.Elements.{filter-append}
 use Rattle.std.proofs.lemmas.Option.{none-some, same_Some}
 use Rattle.jk_language.specs.Spoken.{Spoken, IsLanguage}
-use Rattle.jk_core.specs.declared.arrival.Arrival.{Arrival}
-use Rattle.jk_core.specs.declared.entry.Entry.{Entry}
+use Rattle.jk_log.specs.declared.arrival.Arrival.{Arrival}
+use Rattle.jk_log.specs.declared.entry.Entry.{Entry}
 use Rattle.jk_core.specs.declared.kernel.Used.{Used}
 use Rattle.jk_core.specs.declared.kernel.Used.TheVariants.{Kept, Stranger}
-use Rattle.jk_core.specs.Results.{Reading, IsResult}
-use Rattle.jk_core.specs.Log.{takes}
-use Rattle.jk_core.specs.Render.{render}
-use Rattle.jk_core.specs.State.{KernelState, joined, fresh}
+use Rattle.jk_log.specs.Results.{Reading, IsResult}
+use Rattle.jk_log.specs.Log.{takes}
+use Rattle.jk_log.specs.Render.{render}
+use Rattle.jk_core.specs.State.{KernelState, fresh}
+use Rattle.jk_log.specs.Pending.{joined}
 use Rattle.jk_core.specs.Steps.{Hands, without, with_given}
 use Rattle.jk_core.specs.Kept.{IsKept}
 use Rattle.jk_core.proofs.Keeps.{kept-taken, kept-works, kept_legal}

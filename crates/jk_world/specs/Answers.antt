@@ -9,17 +9,17 @@ use Rattle.jp_msg.specs.declared.message.Output.{Output}
 use Rattle.jp_msg.specs.declared.message.Output.TheVariants.{Status}
 use Rattle.jp_msg.specs.declared.message.Request.{Request}
 use Rattle.jp_msg.specs.declared.message.State.TheVariants.{Busy, Idle}
-use Rattle.jk_core.specs.declared.arrival.Arrival.{Arrival}
-use Rattle.jk_core.specs.declared.entry.Entry.{Entry}
-use Rattle.jk_core.specs.declared.entry.Told.{Told}
-use Rattle.jk_core.specs.declared.entry.Told.TheVariants as told
-use Rattle.jk_core.specs.declared.entry.To.TheVariants.{All, Seat}
-use Rattle.jk_core.specs.declared.mark.Kind.{Kind}
-use Rattle.jk_core.specs.declared.mark.Kind.TheVariants.{Answer}
-use Rattle.jk_core.specs.Asked.{query_in}
-use Rattle.jk_core.specs.Log.{Log, arrival_at}
-use Rattle.jk_core.specs.Queries.{IsStatus, reply_to}
-use Rattle.jk_core.specs.Render.{render}
+use Rattle.jk_log.specs.declared.arrival.Arrival.{Arrival}
+use Rattle.jk_log.specs.declared.entry.Entry.{Entry}
+use Rattle.jk_log.specs.declared.entry.Told.{Told}
+use Rattle.jk_log.specs.declared.entry.Told.TheVariants as told
+use Rattle.jk_log.specs.declared.entry.To.TheVariants.{All, Seat}
+use Rattle.jk_log.specs.declared.mark.Kind.{Kind}
+use Rattle.jk_log.specs.declared.mark.Kind.TheVariants.{Answer}
+use Rattle.jk_log.specs.Asked.{query_in}
+use Rattle.jk_log.specs.Log.{Log, arrival_at}
+use Rattle.jk_log.specs.Queries.{IsStatus, reply_to}
+use Rattle.jk_log.specs.Render.{render}
 use Rattle.jk_world.specs.Cells.{times}
 use Rattle.jk_world.specs.Requests.{message_in, shown_at}
 

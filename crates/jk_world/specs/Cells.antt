@@ -4,17 +4,17 @@ use Rattle.std.specs.Prelude.{◌≡◌, Bool, true, false, ℕ, ◌+◌, ◌≤
 use Rattle.jk_language.specs.Parts.{Line as Given, Meaning}
 use Rattle.jk_language.specs.Spoken.{Spoken}
 use Rattle.jp_msg.specs.declared.message.Execute.{Execute}
-use Rattle.jk_core.specs.declared.mark.Item.TheVariants.{Took, Marked}
-use Rattle.jk_core.specs.declared.mark.Kind.{Kind}
-use Rattle.jk_core.specs.declared.mark.Kind.TheVariants.{Begin, Flush, Line, End, Stop, Refuse, Abort, Answer}
-use Rattle.jk_core.specs.Legal.{EndsSo, StopsFor}
-use Rattle.jk_core.specs.declared.arrival.What.{What}
-use Rattle.jk_core.specs.declared.arrival.What.TheVariants.{Control}
+use Rattle.jk_log.specs.declared.mark.Item.TheVariants.{Took, Marked}
+use Rattle.jk_log.specs.declared.mark.Kind.{Kind}
+use Rattle.jk_log.specs.declared.mark.Kind.TheVariants.{Begin, Flush, Line, End, Stop, Refuse, Abort, Answer}
+use Rattle.jk_log.specs.Legal.{EndsSo, StopsFor}
+use Rattle.jk_log.specs.declared.arrival.What.{What}
+use Rattle.jk_log.specs.declared.arrival.What.TheVariants.{Control}
 use Rattle.jp_msg.specs.declared.message.Content.{Content}
 use Rattle.jp_msg.specs.declared.message.Content.TheVariants as content
 use Rattle.jp_msg.specs.declared.message.Request.{Request}
 use Rattle.jp_msg.specs.declared.message.Request.TheVariants as request
-use Rattle.jk_core.specs.Log.{Log, Running, running, session, execute_at, nones, option_or}
+use Rattle.jk_log.specs.Log.{Log, Running, running, session, execute_at, nones, option_or}
 
 -- how often a request is begun, refused, aborted or answered by a mark
 abbrev pub answers : Kind → ℕ

@@ -2,10 +2,10 @@
 -- The counts of cells.
 use Rattle.std.specs.Prelude.{◌≡◌, Bool, false, ℕ, ◌+◌, if◌then◌else◌, not, ◌&&◌, List, [], ◌∷◌}
 use Rattle.jp_msg.specs.declared.message.Execute.{Execute}
-use Rattle.jk_core.specs.declared.mark.Item.TheVariants.{Took, Marked}
-use Rattle.jk_core.specs.declared.mark.Kind.{Kind}
-use Rattle.jk_core.specs.declared.mark.Kind.TheVariants.{Begin, End, Stop, Refuse}
-use Rattle.jk_core.specs.Log.{Log, execute_at, option_or}
+use Rattle.jk_log.specs.declared.mark.Item.TheVariants.{Took, Marked}
+use Rattle.jk_log.specs.declared.mark.Kind.{Kind}
+use Rattle.jk_log.specs.declared.mark.Kind.TheVariants.{Begin, End, Stop, Refuse}
+use Rattle.jk_log.specs.Log.{Log, execute_at, option_or}
 use Rattle.jk_world.specs.Sessions.{begun_places}
 
 -- whether the request at a place is to be stored

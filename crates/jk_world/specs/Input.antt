@@ -2,11 +2,11 @@
 -- What the cell of a request asks for, and what it is given.
 use Rattle.std.specs.Prelude.{◌≡◌, ◌⊎◌, ℕ, ◌==◌, if◌then◌else◌, List, [], ◌∷◌, ◌++◌, Option, None, Some}
 use Rattle.jk_language.specs.Parts.{Line as Given}
-use Rattle.jk_core.specs.declared.mark.Item.TheVariants.{Took, Marked}
-use Rattle.jk_core.specs.declared.mark.Kind.{Kind}
-use Rattle.jk_core.specs.declared.mark.Kind.TheVariants.{Ask}
-use Rattle.jk_core.specs.Asked.{input_in}
-use Rattle.jk_core.specs.Log.{Log, seat_at}
+use Rattle.jk_log.specs.declared.mark.Item.TheVariants.{Took, Marked}
+use Rattle.jk_log.specs.declared.mark.Kind.{Kind}
+use Rattle.jk_log.specs.declared.mark.Kind.TheVariants.{Ask}
+use Rattle.jk_log.specs.Asked.{input_in}
+use Rattle.jk_log.specs.Log.{Log, seat_at}
 use Rattle.jk_world.specs.Cells.{last_turns, lines_at, fresh_lines}
 use Rattle.jk_world.specs.Order.{IsFalling}
 

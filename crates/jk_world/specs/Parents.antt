@@ -4,9 +4,9 @@ use Rattle.std.specs.Prelude.{◌≡◌, List, [], ◌∷◌, Option, Some}
 use Rattle.jp_msg.specs.declared.message.Message.{Message}
 use Rattle.jp_msg.specs.declared.message.Output.{Output}
 use Rattle.jp_msg.specs.declared.message.Output.TheVariants as output
-use Rattle.jk_core.specs.declared.entry.Entry.{Entry}
-use Rattle.jk_core.specs.declared.entry.Told.{Told}
-use Rattle.jk_core.specs.declared.entry.Told.TheVariants as told
+use Rattle.jk_log.specs.declared.entry.Entry.{Entry}
+use Rattle.jk_log.specs.declared.entry.Told.{Told}
+use Rattle.jk_log.specs.declared.entry.Told.TheVariants as told
 
 -- what an entry does to the outputs of cells
 pub data Role : Type 0 where

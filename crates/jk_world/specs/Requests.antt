@@ -5,17 +5,17 @@ use Rattle.jp_msg.specs.declared.message.Message.{Message}
 use Rattle.jp_msg.specs.declared.message.Execute.{Execute}
 use Rattle.jp_msg.specs.declared.message.Output.{Output}
 use Rattle.jp_msg.specs.declared.message.Output.TheVariants.{Status, ExecuteInput, Stream, Error, ExecuteReply}
-use Rattle.jk_core.specs.declared.arrival.Arrival.{Arrival}
-use Rattle.jk_core.specs.declared.arrival.What.{What}
-use Rattle.jk_core.specs.declared.arrival.What.TheVariants as what
-use Rattle.jk_core.specs.declared.entry.Entry.{Entry}
-use Rattle.jk_core.specs.declared.entry.Told.{Told}
-use Rattle.jk_core.specs.declared.entry.Told.TheVariants as told
-use Rattle.jk_core.specs.declared.entry.To.{To}
-use Rattle.jk_core.specs.declared.entry.To.TheVariants.{All, Seat, Nobody}
-use Rattle.jk_core.specs.declared.mark.Item.TheVariants.{Took, Marked}
-use Rattle.jk_core.specs.Log.{Log, execute_at, arrival_at}
-use Rattle.jk_core.specs.Render.{entries_at}
+use Rattle.jk_log.specs.declared.arrival.Arrival.{Arrival}
+use Rattle.jk_log.specs.declared.arrival.What.{What}
+use Rattle.jk_log.specs.declared.arrival.What.TheVariants as what
+use Rattle.jk_log.specs.declared.entry.Entry.{Entry}
+use Rattle.jk_log.specs.declared.entry.Told.{Told}
+use Rattle.jk_log.specs.declared.entry.Told.TheVariants as told
+use Rattle.jk_log.specs.declared.entry.To.{To}
+use Rattle.jk_log.specs.declared.entry.To.TheVariants.{All, Seat, Nobody}
+use Rattle.jk_log.specs.declared.mark.Item.TheVariants.{Took, Marked}
+use Rattle.jk_log.specs.Log.{Log, execute_at, arrival_at}
+use Rattle.jk_log.specs.Render.{entries_at}
 use Rattle.jk_world.specs.Cells.{streams, times_closed, runs_at}
 
 -- the entries of the marks for the arrival at a place, in their order

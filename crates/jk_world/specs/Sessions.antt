@@ -3,10 +3,10 @@
 use Rattle.std.specs.Prelude.{◌≡◌, ℕ, List, [], ◌∷◌, None, Some}
 use Rattle.jk_language.specs.Spoken.{Spoken}
 use Rattle.jp_msg.specs.declared.message.Execute.{Execute}
-use Rattle.jk_core.specs.declared.mark.Item.TheVariants.{Took, Marked}
-use Rattle.jk_core.specs.declared.mark.Kind.{Kind}
-use Rattle.jk_core.specs.declared.mark.Kind.TheVariants.{Begin, Restart}
-use Rattle.jk_core.specs.Log.{Log, running, session, execute_at}
+use Rattle.jk_log.specs.declared.mark.Item.TheVariants.{Took, Marked}
+use Rattle.jk_log.specs.declared.mark.Kind.{Kind}
+use Rattle.jk_log.specs.declared.mark.Kind.TheVariants.{Begin, Restart}
+use Rattle.jk_log.specs.Log.{Log, running, session, execute_at}
 use Rattle.jk_world.specs.Cells.{begun_in, flushed_meaning}
 
 abbrev pub begun_with : Kind → ℕ → List ℕ → List ℕ

@@ -3,20 +3,21 @@
 use Rattle.std.specs.Prelude.{◌≡◌, ℕ, ◌+◌, ◌==◌, List, [], ◌∷◌, ◌++◌, length, take, drop, filter, remove, replicate, Option, Some, None, Result, Ok, slice_get, slice_set, false}
 use Rattle.std.specs.Str.{bytes_eq}
 use Rattle.jk_language.specs.Spoken.{Spoken}
-use Rattle.jk_core.specs.declared.arrival.Arrival.{Arrival}
-use Rattle.jk_core.specs.declared.entry.Entry.{Entry}
-use Rattle.jk_core.specs.declared.job.Job.{Job}
-use Rattle.jk_core.specs.declared.job.Parsed.{Parsed}
+use Rattle.jk_log.specs.declared.arrival.Arrival.{Arrival}
+use Rattle.jk_log.specs.declared.entry.Entry.{Entry}
+use Rattle.jk_log.specs.declared.job.Job.{Job}
+use Rattle.jk_log.specs.declared.job.Parsed.{Parsed}
 use Rattle.jk_core.specs.declared.kernel.Used.{Used}
 use Rattle.jk_core.specs.declared.kernel.Work.{Work as Worked}
-use Rattle.jk_core.specs.Results.{Reading, IsResult}
+use Rattle.jk_log.specs.Results.{Reading, IsResult}
 use Rattle.jp_msg.specs.declared.message.Completeness.{Completeness}
-use Rattle.jk_core.specs.Asked.{query_in}
-use Rattle.jk_core.specs.Queries.{IsStatusOf}
-use Rattle.jk_core.specs.Log.{Log, takes, ended}
-use Rattle.jk_core.specs.Legal.{IsLegal}
-use Rattle.jk_core.specs.Render.{render}
-use Rattle.jk_core.specs.State.{KernelState, fresh, joined}
+use Rattle.jk_log.specs.Asked.{query_in}
+use Rattle.jk_log.specs.Queries.{IsStatusOf}
+use Rattle.jk_log.specs.Log.{Log, takes, ended}
+use Rattle.jk_log.specs.Legal.{IsLegal}
+use Rattle.jk_log.specs.Render.{render}
+use Rattle.jk_core.specs.State.{KernelState, fresh}
+use Rattle.jk_log.specs.Pending.{joined}
 use Rattle.jk_core.specs.Steps.{taken, GivesJob, Hands, Works, without}
 use Rattle.js_shelf.specs.declared.item.Item.TheVariants.{File}
 use Rattle.js_shelf.specs.declared.item.ShelfRefusal.{ShelfRefusal}

@@ -3,10 +3,10 @@
 #![tactic(auto)]
 
 ghost use Rattle.std.specs.Prelude.{◌≡◌, ◌++◌, ◌||◌, List, ℕ, None, Some};
-ghost use Rattle.jk_core.specs.declared.entry.Entry.{Entry};
-ghost use Rattle.jk_core.specs.Log.{Log};
-ghost use Rattle.jk_core.specs.Legal.{IsLegal};
-ghost use Rattle.jk_core.specs.Render.{render};
+ghost use Rattle.jk_log.specs.declared.entry.Entry.{Entry};
+ghost use Rattle.jk_log.specs.Log.{Log};
+ghost use Rattle.jk_log.specs.Legal.{IsLegal};
+ghost use Rattle.jk_log.specs.Render.{render};
 ghost use Rattle.jk_world.specs.World.{World, Event, opening, Run, IsTrueWorld, HasGoneOn};
 ghost use Rattle.jk_world.specs.Cells.{IsAnsweredOnce, begun_in, CellIsRight};
 ghost use Rattle.jk_world.specs.Order.{IsFalling, answered_places};

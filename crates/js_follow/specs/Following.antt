@@ -3,7 +3,7 @@
 use Rattle.std.specs.Prelude.{◌≡◌, ◌⊎◌, ◌||◌, ◌&&◌, ℕ, Bool, true, false, List, ◌++◌, Option, Some, None, Result, Ok, Err, slice_get, slice_set, position}
 use Rattle.std.specs.List.{list_any}
 use Rattle.std.specs.Str.{bytes_eq}
-use Rattle.jk_core.specs.declared.entry.Entry.{Entry}
+use Rattle.jk_log.specs.declared.entry.Entry.{Entry}
 use Rattle.js_shelf.specs.declared.item.ShelfRefusal.{ShelfRefusal}
 use Rattle.js_shelf.specs.Shelves.{Contents, Tells, HasCause}
 use Rattle.nb_record.specs.State.{AreTold, Saves, ends_stored}

@@ -6,7 +6,7 @@ ghost use Rattle.nb_record.specs.State.{ends_stored as is_ending};
 ghost use Rattle.js_follow.specs.Following as spec;
 ghost use Rattle.js_tables.specs.Tables.{rows};
 
-use jk_core::Entry;
+use jk_log::Entry;
 use js_shelf::{Shelf, ShelfRefusal};
 use js_tables::{Kernel, Recording, Tables, Update, find_kernel};
 use json_form::Text;

@@ -19,9 +19,9 @@ use Rattle.js_ws.proofs.names.Names.TheSendSync as names
 use Rattle.jk_queues.proofs.Crossing.{seat_send}
 use Rattle.jk_board.proofs.Crossing.{follower_send}
 use Rattle.jk_board.specs.contracts.board.Followers as Followers
-use Rattle.jk_core.proofs.job.ParsedCell.TheSendSync as parsed
-use Rattle.jk_core.specs.contracts.job.ParsedCell as ParsedCell
-use Rattle.jk_core.proofs.Crossing.{entry_send}
+use Rattle.jk_log.proofs.job.ParsedCell.TheSendSync as parsed
+use Rattle.jk_log.specs.contracts.job.ParsedCell as ParsedCell
+use Rattle.jk_log.proofs.Crossing.{entry_send}
 use Rattle.jk_queues.proofs.pool.WorkerEnd.TheSendSync as end
 use Rattle.jk_queues.specs.contracts.inbox.Seats as Seats
 use Rattle.jk_queues.specs.contracts.pool.WorkerEnd as WorkerEnd

@@ -2,8 +2,8 @@
 
 use crossbeam_channel::Sender;
 use jk_board::Follower;
-use jk_core::Entry;
 use jk_language::Language;
+use jk_log::Entry;
 use jk_queues::Seat;
 use js_http::{Request, Response};
 use js_ws::Names;

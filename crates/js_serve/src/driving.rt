@@ -6,8 +6,9 @@ ghost use Rattle.jk_board.specs.Ends.{published};
 
 use crossbeam_channel::Sender;
 use jk_board::{Board, Followers, Publisher};
-use jk_core::{Kernel, ParsedCell};
+use jk_core::Kernel;
 use jk_language::Language;
+use jk_log::ParsedCell;
 use jk_queues::{Inbox, Pool, Seats, Taker, WorkerEnd};
 use jk_run::{Driver, Parts, drive};
 use std::alloc::{AllocError, Global};

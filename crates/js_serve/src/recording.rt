@@ -2,8 +2,8 @@
 
 use crate::call::{Call, Reading};
 use crossbeam_channel::{SendError, Sender, bounded};
-use jk_core::{Entry, Told};
 use jk_language::Language;
+use jk_log::{Entry, Told};
 use jp_msg::Output;
 use json_form::Text;
 use std::alloc::Global;

@@ -1,8 +1,8 @@
 //! What the server itself sees of a kernel.
 
 use jk_board::Follower;
-use jk_core::{Entry, Told};
 use jk_language::Language;
+use jk_log::{Entry, Told};
 use jp_msg::{Output, State as Said};
 use js_tables::State;
 use std::alloc::Global;

@@ -3,4 +3,3 @@ pub mod NameLemmas
 pub mod MoveLemmas
 pub mod RefusalLemmas
 pub mod PlaceLemmas
-pub mod DeviceLemmas

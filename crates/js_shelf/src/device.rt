@@ -6,6 +6,8 @@ ghost use Rattle.js_shelf.specs.Devices.{Looks, Reads, TellsNames, Sets, Moves, 
 
 use crate::{Bytes, Names, Place};
 use std::alloc::{AllocError, AllocFailed};
+use std::io;
+use std::io::ErrorKind;
 
 /// What stands at a place.
 #[derive(Clone, Copy, Debug, PartialEq, Eq)]
@@ -44,6 +46,15 @@ impl<T: Drop> From<AllocFailed<T>> for DeviceFault {
 
     fn from(_: AllocFailed<T>) -> DeviceFault {
         DeviceFault::Memory
+    }
+}
+
+impl From<io::Error> for DeviceFault {
+    fn from(error: io::Error) -> DeviceFault {
+        match error.kind() {
+            ErrorKind::OutOfMemory => DeviceFault::Memory,
+            _ => DeviceFault::Failed,
+        }
     }
 }
 

@@ -82,7 +82,7 @@ pub fn is_step(bytes: &[u8]) -> bool
 }
 
 /// Whether a text is a path other than the root.
-pub(crate) fn is_below_root(path: &str) -> bool
+pub fn is_below_root(path: &str) -> bool
     ensures { result ≡ (spec.is_path path.now && not (spec.is_root path.now)) }
 {
     is_path(path) && !path.is_empty()
@@ -164,7 +164,7 @@ pub(crate) fn name_in<'p>(folder: &str, path: &'p str) -> Option<&'p str>
 }
 
 /// Whether `to` stands below `from`.
-pub(crate) fn is_below(from: &str, to: &str) -> bool
+pub fn is_below(from: &str, to: &str) -> bool
     ensures { result ≡ shelves.is_below from.now to.now }
 {
     match following(from, to) {

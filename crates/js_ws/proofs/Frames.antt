@@ -3,7 +3,7 @@ use Rattle.std.proofs.Common.{◌≡◌, ℕ, ◌+◌, ◌<◌, ◌≤◌, List,
 use Rattle.std.proofs.lemmas.List.{take_more}
 use Rattle.std.specs.Io.KnownBytes.{Appends}
 use Rattle.tungstenite.specs.Socket.{Socket}
-use Rattle.jk_core.specs.declared.entry.Entry.{Entry}
+use Rattle.jk_log.specs.declared.entry.Entry.{Entry}
 use Rattle.js_ws.specs.Frames.{Wrote, SentAll, frame_of, frames_of, Tells, EndsIn}
 use Rattle.js_ws.specs.declared.names.Names.{Names}
 

@@ -1,8 +1,8 @@
 -- What a seat has sent once it submits an arrival.
 use Rattle.std.proofs.Common.{◌≡◌, ℕ, ◌+◌, ◌<◌, ◌==◌, true, List, [], ◌∷◌, ◌++◌, length, slice_index_or, append-nil, refl, sym, ap, ◌∙◌, arith, eq-eqb, Option, None, Some}
 use Rattle.std.specs.Prelude.{map}
-use Rattle.jk_core.specs.declared.arrival.Arrival.{Arrival}
-use Rattle.jk_core.specs.declared.arrival.What.{What}
+use Rattle.jk_log.specs.declared.arrival.Arrival.{Arrival}
+use Rattle.jk_log.specs.declared.arrival.What.{What}
 use Rattle.jk_queues.specs.declared.part.Part.{Part}
 use Rattle.jk_queues.specs.declared.part.Sender.{Sender}
 use Rattle.jk_queues.specs.declared.inbox.Seat.{Seat}

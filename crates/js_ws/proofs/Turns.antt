@@ -1,8 +1,8 @@
 -- The steps of a turn, one after another.
 use Rattle.std.proofs.Common.{◌≡◌, ℕ, Bool, true, false, List, ◌++◌, Option, None, Some, sym, ap, ◌∙◌, refl, true≢false}
 use Rattle.std.specs.Prelude.{is_some}
-use Rattle.jk_core.specs.declared.arrival.Arrival.{Arrival}
-use Rattle.jk_core.specs.declared.arrival.What.{What}
+use Rattle.jk_log.specs.declared.arrival.Arrival.{Arrival}
+use Rattle.jk_log.specs.declared.arrival.What.{What}
 use Rattle.js_ws.specs.Arrivals.{arrivals_of, leave_of}
 use Rattle.js_ws.specs.Turns.{turn_of}
 use Rattle.js_ws.specs.declared.channel.Turn.{Turn}

@@ -1,9 +1,9 @@
 -- To be believed.
 -- What a connection sends to the inbox of its kernel.
 use Rattle.std.specs.Prelude.{ℕ, ◌+◌, Bool, true, false, ◌&&◌, not, List, [], ◌∷◌, ◌++◌, length, Option, None, Some, if◌then◌else◌}
-use Rattle.jk_core.specs.declared.arrival.Arrival.{Arrival}
-use Rattle.jk_core.specs.declared.arrival.What.{What}
-use Rattle.jk_core.specs.declared.arrival.What.TheVariants.{Leave}
+use Rattle.jk_log.specs.declared.arrival.Arrival.{Arrival}
+use Rattle.jk_log.specs.declared.arrival.What.{What}
+use Rattle.jk_log.specs.declared.arrival.What.TheVariants.{Leave}
 use Rattle.jk_queues.specs.Ends.{sent_by}
 use Rattle.js_ws.specs.declared.hearing.Heard.{Heard}
 use Rattle.js_ws.specs.declared.hearing.Heard.TheVariants as heard

@@ -12,9 +12,9 @@ use Rattle.jp_msg.specs.declared.message.Message.{Message}
 use Rattle.jp_msg.specs.declared.message.Output.{Output}
 use Rattle.jp_msg.specs.Building.{kernel_message}
 use Rattle.jp_msg.specs.Writing.{message_text}
-use Rattle.jk_core.specs.declared.entry.Entry.{Entry}
-use Rattle.jk_core.specs.declared.entry.Told.{Told}
-use Rattle.jk_core.specs.declared.entry.Told.TheVariants as told
+use Rattle.jk_log.specs.declared.entry.Entry.{Entry}
+use Rattle.jk_log.specs.declared.entry.Told.{Told}
+use Rattle.jk_log.specs.declared.entry.Told.TheVariants as told
 use Rattle.js_ws.specs.declared.names.Names.{Names}
 
 -- the identifier of the message that a channel sends after n others

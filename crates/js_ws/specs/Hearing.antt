@@ -14,8 +14,8 @@ use Rattle.jp_msg.specs.declared.message.Channel.{Channel}
 use Rattle.jp_msg.specs.declared.message.Channel.TheVariants.{Shell, Control, Stdin, Iopub}
 use Rattle.jp_msg.specs.declared.message.Message.{Message}
 use Rattle.jp_msg.specs.Reading.{message_at}
-use Rattle.jk_core.specs.declared.arrival.What.{What}
-use Rattle.jk_core.specs.declared.arrival.What.TheVariants as what
+use Rattle.jk_log.specs.declared.arrival.What.{What}
+use Rattle.jk_log.specs.declared.arrival.What.TheVariants as what
 use Rattle.js_ws.specs.declared.hearing.Heard.{Heard}
 use Rattle.js_ws.specs.declared.hearing.Heard.TheVariants as heard
 

@@ -10,9 +10,9 @@ use Rattle.jp_msg.specs.declared.message.Request.{Request}
 use Rattle.jp_msg.specs.declared.message.Request.TheVariants.{Shutdown}
 use Rattle.jp_msg.specs.declared.message.State.{State}
 use Rattle.jp_msg.specs.declared.message.State.TheVariants.{Busy, Idle}
-use Rattle.jk_core.specs.declared.entry.Entry.{Entry}
-use Rattle.jk_core.specs.declared.entry.Told.{Told}
-use Rattle.jk_core.specs.declared.entry.Told.TheVariants as told
+use Rattle.jk_log.specs.declared.entry.Entry.{Entry}
+use Rattle.jk_log.specs.declared.entry.Told.{Told}
+use Rattle.jk_log.specs.declared.entry.Told.TheVariants as told
 
 abbrev pub is_idle : State → Bool
 is_idle Busy = false

@@ -5,10 +5,10 @@ use Rattle.tungstenite.specs.declared.error.Error.{Error}
 use Rattle.tungstenite.specs.declared.message.Message.{Message}
 use Rattle.tungstenite.specs.Socket.{Reads, IsFresh}
 use Rattle.websocket.specs.declared.protocol.config.Role.TheVariants.{Server}
-use Rattle.jk_core.specs.declared.arrival.Arrival.{Arrival}
-use Rattle.jk_core.specs.declared.arrival.What.{What}
-use Rattle.jk_core.specs.declared.arrival.What.TheVariants.{Join}
-use Rattle.jk_core.specs.declared.entry.Entry.{Entry}
+use Rattle.jk_log.specs.declared.arrival.Arrival.{Arrival}
+use Rattle.jk_log.specs.declared.arrival.What.{What}
+use Rattle.jk_log.specs.declared.arrival.What.TheVariants.{Join}
+use Rattle.jk_log.specs.declared.entry.Entry.{Entry}
 use Rattle.jk_queues.specs.declared.inbox.Seat.{Seat}
 use Rattle.jk_queues.specs.Ends.{seat_inbox, sent_by}
 use Rattle.jk_board.specs.declared.follower.Follower.{Follower}

@@ -1,11 +1,11 @@
 -- To be believed.
 -- What a connection is sent of the entries of a board.
 use Rattle.std.specs.Prelude.{Bool, true, false, ◌&&◌, ◌||◌, ◌==◌, ℕ, if◌then◌else◌, List, [], ◌∷◌, filter}
-use Rattle.jk_core.specs.declared.entry.Entry.{Entry}
-use Rattle.jk_core.specs.declared.entry.Told.{Told}
-use Rattle.jk_core.specs.declared.entry.Told.TheVariants.{Joined}
-use Rattle.jk_core.specs.declared.entry.To.{To}
-use Rattle.jk_core.specs.declared.entry.To.TheVariants.{All, Seat, Nobody}
+use Rattle.jk_log.specs.declared.entry.Entry.{Entry}
+use Rattle.jk_log.specs.declared.entry.Told.{Told}
+use Rattle.jk_log.specs.declared.entry.Told.TheVariants.{Joined}
+use Rattle.jk_log.specs.declared.entry.To.{To}
+use Rattle.jk_log.specs.declared.entry.To.TheVariants.{All, Seat, Nobody}
 
 abbrev pub tells_join : ℕ → ℕ → Told → Bool
 tells_join seat number (Joined s n) = s == seat && n == number

@@ -5,8 +5,8 @@ ghost use Rattle.js_ws.specs.Reads.{items_read};
 
 use crate::view::{busy_with, goes_to, is_join, is_last};
 use jk_board::Follower;
-use jk_core::Entry;
 use jk_language::Language;
+use jk_log::Entry;
 use std::alloc::{AllocError, Global};
 
 /// How many entries a channel asks its follower for at once.
@@ -82,7 +82,7 @@ impl<L: Language> Feed<L> {
     ghost use Rattle.js_ws.specs.Views.{part, has_joined};
     ghost use Rattle.js_ws.specs.Shutdowns.{has_last};
     ghost use Rattle.js_ws.specs.Statuses.{busy_after};
-    ghost use Rattle.jk_core.specs.declared.entry.Entry.{Entry};
+    ghost use Rattle.jk_log.specs.declared.entry.Entry.{Entry};
 
     /// Takes the next entries that the follower gives, and holds those of the connection at this seat. None are taken where
     /// there is no memory.

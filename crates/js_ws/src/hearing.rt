@@ -2,7 +2,7 @@
 ghost use Rattle.std.specs.Prelude.{◌≡◌, IfOk, true, false};
 ghost use Rattle.js_ws.specs.Hearing.{Hears, HearsText, IsTimeLimit, is_fault, is_quiet, on_channel};
 
-use jk_core::What;
+use jk_log::What;
 use jp_msg::{Bad, Channel, Message as Said, read_message};
 use json_form::Shared;
 use std::alloc::{AllocError, Global};

@@ -3,7 +3,7 @@ ghost use Rattle.std.specs.Prelude.{◌≡◌, ◌||◌, ◌++◌, None, is_some
 ghost use Rattle.jk_queues.specs.Ends.{seat_inbox};
 
 use crate::hearing::Heard;
-use jk_core::{Arrival, What};
+use jk_log::{Arrival, What};
 use jk_queues::{Full, Seat};
 use std::sync::Wait;
 

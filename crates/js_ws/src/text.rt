@@ -4,7 +4,7 @@ ghost use Rattle.js_ws.specs.Frames.{id_of, output_text, text_of};
 
 use crate::names::Names;
 use itoa::Buffer;
-use jk_core::{Entry, Told};
+use jk_log::{Entry, Told};
 use jp_msg::{Channel, Message, Output, Stamp, write_message};
 use std::alloc::{AllocError, Global};
 

@@ -1,6 +1,6 @@
 //! One turn of a channel.
 ghost use Rattle.std.specs.Prelude.{◌≡◌, ◌++◌, true, false, List};
-ghost use Rattle.jk_core.specs.declared.entry.Entry.{Entry};
+ghost use Rattle.jk_log.specs.declared.entry.Entry.{Entry};
 ghost use Rattle.jk_board.specs.Ends.{read_by};
 ghost use Rattle.jk_queues.specs.Ends.{seat_inbox};
 ghost use Rattle.js_ws.specs.Statuses.{busy_after};

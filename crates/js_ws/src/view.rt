@@ -4,7 +4,7 @@ ghost use Rattle.js_ws.specs.Views as spec;
 ghost use Rattle.js_ws.specs.Shutdowns as last;
 ghost use Rattle.js_ws.specs.Statuses as status;
 
-use jk_core::{Entry, To, Told};
+use jk_log::{Entry, To, Told};
 use jp_msg::{Channel, Content, Message, Output, Request, State};
 
 /// Whether an entry that goes there goes to the seat.

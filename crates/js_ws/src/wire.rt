@@ -5,7 +5,7 @@ ghost use Rattle.websocket.specs.declared.protocol.config.Role.TheVariants.{Serv
 use crate::hearing::{Heard, heard_of};
 use crate::names::Names;
 use crate::text::{Naming, write_entry};
-use jk_core::Entry;
+use jk_log::Entry;
 use std::alloc::Global;
 use std::io::{Read, Write};
 use tungstenite::{Error, Message, NoMask, Role, WebSocket};
@@ -35,7 +35,7 @@ impl<S: Read + Write + Drop> Wire<S> {
     ghost use Rattle.tungstenite.specs.declared.error.Error.{Error};
     ghost use Rattle.tungstenite.specs.declared.message.Message.{Message};
     ghost use Rattle.tungstenite.specs.Socket.{Reads, IsFresh};
-    ghost use Rattle.jk_core.specs.declared.entry.Entry.{Entry};
+    ghost use Rattle.jk_log.specs.declared.entry.Entry.{Entry};
     ghost use Rattle.js_ws.specs.Hearing.{Hears, is_fault};
     ghost use Rattle.js_ws.specs.Frames.{SentAll, frame_of, frame_or_none, text_frame};
     ghost use Rattle.js_ws.specs.Wires.{Sends};

@@ -1,7 +1,7 @@
 //! The program as a server.
 
+use js_files::FileShelf;
 use js_serve::{Desk, Job, work};
-use js_shelf::FileShelf;
 use ob_language::Oberon;
 use std::alloc::Global;
 use std::io::Write;

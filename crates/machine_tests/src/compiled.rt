@@ -7,7 +7,7 @@ use crate::compiled::build::{begin, image_of};
 use crate::compiled::run::{Stood, run};
 use crate::reference::Seen;
 use ob_mean::{Face, Loaded, Outcome};
-use ob_reference::NoAnswer;
+use ob_reference_store::stop::NoAnswer;
 use ob_vm::Turned;
 use std::alloc::Global;
 

@@ -12,7 +12,9 @@ mod values;
 
 use crate::compiled;
 use ob_mean::{Face, Loaded, Outcome, TrapKind, TurnKind};
-use ob_reference::{GivenLine, NoAnswer, Ran, Reference};
+use ob_reference::{Ran, Reference};
+use ob_reference_store::state::GivenLine;
+use ob_reference_store::stop::NoAnswer;
 use std::alloc::{AllocError, Global};
 
 /// Why a run stands, what it has written, and the turns that are left.

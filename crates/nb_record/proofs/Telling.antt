@@ -2,7 +2,7 @@
 use Rattle.std.proofs.Common.{◌≡◌, ℕ, ◌+◌, ◌<◌, List, [], ◌∷◌, ◌++◌, length, take, get_or, refl, sym, subst}
 use Rattle.std.specs.Prelude.{Result, Ok, Err, is_err, false, OnOk}
 use Rattle.std.proofs.lemmas.List.{take_more}
-use Rattle.jk_core.specs.declared.entry.Entry.{Entry}
+use Rattle.jk_log.specs.declared.entry.Entry.{Entry}
 use Rattle.nb_record.specs.declared.pages.Pages.{Pages}
 use Rattle.nb_record.specs.Book.{Shown}
 use Rattle.nb_record.specs.State.{IsTold, AreTold}

@@ -16,9 +16,9 @@ use Rattle.jp_msg.specs.declared.message.Failure.{Failure}
 use Rattle.jp_msg.specs.declared.message.Output.{Output as Told}
 use Rattle.jp_msg.specs.declared.message.Output.TheVariants as told
 use Rattle.jp_msg.specs.Writing.{traceback_text}
-use Rattle.jk_core.specs.declared.entry.Entry.{Entry}
-use Rattle.jk_core.specs.declared.entry.Told.{Told as EntryContent}
-use Rattle.jk_core.specs.declared.entry.Told.TheVariants as entry
+use Rattle.jk_log.specs.declared.entry.Entry.{Entry}
+use Rattle.jk_log.specs.declared.entry.Told.{Told as EntryContent}
+use Rattle.jk_log.specs.declared.entry.Told.TheVariants as entry
 use Rattle.nb_doc.specs.declared.notebook.Notebook.{Notebook}
 use Rattle.nb_doc.specs.declared.notebook.Cell.{Cell}
 use Rattle.nb_doc.specs.declared.notebook.Content.{Content}

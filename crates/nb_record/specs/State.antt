@@ -5,9 +5,9 @@ use Rattle.jp_msg.specs.declared.message.Message.{Message}
 use Rattle.jp_msg.specs.declared.message.State.{State}
 use Rattle.jp_msg.specs.declared.message.State.TheVariants as state
 use Rattle.jp_msg.specs.declared.message.Output.TheVariants as told
-use Rattle.jk_core.specs.declared.entry.Entry.{Entry}
-use Rattle.jk_core.specs.declared.entry.Told.{Told as EntryContent}
-use Rattle.jk_core.specs.declared.entry.Told.TheVariants as entry
+use Rattle.jk_log.specs.declared.entry.Entry.{Entry}
+use Rattle.jk_log.specs.declared.entry.Told.{Told as EntryContent}
+use Rattle.jk_log.specs.declared.entry.Told.TheVariants as entry
 use Rattle.js_shelf.specs.declared.item.Item.TheVariants.{File}
 use Rattle.js_shelf.specs.declared.item.ShelfRefusal.{ShelfRefusal}
 use Rattle.js_shelf.specs.Shelves.{Contents, Puts as PutsOnShelf}

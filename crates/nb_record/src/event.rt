@@ -6,7 +6,7 @@ ghost use Rattle.nb_record.specs.Book.{is_stored, wish_of, begins, error_of, eve
 ghost use Rattle.nb_record.specs.State as spec;
 ghost use Rattle.nb_record.specs.State.{IsReadableEvent};
 
-use jk_core::{Entry, Told};
+use jk_log::{Entry, Told};
 use jp_msg::{Content, Failure, Message, Output as ToldOutput, Request, State};
 use json_form::Text;
 use nb_doc::{Notebook, Output};

@@ -13,7 +13,7 @@ ghost use Rattle.nb_record.specs.State.{StandsAt, IsTold, AreTold, Saves};
 
 use crate::event::{Event, event_in};
 use crate::pages::{Pages, take};
-use jk_core::Entry;
+use jk_log::Entry;
 use js_shelf::{Bytes, Item as ShelfItem, Shelf, ShelfRefusal};
 use json_form::Text;
 use nb_doc::{Names, Notebook, write_notebook};

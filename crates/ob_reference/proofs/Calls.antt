@@ -9,8 +9,8 @@ use Rattle.ob_mean.specs.declared.outcome.TurnKind.TheVariants.{ProcedureCall}
 use Rattle.ob_mean.specs.Values.{Value, count}
 use Rattle.ob_mean.specs.Runs.{World, Supply, Goes, Stands, supply, spend}
 use Rattle.ob_mean.specs.Programs.{call_at, scope_at, home_of, procedure_of, found_meaning, procedure_meaning}
-use Rattle.ob_reference.specs.declared.state.State.{State}
-use Rattle.ob_reference.specs.States.{supply_in, world_in}
+use Rattle.ob_reference_store.specs.declared.state.State.{State}
+use Rattle.ob_reference_store.specs.States.{supply_in, world_in}
 
 pub call_none : (program : List Loaded) (depth home : ℕ) (f : Callee) (passed : Value) (line : ℕ) (n : Supply) (w : World) → depth ≡ 0 → call_at program depth home f passed line n w ≡ Stands (Trapped CallDepth home line) n w
 unfolding call_at

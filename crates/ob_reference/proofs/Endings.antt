@@ -4,11 +4,11 @@ use Rattle.ob_mean.specs.declared.outcome.Outcome.{Outcome}
 use Rattle.ob_mean.specs.declared.outcome.Outcome.TheVariants.{Ended}
 use Rattle.ob_mean.specs.Runs.{Run, Stands, Done, done, ended}
 use Rattle.ob_reference.specs.declared.reference.Ran.{Ran}
-use Rattle.ob_reference.specs.declared.state.State.{State}
-use Rattle.ob_reference.specs.declared.stop.Stop.{Stop}
-use Rattle.ob_reference.specs.declared.stop.Stop.TheVariants as stop
+use Rattle.ob_reference_store.specs.declared.state.State.{State}
+use Rattle.ob_reference_store.specs.declared.stop.Stop.{Stop}
+use Rattle.ob_reference_store.specs.declared.stop.Stop.TheVariants as stop
 use Rattle.ob_reference.specs.Answers.{Says}
-use Rattle.ob_reference.specs.States.{Follows, supply_in, world_in}
+use Rattle.ob_reference_store.specs.States.{Follows, supply_in, world_in}
 
 says_same : (p q : Run Done) (ran : Ran) → p ≡ q → Says q ran → Says p ran
 says_same p q ran e h = (h.0, e ∙ h.1)

@@ -8,11 +8,11 @@ use Rattle.ob_mean.specs.Runs.{World, Supply, Run, Goes, Stands, Done, done, Pie
 use Rattle.ob_mean.specs.Expressions.{Scope}
 use Rattle.ob_mean.specs.Control.{Guarded, looping}
 use Rattle.ob_mean.specs.Statements.{list_meaning}
-use Rattle.ob_reference.specs.declared.state.State.{State}
-use Rattle.ob_reference.specs.declared.stop.Stop.{Stop}
-use Rattle.ob_reference.specs.declared.stop.Stop.TheVariants as stop
+use Rattle.ob_reference_store.specs.declared.state.State.{State}
+use Rattle.ob_reference_store.specs.declared.stop.Stop.{Stop}
+use Rattle.ob_reference_store.specs.declared.stop.Stop.TheVariants as stop
 use Rattle.ob_reference.specs.Branches.{branch_pieces, EntersFirst, PassesAll, BranchStops}
-use Rattle.ob_reference.specs.States.{Follows, supply_in, world_in}
+use Rattle.ob_reference_store.specs.States.{Follows, supply_in, world_in}
 
 pub loop_passes : (scope : Scope) (bs : List Branch) (most : ℕ) (n : Supply) (w : World) (s : State) → PassesAll scope bs n w s → looping (branch_pieces scope bs) most n w ≡ Goes done (supply_in s) (world_in s)
 loop_passes scope bs zero n w s h = h _ _

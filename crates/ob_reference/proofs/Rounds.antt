@@ -1,11 +1,11 @@
 -- Loops that make a round after the other.
 use Rattle.std.proofs.Common.{◌≡◌, ℕ, suc, ◌+◌, ◌-◌, ◌<◌, ◌≤◌, arith, Bool, true, false, Result, Ok, Err, ap, ◌∙◌, subst}
 use Rattle.ob_mean.specs.Runs.{World, Supply, Run, Goes, Done, done, Piece}
-use Rattle.ob_reference.specs.declared.state.State.{State}
-use Rattle.ob_reference.specs.declared.stop.Stop.{Stop}
-use Rattle.ob_reference.specs.declared.stop.Stop.TheVariants as stop
+use Rattle.ob_reference_store.specs.declared.state.State.{State}
+use Rattle.ob_reference_store.specs.declared.stop.Stop.{Stop}
+use Rattle.ob_reference_store.specs.declared.stop.Stop.TheVariants as stop
 use Rattle.ob_reference.specs.Rounds.{Round}
-use Rattle.ob_reference.specs.States.{Follows, supply_in, world_in}
+use Rattle.ob_reference_store.specs.States.{Follows, supply_in, world_in}
 
 module _ (loop : ℕ → Piece Done) where
   pub begins : (n : Supply) (w : World) (most : ℕ) → loop most n w ≡ loop (most - 0) n w

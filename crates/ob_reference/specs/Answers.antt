@@ -5,8 +5,8 @@ use Rattle.ob_mean.specs.Runs.{Run, Stands, Done, supply}
 use Rattle.ob_mean.specs.Programs as programs
 use Rattle.ob_reference.specs.declared.reference.Ran.{Ran}
 use Rattle.ob_reference.specs.declared.reference.Command.{Command}
-use Rattle.ob_reference.specs.Kept.{value_in}
-use Rattle.ob_reference.specs.States.{line_in}
+use Rattle.ob_reference_store.specs.Kept.{value_in}
+use Rattle.ob_reference_store.specs.States.{line_in}
 
 abbrev pub command_in : Command → programs.Command
 command_in c = record { home = c.home; procedure = c.procedure }

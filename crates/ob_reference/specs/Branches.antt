@@ -9,10 +9,10 @@ use Rattle.ob_mean.specs.Runs.{World, Supply, Stands, Done, Piece}
 use Rattle.ob_mean.specs.Expressions.{Scope, value_of}
 use Rattle.ob_mean.specs.Control.{Guarded, Arm, first_of, is_labelled}
 use Rattle.ob_mean.specs.Statements.{for_guard, for_body, list_meaning}
-use Rattle.ob_reference.specs.declared.state.State.{State}
-use Rattle.ob_reference.specs.declared.stop.Stop.{Stop}
-use Rattle.ob_reference.specs.declared.stop.Stop.TheVariants as stop
-use Rattle.ob_reference.specs.States.{supply_in, world_in}
+use Rattle.ob_reference_store.specs.declared.state.State.{State}
+use Rattle.ob_reference_store.specs.declared.stop.Stop.{Stop}
+use Rattle.ob_reference_store.specs.declared.stop.Stop.TheVariants as stop
+use Rattle.ob_reference_store.specs.States.{supply_in, world_in}
 
 abbrev pub branch_pieces : Scope → List Branch → List Guarded
 branch_pieces scope [] = []

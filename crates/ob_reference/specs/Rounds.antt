@@ -1,10 +1,10 @@
 -- Loops, one round at a time.
 use Rattle.std.specs.Prelude.{◌≡◌, ℕ, suc, Bool, true, false, Result, Ok, Err}
 use Rattle.ob_mean.specs.Runs.{World, Supply, Goes, Stands, Done, done, Piece}
-use Rattle.ob_reference.specs.declared.state.State.{State}
-use Rattle.ob_reference.specs.declared.stop.Stop.{Stop}
-use Rattle.ob_reference.specs.declared.stop.Stop.TheVariants as stop
-use Rattle.ob_reference.specs.States.{supply_in, world_in}
+use Rattle.ob_reference_store.specs.declared.state.State.{State}
+use Rattle.ob_reference_store.specs.declared.stop.Stop.{Stop}
+use Rattle.ob_reference_store.specs.declared.stop.Stop.TheVariants as stop
+use Rattle.ob_reference_store.specs.States.{supply_in, world_in}
 
 -- A loop with so many rounds left made one and goes on from this state, is over there, or stands in it, unless there was
 -- no answer.

@@ -4,18 +4,18 @@ ghost use Rattle.std.specs.Prelude.{◌≡◌, List};
 ghost use Rattle.ob_mean.specs.Runs.{done};
 ghost use Rattle.ob_mean.specs.Statements as spec;
 ghost use Rattle.ob_mean.specs.declared.module.Loaded.{Loaded};
-ghost use Rattle.ob_reference.specs.Kept.{place_of};
-ghost use Rattle.ob_reference.specs.States.{Follows, scope_in, supply_in, world_in};
+ghost use Rattle.ob_reference_store.specs.Kept.{place_of};
+ghost use Rattle.ob_reference_store.specs.States.{Follows, scope_in, supply_in, world_in};
 
 use crate::call::{call, passed};
 use crate::expression::{place, value};
-use crate::input::{read_into, reopen};
-use crate::state::{At, State};
-use crate::stop::Stop;
-use crate::variable::{copy_at, count_at, number_at, store_at};
-use crate::write::{write_char, write_end, write_int, write_nothing, write_text};
-use crate::zero::{cell, text_row};
 use ob_mean::{Action, Adjustment, InputCall, Loaded, Outcome, OutputCall, TrapKind};
+use ob_reference_store::input::{read_into, reopen};
+use ob_reference_store::state::{At, State};
+use ob_reference_store::stop::Stop;
+use ob_reference_store::variable::{copy_at, count_at, number_at, store_at};
+use ob_reference_store::write::{write_char, write_end, write_int, write_nothing, write_text};
+use ob_reference_store::zero::{cell, text_row};
 use std::alloc::Global;
 
 /// A number more, or less, which wraps.

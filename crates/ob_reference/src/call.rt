@@ -3,20 +3,20 @@
 ghost use Rattle.std.specs.Prelude.{◌≡◌, map, option_to_list};
 ghost use Rattle.ob_mean.specs.Expressions as spec;
 ghost use Rattle.ob_mean.specs.Programs as programs;
-ghost use Rattle.ob_reference.specs.Kept.{value_in};
+ghost use Rattle.ob_reference_store.specs.Kept.{value_in};
 ghost use Rattle.ob_reference.specs.Lists.{called};
-ghost use Rattle.ob_reference.specs.States.{Follows, scope_in, supply_in, world_in};
+ghost use Rattle.ob_reference_store.specs.States.{Follows, scope_in, supply_in, world_in};
 
 use crate::expression::{place, value};
-use crate::frame::{enter, home_of, leave, procedure_of};
-use crate::row::count;
-use crate::state::{At, State, take_turn};
 use crate::statement::statements;
-use crate::stop::Stop;
-use crate::value::Value;
-use crate::variable::count_at;
-use crate::zero::{beside, cell};
 use ob_mean::{Argument, Callee, Loaded, Outcome, TrapKind, TurnKind, TypedExpr, TypedProcedure};
+use ob_reference_store::frame::{enter, home_of, leave, procedure_of};
+use ob_reference_store::row::count;
+use ob_reference_store::state::{At, State, take_turn};
+use ob_reference_store::stop::Stop;
+use ob_reference_store::value::Value;
+use ob_reference_store::variable::count_at;
+use ob_reference_store::zero::{beside, cell};
 use std::alloc::Global;
 
 /// What is passed to one parameter.

@@ -4,20 +4,20 @@ ghost use Rattle.std.specs.Prelude.{◌≡◌, List, pos, IfOk, MatchResult};
 ghost use Rattle.ob_mean.specs.Values.{Part, count, get};
 ghost use Rattle.ob_mean.specs.declared.module.Loaded.{Loaded};
 ghost use Rattle.ob_mean.specs.declared.outcome.Outcome.TheVariants.{Trapped};
-ghost use Rattle.ob_reference.specs.declared.stop.Stop.TheVariants.{Stands};
+ghost use Rattle.ob_reference_store.specs.declared.stop.Stop.TheVariants.{Stands};
 ghost use Rattle.ob_mean.specs.Expressions as spec;
-ghost use Rattle.ob_reference.specs.Kept.{place_of};
-ghost use Rattle.ob_reference.specs.States.{Follows, scope_in, supply_in, world_in};
+ghost use Rattle.ob_reference_store.specs.Kept.{place_of};
+ghost use Rattle.ob_reference_store.specs.States.{Follows, scope_in, supply_in, world_in};
 ghost use Rattle.ob_reference.specs.Lists.{operation_pieces, value_pieces};
 
 use crate::call::function;
-use crate::state::{At, State};
-use crate::stop::{NoAnswer, Stop};
-use crate::variable::{count_at, number_at, text_at, variable_path};
 use ob_mean::{
     Designator, Loaded, Operation, Outcome, TrapKind, TypedExpr, apply, apply_one, texts_relate,
     truth,
 };
+use ob_reference_store::state::{At, State};
+use ob_reference_store::stop::{NoAnswer, Stop};
+use ob_reference_store::variable::{count_at, number_at, text_at, variable_path};
 use std::alloc::Global;
 
 /// The value of an expression.
@@ -202,7 +202,7 @@ fn element(
 }
 
 /// A part of a place.
-#[tactic(auto, using(crate::proofs::Paths::part_of))]
+#[tactic(auto, using(ob_reference_store::proofs::Paths::part_of))]
 fn part(whole: Vec<usize>, number: usize) -> Result<Vec<usize>, NoAnswer>
     ensures { IfOk result (λ path. place_of path.items ≡ Part (place_of whole.items) number) }
 {

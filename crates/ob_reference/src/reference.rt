@@ -3,19 +3,19 @@ ghost use Rattle.ob_mean.specs.declared.expression.Callee.TheVariants as callees
 ghost use Rattle.ob_mean.specs.Values as values;
 ghost use Rattle.ob_mean.specs.Runs as runs;
 ghost use Rattle.ob_mean.specs.Programs as spec;
-ghost use Rattle.ob_reference.specs.Kept.{value_in};
+ghost use Rattle.ob_reference_store.specs.Kept.{value_in};
 ghost use Rattle.ob_reference.specs.Answers.{Says, command_in};
-ghost use Rattle.ob_reference.specs.States.{Follows, line_in, supply_in, world_in};
+ghost use Rattle.ob_reference_store.specs.States.{Follows, line_in, supply_in, world_in};
 
 use crate::call::call;
-use crate::row::{copy, count, keep_first};
-use crate::state::{At, GivenLine, State};
 use crate::statement::statements;
-use crate::stop::{NoAnswer, Stop};
-use crate::value::Value;
-use crate::zero::{beside, opening_row};
 use ob_inout::LineBuffer;
 use ob_mean::{Callee, Loaded, Outcome, TypedStatement};
+use ob_reference_store::row::{copy, count, keep_first};
+use ob_reference_store::state::{At, GivenLine, State};
+use ob_reference_store::stop::{NoAnswer, Stop};
+use ob_reference_store::value::Value;
+use ob_reference_store::zero::{beside, opening_row};
 use std::alloc::Global;
 
 /// How many pieces of a program may be open at once, which bounds the stack.

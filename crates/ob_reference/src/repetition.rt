@@ -9,20 +9,20 @@ ghost use Rattle.ob_mean.specs.Runs as runs;
 ghost use Rattle.ob_mean.specs.Control.{looping, repeating};
 ghost use Rattle.ob_mean.specs.Expressions.{value_of, variable_place};
 ghost use Rattle.ob_mean.specs.Statements as spec;
-ghost use Rattle.ob_reference.specs.declared.stop.Stop.TheVariants.{Stands};
+ghost use Rattle.ob_reference_store.specs.declared.stop.Stop.TheVariants.{Stands};
 ghost use Rattle.ob_reference.specs.Branches.{branch_pieces, for_pieces};
-ghost use Rattle.ob_reference.specs.Kept.{place_of};
+ghost use Rattle.ob_reference_store.specs.Kept.{place_of};
 ghost use Rattle.ob_reference.specs.Rounds.{Round};
-ghost use Rattle.ob_reference.specs.States.{Follows, scope_in, supply_in, world_in};
+ghost use Rattle.ob_reference_store.specs.States.{Follows, scope_in, supply_in, world_in};
 
 use crate::action::adjusted;
 use crate::expression::value;
-use crate::state::{At, State, take_turn};
 use crate::statement::{first_branch, statements};
-use crate::stop::Stop;
-use crate::variable::{number_at, store_at, variable_path};
-use crate::zero::cell;
 use ob_mean::{Adjustment, Branch, ForHead, Loaded, Outcome, TurnKind, TypedExpr, TypedStatement};
+use ob_reference_store::state::{At, State, take_turn};
+use ob_reference_store::stop::Stop;
+use ob_reference_store::variable::{number_at, store_at, variable_path};
+use ob_reference_store::zero::cell;
 use std::alloc::Global;
 
 /// A loop has entered its body as often as turns were left when it began.

@@ -5,14 +5,14 @@ ghost use Rattle.ob_mean.specs.Runs.{done};
 ghost use Rattle.ob_mean.specs.Control.{is_labelled};
 ghost use Rattle.ob_mean.specs.Statements as spec;
 ghost use Rattle.ob_reference.specs.Branches.{found_arm, EntersFirst, PassesAll, BranchStops};
-ghost use Rattle.ob_reference.specs.States.{Follows, scope_in, supply_in, world_in};
+ghost use Rattle.ob_reference_store.specs.States.{Follows, scope_in, supply_in, world_in};
 
 use crate::action::action;
 use crate::expression::value;
 use crate::repetition::{for_loop, repeat_loop, while_loop};
-use crate::state::{At, State};
-use crate::stop::Stop;
 use ob_mean::{Branch, CaseArm, LabelRange, Loaded, Outcome, TrapKind, TypedStatement};
+use ob_reference_store::state::{At, State};
+use ob_reference_store::stop::Stop;
 use std::alloc::Global;
 
 /// Whether a label is among these.

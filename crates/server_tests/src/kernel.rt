@@ -5,8 +5,9 @@ use crate::plays::Step::{
 };
 use crate::plays::{go_on, play};
 use jk_core::Work::{NeedsParse, Ran, Rest};
-use jk_core::{Job, Kernel, Used};
+use jk_core::{Kernel, Used};
 use jk_language::Language;
+use jk_log::Job;
 use json_form::Text;
 use std::alloc::Global;
 use std::process::Abort;

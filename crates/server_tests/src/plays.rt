@@ -1,8 +1,9 @@
 //! Plays on a kernel of the small language: what it is sent, and what it answers.
 
 use crate::shown::{read_all, request, shown, take};
-use jk_core::{Kernel, What, Work};
+use jk_core::{Kernel, Work};
 use jk_language::Language;
+use jk_log::What;
 use jp_msg::Message;
 use json_form::Shared;
 use std::alloc::Global;

@@ -1,4 +1,4 @@
-use jk_core::{Entry, To, Told};
+use jk_log::{Entry, To, Told};
 use jp_msg::{Channel, Message, Output, read_message};
 use json_form::{Shared, Text};
 use nb_doc::{Cell, read_notebook, write_notebook};

@@ -2,11 +2,12 @@
 ghost use Rattle.std.specs.Prelude.{None};
 
 use crate::shown::{read_all, request, take};
-use jk_core::{Kernel, What};
+use jk_core::Kernel;
 use jk_language::Language;
+use jk_log::What;
+use js_files::FileShelf;
 use js_shelf::{
-    Bytes, Device, DeviceFault, FileShelf, Item, Kind, MemoryShelf, Names, Place, Shelf,
-    ShelfRefusal,
+    Bytes, Device, DeviceFault, Item, Kind, MemoryShelf, Names, Place, Shelf, ShelfRefusal,
 };
 use json_form::Text;
 use nb_doc::read_notebook;

@@ -1,7 +1,8 @@
 //! What a kernel takes and shows.
 
-use jk_core::{Arrival, Entry, Kernel, To, Told, What};
+use jk_core::Kernel;
 use jk_language::Language;
+use jk_log::{Arrival, Entry, To, Told, What};
 use jp_msg::{Completeness, Message, Outcome, Output, State, read_message};
 use json_form::Shared;
 use std::alloc::Global;

@@ -6,8 +6,8 @@ use Rattle.test_meaning.proofs.text.Text.TheSendSync as tree
 use Rattle.test_language.specs.contracts.language.TestLanguage as Texts
 use Rattle.test_language.specs.contracts.machine.Machine as Machine
 use Rattle.test_language.specs.contracts.language.TestLanguageLanguage.TheImpl as texts
-use Rattle.jk_core.specs.contracts.job.ParsedCell as ParsedCell
-use Rattle.jk_core.proofs.job.ParsedCell.TheSendSync as parsed
+use Rattle.jk_log.specs.contracts.job.ParsedCell as ParsedCell
+use Rattle.jk_log.proofs.job.ParsedCell.TheSendSync as parsed
 use Rattle.jk_queues.specs.contracts.pool.WorkerEnd as WorkerEnd
 use Rattle.jk_queues.proofs.pool.WorkerEnd.TheSendSync as end
 use Rattle.jk_board.specs.contracts.follower.Follower as Follower

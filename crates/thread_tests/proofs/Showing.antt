@@ -1,11 +1,12 @@
 -- What is shown of a kernel that takes joins and leaves.
 use Rattle.std.proofs.Common.{◌≡◌, ℕ, List, ◌++◌, take, drop, sym, ap, ◌∙◌, subst}
 use Rattle.jk_language.specs.Spoken.{Spoken}
-use Rattle.jk_core.specs.declared.entry.Entry.{Entry}
-use Rattle.jk_core.specs.declared.arrival.Arrival.{Arrival}
-use Rattle.jk_core.specs.Legal.{IsLegal}
-use Rattle.jk_core.specs.Render.{render}
-use Rattle.jk_core.specs.State.{KernelState, joined}
+use Rattle.jk_log.specs.declared.entry.Entry.{Entry}
+use Rattle.jk_log.specs.declared.arrival.Arrival.{Arrival}
+use Rattle.jk_log.specs.Legal.{IsLegal}
+use Rattle.jk_log.specs.Render.{render}
+use Rattle.jk_core.specs.State.{KernelState}
+use Rattle.jk_log.specs.Pending.{joined}
 use Rattle.jk_core.specs.Steps.{Takes, without}
 use Rattle.jk_core.proofs.Shown.{shown_takes, shown_without}
 use Rattle.jk_board.specs.Boards.{IsBoard}

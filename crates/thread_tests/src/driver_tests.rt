@@ -1,7 +1,7 @@
 //! What a seat sends is shown at another seat, by a driver and a parser in threads of their own.
 
 use crate::scene::{Cue, Play, show, view_of};
-use jk_core::{Told, What};
+use jk_log::{Told, What};
 use jp_msg::{Message, Output, read_message};
 use json_form::Shared;
 use std::alloc::Global;

@@ -1,8 +1,8 @@
 //! Followers that read joins and leaves, in threads of their own or not.
 
 use jk_board::Follower;
-use jk_core::{Entry, Told};
 use jk_language::Language;
+use jk_log::{Entry, Told};
 use std::alloc::{AllocError, Global};
 use std::sync::Wait;
 use std::thread;

@@ -2,7 +2,7 @@
 ghost use Rattle.std.specs.Prelude.{◌≡◌, ◌+◌, length, IfOk};
 ghost use Rattle.jk_queues.specs.Ends.{seat_inbox, taker_inbox, sent_by};
 
-use jk_core::{Arrival, What};
+use jk_log::{Arrival, What};
 use jk_queues::{Inbox, Seat, Seats, Taker, close};
 use std::alloc::{AllocError, Global};
 use std::snapshot::Snapshot;

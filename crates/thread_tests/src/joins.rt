@@ -1,12 +1,13 @@
 //! A kernel's joins and leaves, published: the simplest source of a board's entries.
 ghost use Rattle.std.specs.Prelude.{◌≡◌, [], List, OnOk, IfOk};
-ghost use Rattle.jk_core.specs.declared.entry.Entry.{Entry};
+ghost use Rattle.jk_log.specs.declared.entry.Entry.{Entry};
 ghost use Rattle.jk_board.specs.Ends.{published};
 ghost use Rattle.thread_tests.specs.Shown.{HasShown};
 
 use jk_board::Publisher;
-use jk_core::{Arrival, Kernel, What};
+use jk_core::Kernel;
 use jk_language::Language;
+use jk_log::{Arrival, What};
 use std::alloc::{AllocError, Global};
 use std::sync::Wait;
 

@@ -1,6 +1,6 @@
 //! Two workers parse at once.
 
-use jk_core::{Job, Parsed, ParsedCell};
+use jk_log::{Job, Parsed, ParsedCell};
 use jk_queues::{Gate, Pool, WorkerEnd, worker};
 use json_form::Text;
 use std::alloc::{AllocError, Global};

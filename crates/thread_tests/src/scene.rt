@@ -1,6 +1,7 @@
 //! A kernel with its driver in the test's own thread and its parser in another, and what a screen is shown of it.
 use jk_board::{Board, Follower};
-use jk_core::{Arrival, Entry, Kernel, ParsedCell, To, Told, What};
+use jk_core::Kernel;
+use jk_log::{Arrival, Entry, ParsedCell, To, Told, What};
 use jk_queues::{Gate, Inbox, Pool, Seat, WorkerEnd, worker};
 use jk_run::{Driver, Parts, drive_some};
 use jp_msg::{Output, State, read_message};

@@ -7,8 +7,8 @@ ghost use Rattle.jk_board.specs.Boards.{IsBoard, StartsWith};
 use super::Follower;
 use crate::news::News;
 use crate::rule::Finds;
-use jk_core::Entry;
 use jk_language::Language;
+use jk_log::Entry;
 use std::alloc::{AllocError, Global};
 
 impl<L: Language> Follower<L> {

@@ -3,12 +3,12 @@ ghost use Rattle.std.specs.Prelude.{◌≡◌, ◌<◌, ◌≤◌, ◌++◌, [],
 ghost use Rattle.std.specs.Arc.{arc_value};
 ghost use Rattle.std.specs.declared.alloc.Global.{Global};
 ghost use Rattle.std.specs.declared.vec.Vec.{Vec};
-ghost use Rattle.jk_core.specs.declared.entry.Entry.{Entry};
+ghost use Rattle.jk_log.specs.declared.entry.Entry.{Entry};
 ghost use Rattle.jk_board.specs.Levels.{of_oldest, of_older, IsWholeOldest, IsWholeOlder};
 ghost use Rattle.jk_board.specs.Posted.{all_of, EndsWith};
 
 use super::{Holds, Posted, Publication, Row};
-use jk_core::Entry;
+use jk_log::Entry;
 use std::alloc::{AllocError, Global};
 use std::sync::{Arc, Wait};
 

@@ -1,8 +1,8 @@
 //! What holds entries.
 ghost use Rattle.std.specs.Prelude.{◌≡◌, ◌-◌, ◌++◌, List, take, drop, length, IfOk, OnOk};
-ghost use Rattle.jk_core.specs.declared.entry.Entry.{Entry as entry};
+ghost use Rattle.jk_log.specs.declared.entry.Entry.{Entry as entry};
 
-use jk_core::Entry;
+use jk_log::Entry;
 use std::alloc::AllocError;
 
 /// A list of entries, or a row of what holds some.

@@ -4,7 +4,7 @@ ghost use Rattle.jk_board.specs.Levels.{of_newest, IsWholeNewest, RowEndsWith};
 
 use super::rows::wider;
 use super::{Holds, Part, Publication, Row};
-use jk_core::Entry;
+use jk_log::Entry;
 use std::alloc::{AllocError, Global};
 use std::sync::Arc;
 

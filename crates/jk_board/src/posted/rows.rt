@@ -4,7 +4,7 @@ ghost use Rattle.std.specs.Arc.{arc_value};
 ghost use Rattle.jk_board.specs.Rows.{flat, AreNumbered, of_row, IsWholeRow};
 
 use super::{Holds, Part, Row};
-use jk_core::Entry;
+use jk_log::Entry;
 use std::alloc::{AllocError, Global};
 use std::sync::Arc;
 

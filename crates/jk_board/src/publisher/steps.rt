@@ -8,8 +8,8 @@ ghost use Rattle.jk_board.specs.Boards.{IsBoard};
 
 use super::{Copies, Publisher, Replace};
 use crate::rule::Finds;
-use jk_core::Entry;
 use jk_language::Language;
+use jk_log::Entry;
 use std::alloc::{AllocError, Global};
 use std::sync::Wait;
 

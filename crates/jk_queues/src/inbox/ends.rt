@@ -4,13 +4,13 @@ ghost use Rattle.std.specs.Arc.{arc_value};
 ghost use Rattle.crossbeam_queue.specs.Passes.{view, IsPassOf, IsSamePass, ruled_capacity};
 ghost use Rattle.jk_queues.specs.Inbox.{Each, SentIn, IsSeated, part, sender, fresh};
 ghost use Rattle.jk_queues.specs.Ends.{seat_view, seat_inbox, sent_by, taker_view, taker_inbox, taken_by, IsAt, AreAllOf, IsNew, AreNew, AreAllSent};
-ghost use Rattle.jk_core.specs.declared.arrival.Arrival.{Arrival};
+ghost use Rattle.jk_log.specs.declared.arrival.Arrival.{Arrival};
 
 use super::{Inbox, Left, ROOM, Seat, Seats, Taker};
 use crate::part::Part;
 use crate::rule::{Back, FirstSeat, Queue, Takes};
 use crossbeam_queue::Pass;
-use jk_core::Arrival;
+use jk_log::Arrival;
 use std::alloc::{AllocError, Global};
 use std::sync::{Arc, Wait};
 

@@ -3,11 +3,11 @@ ghost use Rattle.std.specs.Prelude.{◌≡◌, ◌+◌, ◌<◌, ◌≤◌, ◌^
 ghost use Rattle.crossbeam_queue.specs.Fifo.{Held};
 ghost use Rattle.jk_queues.specs.Inbox.{Stands, SentIn, Each, IsSeated, sends, takes, of};
 ghost use Rattle.jk_queues.specs.Ends.{seat_view, seat_inbox, sent_by, taker_view, taker_inbox, taken_by};
-ghost use Rattle.jk_core.specs.declared.arrival.Arrival.{Arrival};
+ghost use Rattle.jk_log.specs.declared.arrival.Arrival.{Arrival};
 
 use super::{Full, Seat, Taker};
 use crate::rule::{Sends, Takes};
-use jk_core::Arrival;
+use jk_log::Arrival;
 use std::sync::Wait;
 
 impl Seat {

@@ -7,7 +7,7 @@ ghost use Rattle.jk_queues.specs.Pool.{offered_by, collected_by, jobs_view, resu
 use super::{Jobs, Pool, ROOM, Results, WorkerEnd};
 use crate::line::{Gets, Other, Puts};
 use crate::stop::{Looker, Stop, Stops};
-use jk_core::Job;
+use jk_log::Job;
 use std::alloc::{AllocError, Global};
 use std::sync::{Arc, Wait};
 

@@ -12,7 +12,7 @@ use ob_code::linked::are_linked;
 use ob_gen::module_code;
 use ob_image::push_opening;
 use ob_mean::{Face, Loaded, TypedModule};
-use ob_reference::NoAnswer;
+use ob_reference_store::stop::NoAnswer;
 use ob_vm::{Image, Machine};
 use std::alloc::Global;
 

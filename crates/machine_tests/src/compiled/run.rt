@@ -3,7 +3,7 @@
 ghost use Rattle.std.specs.Prelude.{◌≡◌, IfOk};
 ghost use Rattle.ob_vm.specs.Images.{IsOf, WhereAsked};
 
-use ob_reference::NoAnswer;
+use ob_reference_store::stop::NoAnswer;
 use ob_vm::{Image, Machine, Turned};
 use std::alloc::{AllocError, Global};
 

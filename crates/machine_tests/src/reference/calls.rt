@@ -14,7 +14,8 @@ use ob_mean::{
     Callee, Face, Heading, Loaded, Operator, Outcome, Parameter, Relation, Shape, TrapKind,
     TurnKind, TypedExpr, TypedProcedure,
 };
-use ob_reference::{Command, NoAnswer, Reference};
+use ob_reference::{Command, Reference};
+use ob_reference_store::stop::NoAnswer;
 use std::alloc::{AllocError, Global};
 
 /// PROCEDURE P(VAR a, b: INTEGER); BEGIN a := 1; b := b + a END P

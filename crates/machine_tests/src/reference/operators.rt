@@ -6,7 +6,7 @@ use super::trees::{
 };
 use super::{AT_OUTPUT, ENDED, wrong_alone};
 use ob_mean::{Loaded, Operator, Relation, TypedExpr, UnaryOperator};
-use ob_reference::NoAnswer;
+use ob_reference_store::stop::NoAnswer;
 use std::alloc::{AllocError, Global};
 
 /// Out.Int(number, 0)

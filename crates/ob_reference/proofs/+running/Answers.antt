@@ -6,11 +6,11 @@ use Rattle.ob_mean.specs.Expressions.{value_of, place_of, computed, chained, ele
 use Rattle.ob_mean.specs.Control.{arm_for, chosen, looping, repeating}
 use Rattle.ob_mean.specs.Statements.{action_meaning, stat_meaning, list_meaning, case_body, text_stored, for_loop}
 use Rattle.ob_reference.specs.Branches.{branch_pieces, arm_pieces, for_pieces, found_arm, PassesAll}
-use Rattle.ob_reference.specs.Kept.{place_of as path_place}
+use Rattle.ob_reference_store.specs.Kept.{place_of as path_place}
 use Rattle.ob_reference.specs.Lists.{operation_pieces, called}
-use Rattle.ob_reference.specs.States.{Follows, scope_in, supply_in, world_in}
+use Rattle.ob_reference_store.specs.States.{Follows, scope_in, supply_in, world_in}
 use Rattle.ob_reference.proofs.Trees.{unary_is, chain_is, element_is, function_is}
-use Rattle.ob_reference.proofs.Follow.{carry, halts, finished, none_of}
+use Rattle.ob_reference_store.proofs.Follow.{carry, halts, finished, none_of}
 use Rattle.ob_reference.proofs.Sequences.{if_is, case_is, for_is, arm_found, arm_missing}
 use Rattle.ob_reference.proofs.Rounds.{again, over, fails}
 use Rattle.ob_reference.proofs.+running.Goals as goal

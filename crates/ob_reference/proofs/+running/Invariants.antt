@@ -3,8 +3,8 @@ use Rattle.ob_mean.specs.Control.{looping, repeating}
 use Rattle.ob_mean.specs.Expressions.{value_of}
 use Rattle.ob_mean.specs.Statements.{list_meaning}
 use Rattle.ob_reference.specs.Branches.{branch_pieces, for_pieces}
-use Rattle.ob_reference.specs.Kept.{place_of}
-use Rattle.ob_reference.specs.States.{scope_in, supply_in, world_in}
+use Rattle.ob_reference_store.specs.Kept.{place_of}
+use Rattle.ob_reference_store.specs.States.{scope_in, supply_in, world_in}
 use Rattle.ob_reference.proofs.+running.Given as goal
 
 abbrev pub invariant-statement::statements-loop-s : goal.invariant-statement::statements-loop-s

@@ -1,5 +1,5 @@
 use Rattle.std.proofs.Common.{◌∙◌, sym, subst}
-use Rattle.jk_core.specs.Log.{running, session}
+use Rattle.jk_log.specs.Log.{running, session}
 use Rattle.jk_core.specs.Kept.{HoldsAt}
 use Rattle.jk_core.proofs.Works.{started}
 use Rattle.jk_core.proofs.Desks.{stands_answered}

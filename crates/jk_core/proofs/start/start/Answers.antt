@@ -1,8 +1,8 @@
 use Rattle.std.proofs.Common.{◌≡◌, List, ℕ, ◌∙◌, ap, refl, subst, sym, Some, inl, inr}
 use Rattle.std.specs.Prelude.{find}
 use Rattle.jp_msg.specs.declared.message.Execute.{Execute}
-use Rattle.jk_core.specs.Results.{IsResult}
-use Rattle.jk_core.specs.Log.{Log, session, execute_at}
+use Rattle.jk_log.specs.Results.{IsResult}
+use Rattle.jk_log.specs.Log.{Log, session, execute_at}
 use Rattle.jk_core.specs.State.{KernelState, is_cell}
 use Rattle.jk_core.specs.Steps.{IsBrokenAt, answering}
 use Rattle.jk_language.specs.Beginning.{IsFresh}

@@ -1,5 +1,5 @@
 use Rattle.std.proofs.Common.{sym, subst, ◌∙◌}
-use Rattle.jk_core.specs.Log.{running, session}
+use Rattle.jk_log.specs.Log.{running, session}
 use Rattle.jk_core.specs.Kept.{HoldsAt, IsLineFor, WantsAt}
 use Rattle.jk_core.proofs.Arrivals.{give_stands}
 use Rattle.jk_core.proofs.taking.give.Goals as goal

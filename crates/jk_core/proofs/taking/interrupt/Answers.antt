@@ -1,6 +1,6 @@
 use Rattle.std.proofs.Common.{ap, ◌∙◌}
 use Rattle.jk_core.specs.Steps.{failing, stops_with}
-use Rattle.jk_core.specs.Log.{running}
+use Rattle.jk_log.specs.Log.{running}
 use Rattle.jk_core.proofs.Desks.{stands_fails}
 use Rattle.jk_core.proofs.taking.interrupt.Goals as goal
 

@@ -1,5 +1,5 @@
 use Rattle.std.proofs.Common.{subst}
-use Rattle.jk_core.specs.declared.arrival.Sort.{Sort}
+use Rattle.jk_log.specs.declared.arrival.Sort.{Sort}
 use Rattle.jk_core.specs.Kept.{StandsFor}
 use Rattle.jk_core.proofs.Arrivals.{info_stands, joined_stands, left_stands}
 use Rattle.jk_core.proofs.taking.mark_taken.Goals as goal

@@ -1,6 +1,6 @@
 use Rattle.std.proofs.Common.{sym, ◌∙◌, subst}
 use Rattle.jk_core.specs.Kept.{HoldsAt}
-use Rattle.jk_core.specs.Log.{running, session}
+use Rattle.jk_log.specs.Log.{running, session}
 use Rattle.jk_core.proofs.Arrivals.{stops_of}
 use Rattle.jk_core.proofs.Desks.{stop_moves, stop_stands}
 use Rattle.jk_core.proofs.taking.stop.Goals as goal

@@ -1,5 +1,5 @@
 use Rattle.std.proofs.Common.{List, ◌∷◌, [], ◌++◌, sym, ◌∙◌, ap}
-use Rattle.jk_core.specs.declared.arrival.Arrival.{Arrival}
+use Rattle.jk_log.specs.declared.arrival.Arrival.{Arrival}
 use Rattle.jk_queues.specs.declared.part.Part.{Part}
 use Rattle.jk_run.proofs.Acting.{moves_on}
 use Rattle.jk_run.proofs.arrivals.take_all.Goals as goal

@@ -1,5 +1,5 @@
 use Rattle.std.proofs.Common.{◌≡◌}
-use Rattle.jk_core.specs.Log.{takes}
+use Rattle.jk_log.specs.Log.{takes}
 use Rattle.jk_queues.specs.Ends.{taken_by, taker_inbox}
 use Rattle.jk_run.specs.Acts.{MovesKernel}
 use Rattle.jk_run.proofs.arrivals.take_all.Given as goal

@@ -1,4 +1,4 @@
-use Rattle.jk_core.specs.State.{joined}
+use Rattle.jk_log.specs.Pending.{joined}
 use Rattle.jk_board.specs.Ends.{published}
 use Rattle.jk_run.proofs.Rounds.{next_board}
 use Rattle.jk_run.proofs.board.publish.Goals as goal

@@ -1,5 +1,5 @@
 use Rattle.std.proofs.Common.{◌++◌, List, [], ◌∷◌, ap, ◌∙◌}
-use Rattle.jk_core.specs.declared.job.Job.{Job}
+use Rattle.jk_log.specs.declared.job.Job.{Job}
 use Rattle.jk_queues.specs.Pool.{offered_by}
 use Rattle.jk_run.proofs.Acting.{gives_log, jobs_end, jobs_more, jobs_refused}
 use Rattle.jk_run.proofs.jobs.give_all.Goals as goal

@@ -1,5 +1,5 @@
 use Rattle.std.proofs.Common.{ap, ◌∙◌}
-use Rattle.jk_core.specs.declared.job.Job.{Job}
+use Rattle.jk_log.specs.declared.job.Job.{Job}
 use Rattle.jk_queues.specs.declared.line.Hand.{Hand}
 use Rattle.jk_queues.specs.Pool.{collected_by}
 use Rattle.jk_run.proofs.Acting.{hands_log, results_more, results_as}

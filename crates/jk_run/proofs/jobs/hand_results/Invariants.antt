@@ -1,5 +1,5 @@
 use Rattle.std.proofs.Common.{◌≡◌, Option}
-use Rattle.jk_core.specs.declared.job.Job.{Job}
+use Rattle.jk_log.specs.declared.job.Job.{Job}
 use Rattle.jk_queues.specs.Pool.{offered_by, collected_by, IsSamePool}
 use Rattle.jk_run.specs.Acts.{HandsResults}
 use Rattle.jk_run.specs.Driver.{HasGiven}

@@ -1,7 +1,7 @@
 use Rattle.std.proofs.Common.{List, Option, ◌++◌, ap, sym, subst}
 use Rattle.std.specs.Prelude.{IfNone}
-use Rattle.jk_core.specs.declared.arrival.Arrival.{Arrival}
-use Rattle.jk_core.specs.declared.job.Job.{Job}
+use Rattle.jk_log.specs.declared.arrival.Arrival.{Arrival}
+use Rattle.jk_log.specs.declared.job.Job.{Job}
 use Rattle.jk_core.specs.declared.kernel.Work.{Work}
 use Rattle.jk_board.specs.Ends.{published}
 use Rattle.jk_queues.specs.Ends.{taker_view, taken_by}

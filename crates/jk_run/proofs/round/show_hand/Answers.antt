@@ -1,5 +1,5 @@
-use Rattle.jk_core.specs.Render.{render}
-use Rattle.jk_core.specs.State.{joined}
+use Rattle.jk_log.specs.Render.{render}
+use Rattle.jk_log.specs.Pending.{joined}
 use Rattle.jk_board.specs.Ends.{published}
 use Rattle.jk_queues.specs.Pool.{offered_by, collected_by}
 use Rattle.std.proofs.Common.{◌++◌}

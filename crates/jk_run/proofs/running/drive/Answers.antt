@@ -1,5 +1,5 @@
 use Rattle.std.proofs.Common.{◌++◌, ap}
-use Rattle.jk_core.specs.declared.job.Job.{Job}
+use Rattle.jk_log.specs.declared.job.Job.{Job}
 use Rattle.jk_board.specs.Ends.{published}
 use Rattle.jk_queues.specs.declared.line.Hand.{Hand}
 use Rattle.jk_queues.specs.Pool.{offered_by, collected_by}

@@ -1,5 +1,5 @@
 use Rattle.std.proofs.Common.{◌≡◌, ◌++◌, List, take, ap, subst, ◌∙◌}
-use Rattle.jk_core.specs.declared.entry.Entry.{Entry}
+use Rattle.jk_log.specs.declared.entry.Entry.{Entry}
 use Rattle.js_follow.specs.Following.{HasTold}
 use Rattle.js_follow.proofs.Places.{get_there, set_there, cut}
 use Rattle.js_follow.proofs.following.follow_at.Goals as goal

@@ -1,5 +1,5 @@
 use Rattle.std.proofs.Common.{List, ◌++◌, sym, ap, subst}
-use Rattle.jk_core.specs.declared.entry.Entry.{Entry}
+use Rattle.jk_log.specs.declared.entry.Entry.{Entry}
 use Rattle.jk_board.specs.Boards.{StartsWith}
 use Rattle.jk_board.specs.Rule.{Each}
 use Rattle.jk_board.specs.Ends.{news_of}

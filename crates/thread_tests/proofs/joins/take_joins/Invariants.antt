@@ -1,5 +1,5 @@
 use Rattle.std.proofs.Common.{List}
-use Rattle.jk_core.specs.declared.entry.Entry.{Entry}
+use Rattle.jk_log.specs.declared.entry.Entry.{Entry}
 use Rattle.thread_tests.specs.Shown.{HasShown}
 use Rattle.thread_tests.proofs.joins.take_joins.Given as goal
 

@@ -1,5 +1,5 @@
 use Rattle.std.proofs.Common.{◌≡◌, List, take, drop, sym, ap, ◌∙◌, subst, arith}
-use Rattle.jk_core.specs.declared.entry.Entry.{Entry}
+use Rattle.jk_log.specs.declared.entry.Entry.{Entry}
 use Rattle.left_right.specs.Sides.{view}
 use Rattle.jk_board.specs.declared.posted.Posted.{Posted}
 use Rattle.jk_board.specs.declared.rule.Seen.{Seen}

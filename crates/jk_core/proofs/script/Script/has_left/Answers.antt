@@ -1,6 +1,6 @@
 use Rattle.std.proofs.Common.{sym, ◌∙◌, ap, arith}
 use Rattle.std.specs.Prelude.{nat_lt, reverse}
-use Rattle.jk_core.proofs.Logs.{left_last}
+use Rattle.jk_log.proofs.Logs.{left_last}
 use Rattle.jk_core.proofs.Keeps.{some_same}
 use Rattle.jk_core.proofs.script.Script.has_left.Goals as goal
 

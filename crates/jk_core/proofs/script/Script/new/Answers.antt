@@ -1,8 +1,9 @@
 use Rattle.std.proofs.Common.{Some, ◌≡◌, [], subst, sym, ap, arith}
 use Rattle.std.specs.Prelude.{reverse, slice_get}
-use Rattle.jk_core.specs.Log.{Log, arrivals, ended}
-use Rattle.jk_core.specs.State.{Ascends, PassedBy, last_leave}
-use Rattle.jk_core.proofs.Logs.{zeros_get}
+use Rattle.jk_log.specs.Log.{Log, arrivals, ended}
+use Rattle.jk_core.specs.State.{Ascends, PassedBy}
+use Rattle.jk_log.specs.Leaving.{last_leave}
+use Rattle.jk_log.proofs.Logs.{zeros_get}
 use Rattle.jk_core.proofs.Orders.{passed_none}
 use Rattle.jk_core.proofs.script.Script.new.Goals as goal
 

@@ -1,5 +1,5 @@
 use Rattle.std.proofs.Common.{List, []}
-use Rattle.jk_core.specs.declared.job.Job.{Job}
+use Rattle.jk_log.specs.declared.job.Job.{Job}
 use Rattle.jk_queues.specs.Work.{HasDone}
 use Rattle.jk_queues.proofs.pool.work.worker.Given as goal
 

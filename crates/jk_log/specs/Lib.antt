@@ -1,0 +1,9 @@
+pub mod Results
+pub mod Asked
+pub mod Log
+pub mod Queries
+pub mod Legal
+pub mod Failures
+pub mod Render
+pub mod Pending
+pub mod Leaving

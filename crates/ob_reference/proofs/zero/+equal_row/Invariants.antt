@@ -1,4 +1,0 @@
-use Rattle.ob_reference.proofs.zero.+equal_row.Given as goal
-
-abbrev pub decreases-equal_row : goal.decreases-equal_row
-decreases-equal_row l = l.length

@@ -1,4 +1,0 @@
-use Rattle.ob_reference.proofs.zero.+text_row.Given as goal
-
-abbrev pub decreases-text_row : goal.decreases-text_row
-decreases-text_row l = l.length

@@ -1,0 +1,4 @@
+pub mod Paths
+pub mod Zeros
+pub mod Follow
+pub mod Readers
