@@ -1,5 +1,5 @@
 -- Modules put among others, and laid one behind the other.
-use Rattle.std.proofs.Common.{◌≡◌, ℕ, zero, suc, ◌+◌, ◌-◌, ◌<◌, ◌≤◌, ◌≢◌, List, [], ◌∷◌, ◌++◌, length, get_or, take, drop, refl, sym, ap, subst, ◌∙◌, add-one, append-nil, arith}
+use Rattle.std.proofs.Common.{◌≡◌, ℕ, zero, suc, ◌+◌, ◌-◌, ◌<◌, ◌≤◌, List, [], ◌∷◌, ◌++◌, length, get_or, take, drop, refl, sym, ap, subst, ◌∙◌, add-one, append-nil, arith}
 use Rattle.std.proofs.Math.ListN.{set}
 use Rattle.std.proofs.lemmas.List.{drop_all, take-append-drop, take_all}
 use Rattle.ob_code.specs.declared.instr.LinkedModule.{LinkedModule}
@@ -101,12 +101,17 @@ last_by from [] i d lt h = absurd (omega (arith, lt))
 last_by from (l ∷ ls) zero d lt h = let e = h.0 in omega (arith, e)
 last_by from (l ∷ ls) (suc i) d lt h = let e = last_by (from + l.code.cells) ls i d (omega (arith, lt)) h.1 in omega (arith, e)
 
+zero_more : (n : ℕ) → 0 + n ≡ n
+zero_more n = omega arith
+
 -- where the last of them ends
-pub last_ends : (code : Code) (number : ℕ) (l : LinkedModule) → number ≢ 0 → number ≤ length code → l ≡ get_or code (number - 1) l → AreLaid 0 (take number code) → l.cells + l.code.cells ≡ all_cells (take number code)
-last_ends code zero l some le e h = absurd (some refl)
+pub last_ends : (code : Code) (number : ℕ) (l : LinkedModule) → 0 < number → number ≤ length code → l ≡ get_or code (number - 1) l → AreLaid 0 (take number code) → l.cells + l.code.cells ≡ all_cells (take number code)
+last_ends code zero l some le e h = absurd (omega (arith, some))
 last_ends code (suc i) l some le e h =
+    let n : suc i - 1 ≡ i = omega arith in
+    let same : l ≡ get_or code i l = e ∙ ap (λ k. get_or code k l) n in
     let ends = last_by 0 code i l (omega (arith, le)) h in
-    ap (λ (x : LinkedModule). x.cells + x.code.cells) e ∙ omega (arith, ends)
+    ap (λ (x : LinkedModule). x.cells + x.code.cells) same ∙ ends ∙ zero_more (all_cells (take (suc i) code))
 
 pub laid_front : (from : ℕ) (code : Code) (i : ℕ) → AreLaid from code → AreLaid from (take i code)
 laid_front from code zero h = tt

@@ -1,10 +1,14 @@
-use Rattle.std.proofs.Common.{◌<◌, ◌+◌, ◌∙◌, length, length-set, refl, arith}
+use Rattle.std.proofs.Common.{rules, ◌≡◌, ◌<◌, ◌+◌, ◌∙◌, length, length-set, take, refl, ap, arith}
+use Rattle.ob_code.specs.Linked.{all_cells}
+use Rattle.ob_code.specs.Machine.{Code}
 use Rattle.ob_image.proofs.Laid.{cells_more, cells_most, laid_before, laid_more}
 use Rattle.ob_image.proofs.laying.lay.Goals as goal
 
 pub loop-place-init : goal.loop-place-init
-loop-place-init c = record {
-  next = c.cells_before.ensures;
+loop-place-init c =
+    let same : c.deref.result.now ≡ c.args.code.now.items = search rules in
+    record {
+  next = c.cells_before-from.ensures ∙ ap (λ (code : Code). all_cells (take c.args.number code)) same;
   so_far = laid_before c.args.code.now.items c.args.number c.requires.laid;
   count = refl;
 }
