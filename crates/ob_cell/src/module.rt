@@ -14,6 +14,7 @@ use crate::loaded::loaded_for;
 use crate::planned::Plan;
 use ob_base::Refused;
 use ob_check::check;
+use ob_declare::Imports;
 use ob_link::{LinkFault, Modules};
 use ob_tree::tree::Module;
 use std::alloc::Global;
@@ -31,13 +32,33 @@ pub fn module_plan(alloc: Global, modules: &Modules, tree: &Module) -> Result<Pl
     ensures found { IfOk result (λ plan. (store : Value) → IsPlanned (in_store modules.now store) (cells.Module tree.now) plan) }
     ensures faults { IfErr result (λ refused. (store : Value) → IsStaticRefusal (in_store modules.now store) (cells.Module tree.now) refused) }
 {
+    if modules.is_apart(&tree.name.name) {
+        return plan_over(alloc, modules, modules.loaded(), tree);
+    }
     let loaded = loaded_for(alloc, modules, tree)?;
-    let checked = check(alloc, tree, &loaded)?;
+    plan_over(alloc, modules, &loaded, tree)
+}
+
+// The same over the loaded modules, as the rules for this module see them.
+fn plan_over(
+    alloc: Global,
+    modules: &Modules,
+    loaded: &Imports,
+    tree: &Module,
+) -> Result<Plan, Refused>
+    requires solid { AllSolid modules.now }
+    requires words { AllWords modules.now }
+    requires read { (text : List ℕ) × IsTreeOf text (cells.Module tree.now) }
+    requires loaded { loaded.now ≡ map (meaning.loaded_as modules.now tree.now.name.name) modules.now }
+    ensures found { IfOk result (λ plan. (store : Value) → IsPlanned (in_store modules.now store) (cells.Module tree.now) plan) }
+    ensures faults { IfErr result (λ refused. (store : Value) → IsStaticRefusal (in_store modules.now store) (cells.Module tree.now) refused) }
+{
+    let checked = check(alloc, tree, loaded)?;
     let imports = keyed_imports(alloc, checked.imports())?;
     match modules.link_fault(imports.as_slice())? {
         Some(name) => Ok(Plan::Unlinked(LinkFault::OtherKey(name))),
         None => {
-            let planned = compiled(alloc, &loaded, checked, imports)?;
+            let planned = compiled(alloc, loaded, checked, imports)?;
             Ok(Plan::Module(planned))
         }
     }
