@@ -14,7 +14,7 @@ use crate::loaded::loaded_for;
 use crate::planned::Plan;
 use ob_base::Refused;
 use ob_check::check;
-use ob_declare::Imports;
+use ob_scope::Imports;
 use ob_link::{LinkFault, Modules};
 use ob_tree::tree::Module;
 use std::alloc::Global;
