@@ -1,5 +1,5 @@
 -- The modules that are loaded, added one after the other, are those that the rules see.
-use Rattle.std.proofs.Common.{◌≡◌, ℕ, zero, suc, Bool, false, cond, ◌||◌, List, [], ◌∷◌, length, map, take, ◌+◌, Option, Some, None, option_map, slice_get, refl, ◌∙◌, ap, arith}
+use Rattle.std.proofs.Common.{◌≡◌, ℕ, zero, suc, Bool, false, cond, ◌||◌, List, [], ◌∷◌, length, map, get_or, take, drop, ◌+◌, Option, Some, None, option_map, slice_get, refl, ◌∙◌, ap, arith}
 use Rattle.std.specs.List.{list_any}
 use Rattle.std.specs.Str.{bytes_eq}
 use Rattle.std.proofs.lemmas.Option.{slice_get-map}
@@ -40,10 +40,10 @@ reached_none all name m e =
 seen_where : (all ms : List Module) (name : List ℕ) → map (λ (m : Module). false) ms ≡ map (found.reached_by all name) ms → all_seen ms ≡ map (meaning.loaded_as all name) ms
 seen_where all [] name e = refl
 seen_where all (m ∷ ms) name e =
-    let a : false ≡ found.reached_by all name m = cc in
-    let b : map (λ (n : Module). false) ms ≡ map (found.reached_by all name) ms = cc in
-    let c = reached_none all name m a in
-    let d = seen_where all ms name b in cc
+    let here : false ≡ found.reached_by all name m = ap (λ (row : List Bool). get_or row 0 false) e in
+    let behind : map (λ (n : Module). false) ms ≡ map (found.reached_by all name) ms = ap (λ (row : List Bool). drop 1 row) e in
+    ap (λ (seen : LoadedTree). seen ∷ all_seen ms) (reached_none all name m here)
+    ∙ ap (λ (rest : Loaded). meaning.loaded_as all name m ∷ rest) (seen_where all ms name behind)
 
 pub apart_seen : (modules : List Module) (name : List ℕ) → found.IsApart modules name → all_seen modules ≡ map (meaning.loaded_as modules name) modules
 apart_seen modules name apart = seen_where modules modules name (none_reaches modules name apart)

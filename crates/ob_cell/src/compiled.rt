@@ -10,9 +10,9 @@ use crate::planned::Planned;
 use ob_base::Items;
 use ob_check::{Checked, Imported};
 use ob_compile::{compile, face_of, faces_of};
-use ob_scope::Imports;
 use ob_link::{KeyedImport, SessionModule};
 use ob_mean::Face;
+use ob_scope::Imports;
 use std::alloc::{AllocError, Global};
 
 /// The imports, with their keys.

@@ -6,8 +6,8 @@ ghost use Rattle.ob_cell.specs.Texts as meaning;
 ghost use Rattle.ob_link.specs.Modules.{AllDistinct};
 
 use ob_base::Text;
-use ob_scope::Imports;
 use ob_link::{Modules, SessionModule};
+use ob_scope::Imports;
 use ob_tree::tree::{Import, Module};
 use std::alloc::{AllocError, Global};
 

@@ -1,6 +1,6 @@
 //! Cells that are modules.
 
-ghost use Rattle.std.specs.Prelude.{ℕ, List, IfOk, IfErr};
+ghost use Rattle.std.specs.Prelude.{◌≡◌, ℕ, List, map, IfOk, IfErr};
 ghost use Rattle.ob_tree.specs.declared.tree.Cell.TheVariants as cells;
 ghost use Rattle.ob_mean.specs.Values.{Value};
 ghost use Rattle.ob_link.specs.Looking.{in_store};
@@ -8,14 +8,15 @@ ghost use Rattle.ob_link.specs.Modules.{AllSolid, AllDistinct};
 ghost use Rattle.ob_load.specs.Words.{AllWords};
 ghost use Rattle.ob_cell.specs.Oberon.{IsTreeOf};
 ghost use Rattle.ob_cell.specs.Planned.{IsPlanned, IsStaticRefusal};
+ghost use Rattle.ob_cell.specs.Texts as meaning;
 
 use crate::compiled::{compiled, keyed_imports};
 use crate::loaded::loaded_for;
 use crate::planned::Plan;
 use ob_base::Refused;
 use ob_check::check;
-use ob_scope::Imports;
 use ob_link::{LinkFault, Modules};
+use ob_scope::Imports;
 use ob_tree::tree::Module;
 use std::alloc::Global;
 
@@ -23,7 +24,6 @@ use std::alloc::Global;
 ///
 /// `Refused::Fault` has the code of a broken rule and the place of a token there; `Refused::Memory` where memory was refused, or
 /// where something has 2^64 cells or more.
-#[tactic(none)]
 pub fn module_plan(alloc: Global, modules: &Modules, tree: &Module) -> Result<Plan, Refused>
     requires solid { AllSolid modules.now }
     requires distinct { AllDistinct modules.now }
@@ -40,6 +40,7 @@ pub fn module_plan(alloc: Global, modules: &Modules, tree: &Module) -> Result<Pl
 }
 
 // The same over the loaded modules, as the rules for this module see them.
+#[tactic(none)]
 fn plan_over(
     alloc: Global,
     modules: &Modules,
