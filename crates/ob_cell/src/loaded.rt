@@ -70,7 +70,7 @@ fn own_name(import: &Import) -> &Text {
 ///
 /// # Errors
 ///
-/// Want of memory.
+/// Out of memory.
 pub fn loaded_for(alloc: Global, modules: &Modules, tree: &Module) -> Result<Imports, AllocError>
     requires { AllDistinct modules.now }
     ensures { IfOk result (λ imports. imports ≡ map (meaning.loaded_as modules.now tree.now.name.name) modules.now) }
