@@ -1,15 +1,18 @@
 -- The modules that are loaded, added one after the other, are those that the rules see.
-use Rattle.std.proofs.Common.{◌≡◌, ℕ, zero, suc, Bool, cond, ◌||◌, List, [], ◌∷◌, length, map, take, ◌+◌, Option, Some, None, option_map, slice_get, refl, ◌∙◌, ap, arith}
+use Rattle.std.proofs.Common.{◌≡◌, ℕ, zero, suc, Bool, false, cond, ◌||◌, List, [], ◌∷◌, length, map, get_or, take, drop, ◌+◌, Option, Some, None, option_map, slice_get, refl, ◌∙◌, ap, arith}
 use Rattle.std.specs.List.{list_any}
 use Rattle.std.specs.Str.{bytes_eq}
 use Rattle.std.proofs.lemmas.Option.{slice_get-map}
 use Rattle.ob_scope.specs.Exports.{Modules as Loaded, module_names}
 use Rattle.ob_scope.specs.Names.{place_in}
 use Rattle.ob_scope.specs.Imports.{added, module_place}
+use Rattle.ob_scope.specs.LoadedTree.{LoadedTree}
 use Rattle.ob_session.specs.Session.{Import, Module, name_of, find_module}
 use Rattle.ob_link.specs.Reaching as found
 use Rattle.ob_cell.specs.Texts as meaning
 use Rattle.ob_link.specs.Modules.{AllDistinct}
+use Rattle.ob_link.specs.Seen.{seen_alone, all_seen}
+use Rattle.ob_link.proofs.Appended.{none_reaches}
 use Rattle.ob_link.proofs.Named.{turned}
 use Rattle.ob_cell.proofs.Named.{other_name}
 
@@ -27,6 +30,23 @@ reaches_same modules (suc most) name i =
 
 pub reached_same : (modules : List Module) (name : List ℕ) (m : Module) → found.reached_by modules name m ≡ meaning.reached_by modules name m
 reached_same modules name m = ap (λ (t : Import → Bool). list_any t m.imports) (λ x i. reaches_same modules (length modules) name i x)
+
+-- ---- where none reaches it
+
+reached_none : (all : List Module) (name : List ℕ) (m : Module) → false ≡ found.reached_by all name m → seen_alone m ≡ meaning.loaded_as all name m
+reached_none all name m e =
+    ap (λ (b : Bool). let seen : LoadedTree = record { interface = m.interface; reached = cond b (name ∷ []) [] } in seen) (e ∙ reached_same all name m)
+
+seen_where : (all ms : List Module) (name : List ℕ) → map (λ (m : Module). false) ms ≡ map (found.reached_by all name) ms → all_seen ms ≡ map (meaning.loaded_as all name) ms
+seen_where all [] name e = refl
+seen_where all (m ∷ ms) name e =
+    let here : false ≡ found.reached_by all name m = ap (λ (row : List Bool). get_or row 0 false) e in
+    let behind : map (λ (n : Module). false) ms ≡ map (found.reached_by all name) ms = ap (λ (row : List Bool). drop 1 row) e in
+    ap (λ (seen : LoadedTree). seen ∷ all_seen ms) (reached_none all name m here)
+    ∙ ap (λ (rest : Loaded). meaning.loaded_as all name m ∷ rest) (seen_where all ms name behind)
+
+pub apart_seen : (modules : List Module) (name : List ℕ) → found.IsApart modules name → all_seen modules ≡ map (meaning.loaded_as modules name) modules
+apart_seen modules name apart = seen_where modules modules name (none_reaches modules name apart)
 
 -- ---- one more
 

@@ -28,7 +28,7 @@ fn names_of(alloc: Global, commands: &[Command]) -> Result<Vec<CommandName>, All
 ///
 /// # Errors
 ///
-/// Want of memory.
+/// Out of memory.
 pub fn commands_plan(
     alloc: Global,
     modules: &Modules,

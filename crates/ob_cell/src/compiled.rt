@@ -10,16 +10,16 @@ use crate::planned::Planned;
 use ob_base::Items;
 use ob_check::{Checked, Imported};
 use ob_compile::{compile, face_of, faces_of};
-use ob_scope::Imports;
 use ob_link::{KeyedImport, SessionModule};
 use ob_mean::Face;
+use ob_scope::Imports;
 use std::alloc::{AllocError, Global};
 
 /// The imports, with their keys.
 ///
 /// # Errors
 ///
-/// Want of memory.
+/// Out of memory.
 pub fn keyed_imports(alloc: Global, imports: &[Imported]) -> Result<Items<KeyedImport>, AllocError>
     ensures { IfOk result (λ keyed. keyed ≡ map meaning.import_of imports.now) }
 {
@@ -46,7 +46,7 @@ fn items_of(alloc: Global, faces: Vec<Face>) -> Result<Items<Face>, AllocError>
 ///
 /// # Errors
 ///
-/// Want of memory; and where something has 2^64 cells or more.
+/// Out of memory; and where something has 2^64 cells or more.
 pub fn compiled(
     alloc: Global,
     loaded: &Imports,

@@ -6,8 +6,8 @@ ghost use Rattle.ob_cell.specs.Texts as meaning;
 ghost use Rattle.ob_link.specs.Modules.{AllDistinct};
 
 use ob_base::Text;
-use ob_scope::Imports;
 use ob_link::{Modules, SessionModule};
+use ob_scope::Imports;
 use ob_tree::tree::{Import, Module};
 use std::alloc::{AllocError, Global};
 
@@ -70,7 +70,7 @@ fn own_name(import: &Import) -> &Text {
 ///
 /// # Errors
 ///
-/// Want of memory.
+/// Out of memory.
 pub fn loaded_for(alloc: Global, modules: &Modules, tree: &Module) -> Result<Imports, AllocError>
     requires { AllDistinct modules.now }
     ensures { IfOk result (λ imports. imports ≡ map (meaning.loaded_as modules.now tree.now.name.name) modules.now) }

@@ -38,7 +38,7 @@ pub(crate) fn numbered(fault: ob_base::Fault) -> Fault
 ///
 /// A fault of 1 to 4 where the text has no tokens, and one of 5 to 7 where they have no tree: it has these in every session,
 /// and a text with a tree has none of them.
-/// And want of memory.
+/// And out of memory.
 pub fn parse(alloc: Global, text: &str) -> Result<Tree, Refused>
     ensures found { IfOk result (λ tree. IsTreeOf text.now tree) }
     ensures faults { IfErr result (λ refused. (session : Session) → IsRefusal spoken_oberon session text.now refused) }

@@ -58,7 +58,7 @@ fn told_link(alloc: Global, fault: &ob_link::LinkFault) -> Result<LinkFault, All
 ///
 /// # Errors
 ///
-/// Want of memory, and then the session is handed back as it was.
+/// Out of memory, and then the session is handed back as it was.
 pub fn begin(
     alloc: Global,
     session: Session,

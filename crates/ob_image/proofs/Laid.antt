@@ -1,7 +1,7 @@
 -- Modules put among others, and laid one behind the other.
-use Rattle.std.proofs.Common.{◌≡◌, ℕ, zero, suc, ◌+◌, ◌<◌, ◌≤◌, List, [], ◌∷◌, ◌++◌, length, get_or, take, drop, refl, sym, ap, ◌∙◌, add-one, append-nil, arith}
+use Rattle.std.proofs.Common.{◌≡◌, ℕ, zero, suc, ◌+◌, ◌-◌, ◌<◌, ◌≤◌, List, [], ◌∷◌, ◌++◌, length, get_or, take, drop, refl, sym, ap, subst, ◌∙◌, add-one, append-nil, arith}
 use Rattle.std.proofs.Math.ListN.{set}
-use Rattle.std.proofs.lemmas.List.{drop_all, take_all}
+use Rattle.std.proofs.lemmas.List.{drop_all, take-append-drop, take_all}
 use Rattle.ob_code.specs.declared.instr.LinkedModule.{LinkedModule}
 use Rattle.ob_code.specs.Linked.{all_cells, AreLaid}
 use Rattle.ob_code.specs.Machine.{Code}
@@ -83,6 +83,54 @@ laid_all old i le =
     ap (λ (xs : Code). laid 0 xs ++ drop i old) (take_all i old le)
     ∙ ap (λ (xs : Code). laid 0 old ++ xs) (drop_all i old le)
     ∙ append-nil (laid 0 old)
+
+-- ---- where those before a number lie so already
+
+laid_same : (from : ℕ) (code : Code) → AreLaid from code → laid from code ≡ code
+laid_same from [] h = refl
+laid_same from (l ∷ ls) h =
+    ap (λ n. at_cell l n ∷ laid (from + l.code.cells) ls) (sym h.0)
+    ∙ ap (λ (xs : Code). l ∷ xs) (laid_same (from + l.code.cells) ls h.1)
+
+-- laying them changes nothing
+pub laid_before : (code : Code) (i : ℕ) → AreLaid 0 (take i code) → code ≡ laid 0 (take i code) ++ drop i code
+laid_before code i h = sym (ap (λ (xs : Code). xs ++ drop i code) (laid_same 0 (take i code) h) ∙ take-append-drop i code)
+
+last_by : (from : ℕ) (code : Code) (i : ℕ) (d : LinkedModule) → i < length code → AreLaid from (take (suc i) code) → (get_or code i d).cells + (get_or code i d).code.cells ≡ from + all_cells (take (suc i) code)
+last_by from [] i d lt h = absurd (omega (arith, lt))
+last_by from (l ∷ ls) zero d lt h = let e = h.0 in omega (arith, e)
+last_by from (l ∷ ls) (suc i) d lt h = let e = last_by (from + l.code.cells) ls i d (omega (arith, lt)) h.1 in omega (arith, e)
+
+zero_more : (n : ℕ) → 0 + n ≡ n
+zero_more n = omega arith
+
+-- where the last of them ends
+pub last_ends : (code : Code) (number : ℕ) (l : LinkedModule) → 0 < number → number ≤ length code → l ≡ get_or code (number - 1) l → AreLaid 0 (take number code) → l.cells + l.code.cells ≡ all_cells (take number code)
+last_ends code zero l some le e h = absurd (omega (arith, some))
+last_ends code (suc i) l some le e h =
+    let n : suc i - 1 ≡ i = omega arith in
+    let same : l ≡ get_or code i l = e ∙ ap (λ k. get_or code k l) n in
+    let ends = last_by 0 code i l (omega (arith, le)) h in
+    ap (λ (x : LinkedModule). x.cells + x.code.cells) same ∙ ends ∙ zero_more (all_cells (take (suc i) code))
+
+pub laid_front : (from : ℕ) (code : Code) (i : ℕ) → AreLaid from code → AreLaid from (take i code)
+laid_front from code zero h = tt
+laid_front from [] (suc i) h = tt
+laid_front from (l ∷ ls) (suc i) h = (h.0, laid_front (from + l.code.cells) ls i h.1)
+
+put_front : {A : Type 0} (xs : List A) (i : ℕ) (x : A) → i ≤ length xs → take i (put_at xs i x) ≡ take i xs
+put_front xs zero x le = refl
+put_front [] (suc i) x le = absurd (omega (arith, le))
+put_front (y ∷ xs) (suc i) x le = ap (λ l. y ∷ l) (put_front xs i x (omega (arith, le)))
+
+pub put_long : {A : Type 0} (xs : List A) (i : ℕ) (x : A) → i ≤ length xs → i ≤ length (put_at xs i x)
+put_long xs zero x le = omega arith
+put_long [] (suc i) x le = absurd (omega (arith, le))
+put_long (y ∷ xs) (suc i) x le = let e = put_long xs i x (omega (arith, le)) in omega (arith, e)
+
+-- those before the place where one is put lie as they did
+pub laid_put : (code : Code) (i : ℕ) (l : LinkedModule) → i ≤ length code → AreLaid 0 code → AreLaid 0 (take i (put_at code i l))
+laid_put code i l le h = subst (AreLaid 0) (sym (put_front code i l le)) (laid_front 0 code i h)
 
 -- ---- what is so of modules that are laid
 

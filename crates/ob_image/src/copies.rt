@@ -55,7 +55,7 @@ fn copy_headings(alloc: Global, headings: &[Heading]) -> Result<Items<Heading>, 
     Ok(copies)
 }
 
-/// An equal face, or want of memory.
+/// An equal face, or out of memory.
 pub fn copy_face(alloc: Global, face: &Face) -> Result<Face, AllocError>
     ensures { IfOk result (λ c. c ≡ face.now) }
 {

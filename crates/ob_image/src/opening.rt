@@ -100,7 +100,7 @@ fn push_variable(cells: &mut Vec<i32>, variable: &ModuleVariable) -> Result<(), 
 ///
 /// # Errors
 ///
-/// Want of memory; some of them may then stand behind the others.
+/// Out of memory; some of them may then stand behind the others.
 #[tactic(auto, using(crate::proofs::Begins::opening_image))]
 pub fn push_opening(cells: &mut Vec<i32>, variables: &[ModuleVariable]) -> Result<(), AllocError>
     ensures { OnOk result (cells.new.items ≡ cells.old.items ++ image (opening_row variables.now)) }
@@ -116,7 +116,7 @@ pub fn push_opening(cells: &mut Vec<i32>, variables: &[ModuleVariable]) -> Resul
 ///
 /// # Errors
 ///
-/// Want of memory.
+/// Out of memory.
 pub fn loaded_cells(
     alloc: Global,
     old: &[i32],

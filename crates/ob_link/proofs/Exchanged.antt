@@ -81,7 +81,7 @@ has_name modules m h = λ none.
     let k : Some h.loaded ≡ None = sym there ∙ none in
     cc
 
-back_new : (before : List Module) (loaded : Module) → find_module before (name_of loaded) ≡ None → without_last (with_module before loaded) ≡ before
+pub back_new : (before : List Module) (loaded : Module) → find_module before (name_of loaded) ≡ None → without_last (with_module before loaded) ≡ before
 back_new before loaded e = ap without_last (taken_new before loaded e) ∙ last_gone before loaded
 
 back_again : (before : List Module) (loaded m : Module) → find_module before (name_of loaded) ≡ Some m → with_module (with_module before loaded) m ≡ before

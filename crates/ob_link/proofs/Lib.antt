@@ -9,3 +9,4 @@ pub mod Exchanged
 pub mod Appended
 pub mod Named
 pub mod Loads
+pub mod Seen

@@ -4,4 +4,5 @@ pub mod Runs
 pub mod Looking
 pub mod Reaching
 pub mod Exchange
+pub mod Seen
 pub mod Modules

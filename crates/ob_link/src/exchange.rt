@@ -1,13 +1,18 @@
 //! Modules that are loaded, and taken back.
 
-ghost use Rattle.std.specs.Prelude.{◌≡◌, OnOk, OnErr, IfOk, IsTrue};
+ghost use Rattle.std.specs.Prelude.{◌≡◌, [], OnOk, OnErr, IfOk, IsTrue, length};
 ghost use Rattle.ob_session.specs.Session as session;
 ghost use Rattle.ob_link.specs.Exchange as spec;
+ghost use Rattle.ob_link.specs.Faults.{fault_row};
 ghost use Rattle.ob_link.specs.Runs.{may_run};
+ghost use Rattle.ob_scope.specs.Imports.{added};
 
 use crate::module::SessionModule;
 use crate::modules::Modules;
 use crate::table::Table;
+use ob_base::Text;
+use ob_scope::Imports;
+use ob_types::Interface;
 use std::alloc::AllocError;
 
 impl Table {
@@ -46,6 +51,24 @@ impl Table {
             self.replace(number, before);
         }
     }
+}
+
+// What links, found anew; and a module as the rules see it takes its place among the others. Its names are looked up quickly, where
+// there is memory for that.
+fn take_in(
+    table: &Table,
+    loaded: &mut Imports,
+    interface: &Interface,
+) -> Result<(Vec<Option<Text>>, Vec<bool>), AllocError>
+    ensures faults { IfOk result (λ both. both.0.items ≡ fault_row table.now (length table.now)) }
+    ensures runs { IfOk result (λ both. both.1.items ≡ may_run table.now) }
+    ensures loaded { OnOk result (loaded.new ≡ added loaded.old (record { interface = interface.now; reached = [] })) }
+    ensures err { OnErr result (loaded.new ≡ loaded.old) }
+{
+    let both = table.links()?;
+    loaded.add(interface, &[])?;
+    let _indexed = loaded.index_at(table.place_of(interface.name()));
+    Ok(both)
 }
 
 impl Modules {
@@ -87,7 +110,14 @@ impl Modules {
     {
         self.faults.reserve(1)?;
         let runs = self.table.one_more_runs()?;
+        let interface = loaded.interface().another()?;
+        let number = self.table.as_slice().len();
         self.table.append(loaded)?;
+        if let Err(error) = self.loaded.push(&interface, &[]) {
+            self.table.drop_last();
+            return Err(error);
+        }
+        let _indexed = self.loaded.index_at(number);
         match self.faults.push(None) {
             Ok(()) => Ok(runs),
             Err(_) => unreachable!(),
@@ -100,8 +130,9 @@ impl Modules {
         ensures runs { IfOk result (λ row. row.items ≡ may_run self.new) }
         ensures err { OnErr result (self.new ≡ self.old) }
     {
+        let interface = loaded.interface().another()?;
         let before = self.table.exchange(loaded)?;
-        match self.table.links() {
+        match take_in(&self.table, &mut self.loaded, &interface) {
             Ok((faults, runs)) => {
                 self.faults = faults;
                 Ok(runs)

@@ -2,10 +2,12 @@
 
 ghost use Rattle.std.specs.Prelude.{◌≡◌, [], IfOk, option_copied};
 ghost use Rattle.ob_session.specs.Session as session;
+ghost use Rattle.ob_link.specs.Seen.{all_seen};
 
 use crate::module::{KeyedImport, SessionModule};
 use crate::table::Table;
 use ob_base::Text;
+use ob_scope::Imports;
 use std::alloc::{AllocError, Global};
 use std::marker::Model;
 
@@ -16,6 +18,8 @@ pub struct Modules {
     pub(crate) table: Table,
     /// For each module the fault behind its imports, through chains of as many imports as there are modules.
     pub(crate) faults: Vec<Option<Text>>,
+    /// The modules as the rules see them where none reaches the module that is judged.
+    pub(crate) loaded: Imports,
 }
 
 impl Model for Modules {
@@ -27,6 +31,7 @@ impl Model for Modules {
     ghost use Rattle.ob_mean.specs.contracts.statement.TypedStatement as statement;
     ghost use Rattle.ob_session.specs.Session.{Module};
     ghost use Rattle.ob_link.specs.Faults.{fault_row};
+    ghost use Rattle.ob_link.specs.Seen.{all_seen};
 
     ghost Value = { List Module };
 
@@ -34,7 +39,7 @@ impl Model for Modules {
 
     ghost view = { λ m. m.table };
 
-    ghost invariant = { λ m. m.faults.items ≡ fault_row m.table (length m.table) };
+    ghost invariant = { λ m. (m.faults.items ≡ fault_row m.table (length m.table)) × (m.loaded ≡ all_seen m.table) };
 }
 
 impl Modules {
@@ -45,6 +50,7 @@ impl Modules {
         Modules {
             table: Table::new(alloc),
             faults: Vec::new(alloc),
+            loaded: Imports::empty(alloc),
         }
     }
 
@@ -53,6 +59,13 @@ impl Modules {
         ensures { result.now ≡ self.now }
     {
         self.table.as_slice()
+    }
+
+    /// The modules as the static rules see them where none of them reaches the module that is judged.
+    pub fn loaded(&self) -> &Imports
+        ensures { result.now ≡ all_seen self.now }
+    {
+        &self.loaded
     }
 
     /// The number of the module of this name; where there is none, how many modules there are.

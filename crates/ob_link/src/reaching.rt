@@ -97,8 +97,8 @@ impl Modules {
         self.next_reaching(none.as_slice(), name)
     }
 
-    // Whether no module of this name is loaded, and all modules link.
-    pub(crate) fn is_apart(&self, name: &Text) -> bool
+    /// Whether no module of this name is loaded, and all modules link. Then none of them reaches one of that name.
+    pub fn is_apart(&self, name: &Text) -> bool
         ensures { IsTrue result → spec.IsApart self.now name.now }
     {
         match self.table.number_of(name) {

@@ -7,7 +7,7 @@ use Rattle.ob_mean.specs.WellFormed.{IsFaceOf, IsWellFormed}
 use Rattle.ob_mean.specs.Programs.{opening_store, world_before}
 use Rattle.ob_code.specs.declared.instr.CodeModule.{CodeModule}
 use Rattle.ob_code.specs.declared.instr.LinkedModule.{LinkedModule}
-use Rattle.ob_code.specs.Linked.{all_cells}
+use Rattle.ob_code.specs.Linked.{all_cells, AreLaid}
 use Rattle.ob_code.specs.Machine.{Code, Config, start}
 use Rattle.ob_gen.specs.Generated.{IsGenerated}
 use Rattle.ob_gen.proofs.machine.Behaves.{body_behaves}
@@ -20,7 +20,8 @@ use Rattle.ob_store.specs.Stores.{store_of, loaded_cells, session_of}
 use Rattle.ob_store.specs.Runs.{MayBeginWith}
 use Rattle.ob_store.proofs.Loading.{each_loads_cells}
 use Rattle.ob_store.proofs.Runs.{each_may_begin}
-use Rattle.ob_image.proofs.Counted.{compiled_counts}
+use Rattle.ob_image.proofs.Counted.{compiled_counts, compiled_laid}
+use Rattle.ob_image.proofs.Laid.{laid_put, put_long}
 use Rattle.ob_linked.specs.Compiled.{Known, AreCompiledFrom, AllFound, AreCompiled, IsReady, faces_at, runs_in, put_at, laid}
 use Rattle.ob_link.proofs.Loads.{each_load}
 use Rattle.ob_linked.specs.Loading.{IsUnreached}
@@ -146,6 +147,15 @@ store_is modules known code m cells h many = (each_loads_cells modules m cells (
 
 pub is_ready : (modules : List Module) (m : Module) (k : Known) (cells : List ℤ) (code : CodeModule) (p : Prepared) → IsWellFormed k.faces m.tree → IsGenerated k.faces m.tree code → IsFaceOf k.face m.tree → AllFound modules m.imports → IsPrepared modules cells m code p → IsReady modules m k (record { code = code; imports = p.imports; cells = 0 })
 is_ready modules m k cells code p formed generated face found prepared = record { formed = formed; generated = generated; face = face; found = found; imports = prepared.imports }
+
+-- what stands before the place where code is put lies as it did
+pub put_there : (modules : List Module) (known : List Known) (name : List ℕ) (code kept put : Code) (n : ℕ) (l : LinkedModule) → AreCompiledFrom modules modules known code 0 → n ≡ place_of modules name → kept ≡ code → put ≡ put_at kept n l → (n ≤ length put) × AreLaid 0 (take n put)
+put_there modules known name code kept put n l h at same e =
+    let many = code_many modules modules known code 0 h in
+    let within = place_within modules name in
+    let le : n ≤ length code = omega (arith, at, many, within) in
+    subst (λ (x : Code). (n ≤ length x) × AreLaid 0 (take n x)) (sym (e ∙ ap (λ (c : Code). put_at c n l) same))
+    (put_long code n l le, laid_put code n l le (compiled_laid modules modules known code 0 h))
 
 module _ (modules : List Module) (m : Module) (known : List Known) (k : Known) (code : Code) (l : LinkedModule) (h : AreCompiledFrom modules modules known code 0) (ready : IsReady modules m k l) where
   abbrev pub place : ℕ

@@ -86,7 +86,7 @@ impl Session {
     ///
     /// # Errors
     ///
-    /// Want of memory, and then the session is handed back as it was.
+    /// Out of memory, and then the session is handed back as it was.
     pub fn run_module(
         self,
         added: SessionModule,

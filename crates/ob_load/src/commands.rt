@@ -216,7 +216,7 @@ impl Session {
     ///
     /// # Errors
     ///
-    /// Want of memory, and then the session is handed back as it was.
+    /// Out of memory, and then the session is handed back as it was.
     pub fn run_commands(self, commands: Vec<Command>) -> Result<Machine, (Session, AllocError)>
         requires { (names : List CommandName) × (all_ready self names ≡ Runs commands.items) }
         ensures begun { IfOk result (λ m. m ≡ begun_in self (task.Commands commands)) }

@@ -121,7 +121,7 @@ pub(crate) fn load(
         cells: 0,
     };
     put_at(code, number, linked);
-    lay(code);
+    lay(code, number);
     Ok(Beginning {
         number,
         runs,

@@ -108,7 +108,7 @@ impl Machine {
     ///
     /// # Errors
     ///
-    /// Want of memory, and then nothing has changed.
+    /// Out of memory, and then nothing has changed.
     pub fn give_line(&mut self, line: Option<&str>) -> Result<(), AllocError>
         requires asked { (state_of self.old).asks ≡ true }
         ensures ok { OnOk result (state_of self.new ≡ line_given (option_copied line.entry) (state_of self.old)) }

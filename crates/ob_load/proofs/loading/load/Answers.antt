@@ -5,7 +5,7 @@ use Rattle.ob_code.specs.Machine.{Code}
 use Rattle.ob_gen.specs.Generated.{IsGenerated}
 use Rattle.ob_session.specs.Session.{name_of, place_of}
 use Rattle.ob_load.specs.Loading.{IsPrepared}
-use Rattle.ob_load.proofs.Loaded.{code_many, is_ready, known_many, many_put, may_begin, place_within}
+use Rattle.ob_load.proofs.Loaded.{code_many, is_ready, known_many, many_put, may_begin, place_within, put_there}
 use Rattle.ob_load.proofs.loading.load.Goals as goal
 
 pub take_place-requires : goal.take_place-requires
@@ -19,8 +19,18 @@ put_at-requires-clause-there c =
     let same = ap (λ (x : Code). length x) c.in_ok-reserve.ensures.items in
     omega (arith, at, within, many, same)
 
-pub lay-requires : goal.lay-requires
-lay-requires c =
+pub lay-requires-clause-there : goal.lay-requires-clause-there
+lay-requires-clause-there c =
+    let at = c.place_of-number.ensures ∙ ap (place_of c.args.modules.now) (c.name.ensures ∙ ap (λ (i : InterfaceTree). i.name) c.interface.ensures) in
+    (put_there c.args.modules.now c.args.known.now.items (name_of c.args.compiled.added) c.args.code.now.items c.reserve.new.self.items c.put_at.new.items.items c.place_of-number.result _ c.requires.compiled at c.in_ok-reserve.ensures.items c.put_at.ensures).0
+
+pub lay-requires-clause-laid : goal.lay-requires-clause-laid
+lay-requires-clause-laid c =
+    let at = c.place_of-number.ensures ∙ ap (place_of c.args.modules.now) (c.name.ensures ∙ ap (λ (i : InterfaceTree). i.name) c.interface.ensures) in
+    (put_there c.args.modules.now c.args.known.now.items (name_of c.args.compiled.added) c.args.code.now.items c.reserve.new.self.items c.put_at.new.items.items c.place_of-number.result _ c.requires.compiled at c.in_ok-reserve.ensures.items c.put_at.ensures).1
+
+pub lay-requires-clause-few : goal.lay-requires-clause-few
+lay-requires-clause-few c =
     let ms = c.args.modules.now in
     let m = c.args.compiled.added in
     let k = c.args.compiled.faces in

@@ -11,5 +11,5 @@ returns-in-None c = λ none.
     let unknown : number_in c.self.inside.table name ≡ None = sym c.number_of.ensures ∙ c.in-None.is in record {
       new = subst (λ (ms : List Module). find_module ms name ≡ None) c.self.view_is (unplaced c.self.inside.table name unknown).1;
       link = subst (λ (ms : List Module). all_none (fault_row ms (length ms)) ≡ true) c.self.view_is
-          (sym (c.no_fault.ensures ∙ ap all_none (c.as_slice.ensures.value ∙ c.self.invariant)) ∙ none);
+          (sym (c.no_fault.ensures ∙ ap all_none (c.as_slice.ensures.value ∙ c.self.invariant.0)) ∙ none);
     }

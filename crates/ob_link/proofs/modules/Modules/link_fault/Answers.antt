@@ -11,6 +11,6 @@ returns c =
     let ms = c.self.inside.table in
     let is = c.args.imports.now in
     subst (λ x. IfOk c.first_fault.result (λ f. f ≡ x))
-    (ap (λ row. session.first_fault (fault_in ms row) is) (c.as_slice.ensures.value ∙ c.self.invariant)
+    (ap (λ row. session.first_fault (fault_in ms row) is) (c.as_slice.ensures.value ∙ c.self.invariant.0)
     ∙ row_links ms is ∙ ap (λ (xs : List Module). session.link_fault xs is) c.self.view_is)
     c.first_fault.ensures
