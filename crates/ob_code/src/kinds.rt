@@ -220,7 +220,8 @@ pub(crate) fn element(length: Length, size: usize, kind: Kind) -> Kind
 }
 
 fn name_is(one: NameKind, other: NameKind) -> bool
-    ensures { IsTrue result → one ≡ other }
+    ensures same { IsTrue result → one ≡ other }
+    ensures only { one ≡ other → IsTrue result }
 {
     match (one, other) {
         (NameKind::Cells(cells), NameKind::Cells(others)) => cells == others,
@@ -230,7 +231,8 @@ fn name_is(one: NameKind, other: NameKind) -> bool
 }
 
 fn name_is_at(one: &[NameKind], other: &[NameKind], place: usize) -> bool
-    ensures { IsTrue result → SameAt one.now other.now place }
+    ensures same { IsTrue result → SameAt one.now other.now place }
+    ensures only { one.now ≡ other.now → place < length one.now → IsTrue result }
 {
     match one.get(place) {
         Some(kind) => match other.get(place) {
@@ -243,7 +245,8 @@ fn name_is_at(one: &[NameKind], other: &[NameKind], place: usize) -> bool
 
 fn each_same(one: &[NameKind], other: &[NameKind]) -> bool
     requires { length one.now ≡ length other.now }
-    ensures { IsTrue result → one.now ≡ other.now }
+    ensures same { IsTrue result → one.now ≡ other.now }
+    ensures only { one.now ≡ other.now → IsTrue result }
 {
     for place in 0..one.len() {
         if !name_is_at(one, other, place) {
@@ -255,7 +258,8 @@ fn each_same(one: &[NameKind], other: &[NameKind]) -> bool
 
 // Whether these are kinds of the same names.
 pub(crate) fn are_same(one: &[NameKind], other: &[NameKind]) -> bool
-    ensures { IsTrue result → one.now ≡ other.now }
+    ensures same { IsTrue result → one.now ≡ other.now }
+    ensures only { one.now ≡ other.now → IsTrue result }
 {
     if one.len() != other.len() {
         return false;

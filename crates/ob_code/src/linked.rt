@@ -1,7 +1,7 @@
 // Whether loaded modules fit together.
 
-ghost use Rattle.std.specs.Prelude.{◌≡◌, ℕ, IsTrue, true, Some, slice_get};
-ghost use Rattle.ob_code.specs.Linked.{AreLaid, Exports, IsAsKnown, Imports, IsLinked, runs_of};
+ghost use Rattle.std.specs.Prelude.{◌≡◌, ℕ, ◌^◌, ◌<◌, IsTrue, true, Some, slice_get};
+ghost use Rattle.ob_code.specs.Linked.{all_cells, AreLaid, Exports, IsAsKnown, Imports, IsLinked, runs_of};
 ghost use Rattle.ob_code.specs.declared.instr.Entry.{Entry as EntryOf};
 ghost use Rattle.ob_code.specs.declared.instr.Entries.{Entries as EntriesOf};
 ghost use Rattle.ob_code.specs.declared.instr.LinkedModule.{LinkedModule as ModuleOf};
@@ -10,16 +10,19 @@ use crate::instr::{Entries, Entry, LinkedModule};
 use crate::kinds::are_same;
 
 /// Whether these modules are linked, where those may run that `may_run` says, by their numbers: their cells lie one after
-/// the other, and each import of a module that may run may run too, and is as that module's code knows it.
+/// the other, and each import of a module that may run may run too, and is as that module's code knows it. Modules with
+/// 2^64 cells or more may be refused.
 pub fn are_linked(modules: &[LinkedModule], may_run: &[bool]) -> bool
-    ensures { IsTrue result → IsLinked modules.now (runs_of may_run.now) }
+    ensures linked { IsTrue result → IsLinked modules.now (runs_of may_run.now) }
+    ensures only { IsLinked modules.now (runs_of may_run.now) → all_cells modules.now < 2 ^ 64 → IsTrue result }
 {
     are_laid(modules) && all_imports_fit(modules, may_run)
 }
 
 // The modules' cells lie one after the other.
 fn are_laid(modules: &[LinkedModule]) -> bool
-    ensures { IsTrue result → AreLaid 0 modules.now }
+    ensures laid { IsTrue result → AreLaid 0 modules.now }
+    ensures only { AreLaid 0 modules.now → all_cells modules.now < 2 ^ 64 → IsTrue result }
 {
     let mut from: usize = 0;
     for place in 0..modules.len() {
@@ -36,7 +39,8 @@ fn are_laid(modules: &[LinkedModule]) -> bool
 }
 
 fn all_imports_fit(modules: &[LinkedModule], may_run: &[bool]) -> bool
-    ensures { IsTrue result → (home : ℕ) (l : ModuleOf) → slice_get modules.now home ≡ Some l → runs_of may_run.now home ≡ true → (i : ℕ) (known : EntriesOf) → slice_get l.code.imports.items i ≡ Some known → Imports modules.now (runs_of may_run.now) l i known }
+    ensures fit { IsTrue result → (home : ℕ) (l : ModuleOf) → slice_get modules.now home ≡ Some l → runs_of may_run.now home ≡ true → (i : ℕ) (known : EntriesOf) → slice_get l.code.imports.items i ≡ Some known → Imports modules.now (runs_of may_run.now) l i known }
+    ensures only { ((home : ℕ) (l : ModuleOf) → slice_get modules.now home ≡ Some l → runs_of may_run.now home ≡ true → (i : ℕ) (known : EntriesOf) → slice_get l.code.imports.items i ≡ Some known → Imports modules.now (runs_of may_run.now) l i known) → IsTrue result }
 {
     for home in 0..modules.len() {
         if runs(may_run, home) && !imports_fit(modules, may_run, &modules[home]) {
@@ -56,7 +60,8 @@ fn runs(may_run: &[bool], number: usize) -> bool
 }
 
 fn imports_fit(modules: &[LinkedModule], may_run: &[bool], client: &LinkedModule) -> bool
-    ensures { IsTrue result → (i : ℕ) (known : EntriesOf) → slice_get client.now.code.imports.items i ≡ Some known → Imports modules.now (runs_of may_run.now) client.now i known }
+    ensures fit { IsTrue result → (i : ℕ) (known : EntriesOf) → slice_get client.now.code.imports.items i ≡ Some known → Imports modules.now (runs_of may_run.now) client.now i known }
+    ensures only { ((i : ℕ) (known : EntriesOf) → slice_get client.now.code.imports.items i ≡ Some known → Imports modules.now (runs_of may_run.now) client.now i known) → IsTrue result }
 {
     for import in 0..client.code.imports.len() {
         if !import_fits(
@@ -79,7 +84,8 @@ fn import_fits(
     import: usize,
     known: &Entries,
 ) -> bool
-    ensures { IsTrue result → Imports modules.now (runs_of may_run.now) client.now import known.now }
+    ensures fits { IsTrue result → Imports modules.now (runs_of may_run.now) client.now import known.now }
+    ensures only { Imports modules.now (runs_of may_run.now) client.now import known.now → IsTrue result }
 {
     match client.imports.get(import) {
         Some(number) => is_as_known(modules, may_run, *number, known),
@@ -88,7 +94,8 @@ fn import_fits(
 }
 
 fn is_as_known(modules: &[LinkedModule], may_run: &[bool], number: usize, known: &Entries) -> bool
-    ensures { IsTrue result → IsAsKnown modules.now (runs_of may_run.now) number known.now }
+    ensures known { IsTrue result → IsAsKnown modules.now (runs_of may_run.now) number known.now }
+    ensures only { IsAsKnown modules.now (runs_of may_run.now) number known.now → IsTrue result }
 {
     if !runs(may_run, number) {
         return false;
@@ -100,7 +107,8 @@ fn is_as_known(modules: &[LinkedModule], may_run: &[bool], number: usize, known:
 }
 
 fn exports(imported: &LinkedModule, known: &Entries) -> bool
-    ensures { IsTrue result → (place : ℕ) (entry : EntryOf) → slice_get known.now.exported.items place ≡ Some entry → Exports imported.now place entry }
+    ensures exports { IsTrue result → (place : ℕ) (entry : EntryOf) → slice_get known.now.exported.items place ≡ Some entry → Exports imported.now place entry }
+    ensures only { ((place : ℕ) (entry : EntryOf) → slice_get known.now.exported.items place ≡ Some entry → Exports imported.now place entry) → IsTrue result }
 {
     for place in 0..known.exported.len() {
         if !exports_at(imported, place, &known.exported[place]) {
@@ -111,7 +119,8 @@ fn exports(imported: &LinkedModule, known: &Entries) -> bool
 }
 
 fn exports_at(imported: &LinkedModule, place: usize, entry: &Entry) -> bool
-    ensures { IsTrue result → Exports imported.now place entry.now }
+    ensures exports { IsTrue result → Exports imported.now place entry.now }
+    ensures only { Exports imported.now place entry.now → IsTrue result }
 {
     match imported.code.exported.get(place) {
         Some(number) => match imported.code.procedures.get(*number) {
@@ -124,7 +133,8 @@ fn exports_at(imported: &LinkedModule, place: usize, entry: &Entry) -> bool
 
 #[tactic(auto, using(crate::proofs::machine::Laid::entry_same))]
 fn takes_the_same(first: &Entry, second: &Entry) -> bool
-    ensures { IsTrue result → first.now ≡ second.now }
+    ensures same { IsTrue result → first.now ≡ second.now }
+    ensures only { first.now ≡ second.now → IsTrue result }
 {
     first.operands == second.operands
         && first.names == second.names

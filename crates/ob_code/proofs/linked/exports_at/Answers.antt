@@ -3,8 +3,8 @@ use Rattle.std.specs.Prelude.{slice_get}
 use Rattle.std.proofs.lemmas.Option.{slice_get_read}
 use Rattle.ob_code.proofs.linked.exports_at.Goals as goal
 
-pub returns-in-Some-get : goal.returns-in-Some-get
-returns-in-Some-get c = λ yes.
+pub returns-in-Some-get-clause-exports : goal.returns-in-Some-get-clause-exports
+returns-in-Some-get-clause-exports c = λ yes.
     let there = c.in-Some.ensures.lookup in
     let number = slice_get_read c.deref.result.now (length c.deref.result.now) c.args.place c.in-Some.number.now refl there.3.0 there.1 in
     let behind = c.in-Some-get.ensures.lookup in
@@ -14,5 +14,5 @@ returns-in-Some-get c = λ yes.
       f = c.in-Some-get.procedure.now;
       exported = subst (λ l. slice_get l c.args.place ≡ Some c.in-Some.number.now) c.deref.ensures.value number;
       found = subst (λ l. slice_get l c.in-Some.number.now ≡ Some c.in-Some-get.procedure.now) c.deref-in-Some.ensures.value procedure;
-      same = c.takes_the_same.ensures yes;
+      same = c.takes_the_same.ensures.same yes;
     }
