@@ -8,10 +8,10 @@ pub loop-place-init : goal.loop-place-init
 loop-place-init c =
     let same : c.deref.result.now ≡ c.args.code.now.items = search rules in
     record {
-  next = c.cells_before-from.ensures ∙ ap (λ (code : Code). all_cells (take c.args.number code)) same;
-  so_far = laid_before c.args.code.now.items c.args.number c.requires.laid;
-  count = refl;
-}
+      next = c.cells_before-from.ensures ∙ ap (λ (code : Code). all_cells (take c.args.number code)) same;
+      so_far = laid_before c.args.code.now.items c.args.number c.requires.laid;
+      count = refl;
+    }
 
 pub overflow_add-from : goal.overflow_add-from
 overflow_add-from c =
