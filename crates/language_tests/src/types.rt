@@ -205,7 +205,7 @@ fn cells_and_levels_at_their_limits(rt: HostRuntime) -> Result<(), Fail> {
         sized(record(alloc, b"N", 0, Items::new(alloc)))?,
         (1, 1, true)
     );
-    assert_eq!(rt; sized(open(alloc, integer()))?, (0, 1, true));
+    assert_eq!(rt; sized(open(alloc, integer()))?, (1, 1, true));
     assert_eq!(rt; sized(deep(alloc, 200))?, (1, 200, true));
     assert_eq!(rt; sized(deep(alloc, 201))?, (1, 201, false));
     Ok(())

@@ -60,8 +60,8 @@ returns-in_err-planned-in-None-clause-found c = memory_found _ c.from_residual-i
 pub returns-in_err-planned-in-None-clause-faults : goal.returns-in_err-planned-in-None-clause-faults
 returns-in_err-planned-in-None-clause-faults c = memory_faults c.args.modules.now c.args.tree.now c.from_residual-in_err-planned-in-None.result c.from_residual-in_err-planned-in-None.ensures.1
 
-pub returns-clause-found : goal.returns-clause-found
-returns-clause-found c = λ store.
+pub returns-in_ok-planned-in-None-clause-found : goal.returns-in_ok-planned-in-None-clause-found
+returns-in_ok-planned-in-None-clause-found c = λ store.
     let modules = c.args.modules.now in
     let m = c.args.tree.now in
     let loaded = c.args.loaded.now in
