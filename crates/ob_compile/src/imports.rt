@@ -6,8 +6,8 @@ ghost use Rattle.ob_fit.specs.Fitting as spec;
 use crate::face::face_of;
 use ob_base::Text;
 use ob_check::Imported;
-use ob_scope::{Imports, LoadedModule};
 use ob_mean::Face;
+use ob_scope::{Imports, LoadedModule};
 use std::alloc::{AllocError, Global};
 
 // The loaded module of a name.
