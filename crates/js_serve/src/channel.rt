@@ -2,9 +2,9 @@
 
 use crate::call::{Call, Place};
 use crate::clock::date_now;
-use crate::paced::Paced;
 use crossbeam_channel::Sender;
 use jk_language::Language;
+use js_paced::Paced;
 use js_ws::{Channel, Names, Turn, channel_turn};
 use std::alloc::Global;
 use std::cell::Cell;

@@ -9,7 +9,6 @@ mod desk;
 mod driving;
 mod job;
 mod kernels;
-mod paced;
 mod recording;
 mod watch;
 

@@ -13,7 +13,7 @@ use Rattle.ob_mean.specs.Programs.{opening_store}
 use Rattle.ob_code.specs.Linked.{all_cells, runs_of, IsLinked}
 use Rattle.ob_code.specs.Machine.{Code, Config, Memory}
 use Rattle.ob_vm.specs.Images as vm
-use Rattle.ob_vm.specs.Steps.{StandsIn, SliceDone}
+use Rattle.ob_vm.specs.Slices.{StandsIn, SliceDone}
 use Rattle.ob_vm.specs.declared.run.Turned.{Turned}
 use Rattle.ob_vm.specs.declared.run.Turned.TheVariants as slice
 use Rattle.ob_session.specs.Session.{Session, Module, program_of}

@@ -17,7 +17,8 @@ use Rattle.ob_code.proofs.machine.Runs.{stays, goes_on, takes_line, more_turns, 
 use Rattle.ob_code.proofs.machine.Histories.{stood, fewer, writes_none, run_prefixed}
 use Rattle.ob_gen.specs.Correct.{Follows, MayBegin}
 use Rattle.ob_vm.specs.Images as vm
-use Rattle.ob_vm.specs.Steps.{Grows, StandsIn, SliceDone}
+use Rattle.ob_step.specs.Steps.{Grows}
+use Rattle.ob_vm.specs.Slices.{StandsIn, SliceDone}
 use Rattle.ob_vm.specs.declared.run.Turned as slices
 use Rattle.ob_vm.specs.declared.run.Turned.TheVariants as slice
 use Rattle.ob_session.specs.Session.{Session, Module, program_of}

@@ -3,9 +3,9 @@ ghost use Rattle.ob_code.specs.Linked.{all_cells, IsLinked, runs_of};
 ghost use Rattle.ob_code.specs.Kinds.{IsMeasured};
 ghost use Rattle.ob_vm.specs.Images.{AreMeasured, CanRun};
 
-use crate::objects;
 use crate::quick::QuickProcedure;
 use ob_code::instr::LinkedModule;
+use ob_step::objects;
 use std::marker::Model;
 
 /// Linked modules, which of them may run, and one row of cells: the variables of the modules, one module after the other,

@@ -4,14 +4,14 @@ ghost use Rattle.ob_code.specs.Linked.{all_cells};
 ghost use Rattle.ob_code.specs.Machine as spec;
 ghost use Rattle.ob_code.specs.Kinds.{IsMeasured};
 ghost use Rattle.ob_vm.specs.Images.{AsksFor, CanRun, HasTakenLine, ImageState, IsOf, IsRoomFor, IsRoomIn, WhereAsked, machine_config};
-ghost use Rattle.ob_vm.specs.Steps.{SliceDone};
+ghost use Rattle.ob_vm.specs.Slices.{SliceDone};
 
 use crate::image::Image;
 use crate::run::{Turned, run_quickly};
-use crate::state::State;
 use ob_code::checked::Checked;
 use ob_code::instr::{CodeModule, Frame, Name, Procedure};
 use ob_inout::LineBuffer;
+use ob_step::state::State;
 use std::alloc::{AllocError, Global};
 use std::marker::Model;
 use std::mem;

@@ -5,7 +5,7 @@ use Rattle.ob_session.specs.Session.{Session}
 use Rattle.ob_store.specs.Stores.{store_of}
 use Rattle.ob_linked.specs.Compiled.{AreCompiled}
 use Rattle.ob_vm.specs.Images as vm
-use Rattle.ob_vm.specs.Steps.{SliceDone}
+use Rattle.ob_vm.specs.Slices.{SliceDone}
 use Rattle.ob_load.specs.Kept.{IsKept, IsHeld}
 use Rattle.jk_language.specs.MachineState.{here}
 use Rattle.ob_load.specs.MachineState.{MachineState, state_of}

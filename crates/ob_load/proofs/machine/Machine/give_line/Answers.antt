@@ -2,7 +2,7 @@ use Rattle.std.proofs.Common.{◌≡◌, ℕ, ◌-◌, true, false, List, [], �
 use Rattle.std.specs.Prelude.{option_copied}
 use Rattle.ob_inout.specs.Reading.{Line}
 use Rattle.ob_vm.specs.Images as vm
-use Rattle.ob_vm.specs.Steps.{StandsIn, SliceDone}
+use Rattle.ob_vm.specs.Slices.{StandsIn, SliceDone}
 use Rattle.jk_language.specs.Runs.{line_given}
 use Rattle.ob_store.specs.Stores.{store_of}
 use Rattle.ob_load.specs.Kept.{IsRunning}

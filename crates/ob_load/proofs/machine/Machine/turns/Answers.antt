@@ -2,7 +2,7 @@ use Rattle.std.proofs.Common.{◌≡◌, ◌+◌, ◌-◌, ◌<◌, List, min, t
 use Rattle.ob_mean.specs.declared.outcome.Outcome.TheVariants as why
 use Rattle.std.specs.Prelude.{slice_get}
 use Rattle.ob_vm.specs.Images as vm
-use Rattle.ob_vm.specs.Steps.{SliceDone}
+use Rattle.ob_vm.specs.Slices.{SliceDone}
 use Rattle.ob_vm.specs.declared.run.Turned.TheVariants as slice
 use Rattle.jk_language.specs.Runs.{HasTurned}
 use Rattle.jk_language.specs.declared.outcome.Turned.TheVariants as turned

@@ -1,7 +1,7 @@
 use Rattle.std.proofs.Common.{◌-◌, subst, sym, ap, ◌∙◌}
 use Rattle.std.specs.Prelude.{option_copied}
 use Rattle.ob_code.specs.Machine.{go, with_buffer}
-use Rattle.ob_vm.specs.Rooms.{IsSafeAt}
+use Rattle.ob_step.specs.Rooms.{IsSafeAt}
 use Rattle.ob_vm.specs.Images.{MachineState, IsOf, AsksFor, machine_config, machine_of}
 use Rattle.ob_vm.proofs.Asks.{behind, reads, place_there, behind_safe}
 use Rattle.ob_vm.proofs.machine.Machine.give_line.Goals as goal

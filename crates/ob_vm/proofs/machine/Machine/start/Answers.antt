@@ -4,7 +4,7 @@ use Rattle.ob_inout.specs.Reading.{opened}
 use Rattle.ob_inout.specs.Buffer.{Buffer}
 use Rattle.ob_code.specs.Machine.{Memory, body_number}
 use Rattle.ob_code.specs.Linked.{IsLinked, runs_of}
-use Rattle.ob_vm.specs.Rooms.{IsSafeAt}
+use Rattle.ob_step.specs.Rooms.{IsSafeAt}
 use Rattle.ob_vm.specs.Images.{ImageState, RoomState, AreMeasured, IsRoomFor}
 use Rattle.ob_vm.proofs.Begins.{start_safe, start_is}
 use Rattle.ob_vm.proofs.machine.Machine.start.Goals as goal

@@ -1,10 +1,10 @@
 use Rattle.std.proofs.Common.{◌+◌, ◌-◌, min, length, arith, ap, subst, sym, ◌∙◌}
 use Rattle.ob_code.specs.Machine.{Code}
 use Rattle.ob_code.specs.Linked.{all_cells}
-use Rattle.ob_vm.specs.States.{config_of}
+use Rattle.ob_step.specs.States.{config_of}
 use Rattle.ob_vm.specs.Images.{ImageState, MachineState, machine_config, machine_of}
 use Rattle.ob_vm.specs.Quick.{AreQuick}
-use Rattle.ob_vm.specs.Steps.{SliceDone}
+use Rattle.ob_vm.specs.Slices.{SliceDone}
 use Rattle.ob_vm.proofs.Asks.{where_asked}
 use Rattle.ob_vm.proofs.machine.Machine.turns.Goals as goal
 

@@ -1,0 +1,133 @@
+//! A stream whose reads wait as long as its traffic allows.
+
+ghost use Rattle.std.specs.Io.{ReadsAtMost};
+
+use std::cell::Cell;
+use std::io::{ErrorKind, Read, Write};
+use std::net::TcpStream;
+use std::time::{Clock, Duration};
+use std::{io, thread};
+
+/// For how many microseconds of waiting the reads are short ones, after something was read or written.
+const FRESH: u64 = 50_000;
+
+/// How many microseconds the shortest of the short reads waits, and the longest.
+const SHORTEST: u64 = 50;
+
+const LONGEST: u64 = 2_000;
+
+/// A short read waits this part of what was waited before it.
+const PART: u64 = 32;
+
+/// How many milliseconds any other read waits.
+const LONG_WAIT: u64 = 20;
+
+/// A stream whose reads end by a time limit.
+///
+/// A short read asks for what is there, and sleeps where that is nothing: for 50 microseconds at first, and longer the longer
+/// nothing was read or written, up to 2 milliseconds. A long read waits 20 milliseconds, and ends at once where something comes.
+/// Reads are short while the kernel is busy, and for some 50 milliseconds after something was read or written. The system's own
+/// limits are no finer than its clock's ticks.
+#[derive(Drop)]
+pub struct Paced<'s, R: Drop> {
+    rt: R,
+    stream: &'s TcpStream,
+    /// Whether the kernel is busy.
+    busy: &'s Cell<bool>,
+    /// Whether calls of the stream answer at once.
+    at_once: bool,
+    /// How many microseconds reads have waited since something was read or written.
+    waited: u64,
+}
+
+impl<'s, R: Clock + Drop> Paced<'s, R> {
+    /// A stream on which something was just read, and whether its kernel is busy.
+    pub fn new(rt: R, stream: &'s TcpStream, busy: &'s Cell<bool>) -> Paced<'s, R> {
+        let _ = stream.set_read_timeout(Some(Duration::from_millis(LONG_WAIT)));
+        Paced {
+            rt,
+            stream,
+            busy,
+            at_once: false,
+            waited: 0,
+        }
+    }
+
+    /// Has the stream's calls answer at once, or wait.
+    fn answer_at_once(&mut self, at_once: bool) -> io::Result<()> {
+        if self.at_once != at_once {
+            self.stream.set_nonblocking(at_once)?;
+            self.at_once = at_once;
+        }
+        Ok(())
+    }
+
+    fn read_now(&self, buf: &mut [u8]) -> io::Result<usize>
+        ensures { ReadsAtMost result buf.new }
+    {
+        let mut reader = self.stream;
+        reader.read(buf)
+    }
+
+    fn read_long(&mut self, buf: &mut [u8]) -> io::Result<usize>
+        ensures { ReadsAtMost result buf.new }
+    {
+        self.answer_at_once(false)?;
+        let read = self.read_now(buf);
+        self.note(&read, LONG_WAIT * 1_000);
+        read
+    }
+
+    fn read_short(&mut self, buf: &mut [u8]) -> io::Result<usize>
+        ensures { ReadsAtMost result buf.new }
+    {
+        self.answer_at_once(true)?;
+        let read = self.read_now(buf);
+        let wait = (self.waited / PART).max(SHORTEST).min(LONGEST);
+        if is_empty(&read) {
+            thread::sleep(&self.rt, Duration::from_micros(wait));
+        }
+        self.note(&read, wait);
+        read
+    }
+
+    /// Notes what a read gave that waited so many microseconds where it gave nothing.
+    fn note(&mut self, read: &io::Result<usize>, wait: u64) {
+        self.waited = if is_empty(read) {
+            self.waited.saturating_add(wait)
+        } else {
+            0
+        };
+    }
+}
+
+/// Whether a read ended by its time limit.
+fn is_empty(read: &io::Result<usize>) -> bool {
+    match read {
+        Ok(_) => false,
+        Err(error) => error.kind() == ErrorKind::WouldBlock,
+    }
+}
+
+impl<R: Clock + Drop> Read for Paced<'_, R> {
+    fn read(&mut self, buf: &mut [u8]) -> io::Result<usize> {
+        if self.busy.get() || self.waited < FRESH {
+            self.read_short(buf)
+        } else {
+            self.read_long(buf)
+        }
+    }
+}
+
+impl<R: Clock + Drop> Write for Paced<'_, R> {
+    fn write(&mut self, buf: &[u8]) -> io::Result<usize> {
+        self.answer_at_once(false)?;
+        self.waited = 0;
+        let mut writer = self.stream;
+        writer.write(buf)
+    }
+
+    fn flush(&mut self) -> io::Result<()> {
+        Ok(())
+    }
+}

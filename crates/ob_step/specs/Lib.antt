@@ -1,0 +1,5 @@
+pub mod States
+pub mod Rooms
+pub mod Needs
+pub mod Rows
+pub mod Steps

@@ -1,0 +1,15 @@
+//! One instruction of the machine, and one turn.
+#![tactic(auto)]
+
+mod cells;
+mod input;
+pub mod jumps;
+pub mod objects;
+mod operands;
+mod places;
+pub mod state;
+pub mod step;
+mod texts;
+pub mod turn;
+mod values;
+mod waits;
