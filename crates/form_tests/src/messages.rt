@@ -78,155 +78,183 @@ fn reads_a_cell(rt: HostRuntime) -> Result<(), Fail> {
     Ok(())
 }
 
-#[test]
-fn reads_each_request(rt: HostRuntime) -> Result<(), Fail> {
-    let all = request(
-        &rt,
+// What is read of a request, in a word or two, with the fields that it has of its own.
+fn told(rt: &HostRuntime, content: &Content) -> Result<String, Fail> {
+    let alloc = rt.alloc();
+    let Content::Request(request) = content else {
+        return Ok(String::from_str(alloc, "of the kernel")?);
+    };
+    Ok(match request {
+        Request::Execute(e) => format!(in alloc;
+            "execute {} {} {} {} {}",
+            e.code.as_str(),
+            e.silent,
+            e.store_history,
+            e.allow_stdin,
+            e.stop_on_error
+        )?,
+        Request::KernelInfo => String::from_str(alloc, "kernel info")?,
+        Request::IsComplete { code } => format!(in alloc; "is complete {}", code.as_str())?,
+        Request::Complete { cursor_pos } => format!(in alloc; "complete {}", cursor_pos.number())?,
+        Request::Inspect => String::from_str(alloc, "inspect")?,
+        Request::History => String::from_str(alloc, "history")?,
+        Request::CommInfo => String::from_str(alloc, "comm info")?,
+        Request::Interrupt => String::from_str(alloc, "interrupt")?,
+        Request::Shutdown { restart } => format!(in alloc; "shutdown {restart}")?,
+        Request::InputReply { value } => format!(in alloc; "input {}", value.as_str())?,
+        Request::Other => String::from_str(alloc, "other")?,
+    })
+}
+
+// A channel, a type, a content, and what is read. A type that has no meaning on its channel is another message, whose content
+// is not looked at.
+const REQUESTS: [(&str, &str, &str, &str); 19] = [
+    (
         "shell",
         "execute_request",
-        "{\"allow_stdin\":false,\"code\":\"\",\"silent\":true,\"stop_on_error\":false,\"store_history\":false,\"user_expressions\":{\"a\":\"b\"}}",
-    )?;
-    assert!(rt;
-        matches!(&all, Content::Request(Request::Execute(e)) if e.silent && !e.store_history && !e.allow_stdin && !e.stop_on_error)
-    );
-    let info = request(&rt, "shell", "kernel_info_request", "{}")?;
-    assert!(rt; matches!(&info, Content::Request(Request::KernelInfo)));
-    let info = request(&rt, "control", "kernel_info_request", "{}")?;
-    assert!(rt; matches!(&info, Content::Request(Request::KernelInfo)));
-    let complete = request(&rt, "shell", "is_complete_request", "{\"code\":\"x\"}")?;
-    assert!(rt;
-        matches!(&complete, Content::Request(Request::IsComplete { code }) if code.as_str() == "x")
-    );
-    let cursor = request(&rt, "shell", "complete_request", "{}")?;
-    assert!(rt;
-        matches!(&cursor, Content::Request(Request::Complete { cursor_pos }) if cursor_pos.number() == 0)
-    );
-    let cursor = request(&rt, "shell", "complete_request", "{\"cursor_pos\":-3}")?;
-    assert!(rt;
-        matches!(&cursor, Content::Request(Request::Complete { cursor_pos }) if cursor_pos.number() == -3)
-    );
-    let inspect = request(&rt, "shell", "inspect_request", "{}")?;
-    assert!(rt; matches!(&inspect, Content::Request(Request::Inspect)));
-    let history = request(&rt, "shell", "history_request", "{}")?;
-    assert!(rt; matches!(&history, Content::Request(Request::History)));
-    let comms = request(&rt, "shell", "comm_info_request", "{}")?;
-    assert!(rt; matches!(&comms, Content::Request(Request::CommInfo)));
-    let interrupt = request(&rt, "control", "interrupt_request", "{}")?;
-    assert!(rt; matches!(&interrupt, Content::Request(Request::Interrupt)));
-    let shutdown = request(&rt, "control", "shutdown_request", "{}")?;
-    assert!(rt;
-        matches!(
-            &shutdown,
-            Content::Request(Request::Shutdown { restart: false })
-        )
-    );
-    let restart = request(&rt, "control", "shutdown_request", "{\"restart\":true}")?;
-    assert!(rt;
-        matches!(
-            &restart,
-            Content::Request(Request::Shutdown { restart: true })
-        )
-    );
-    let line = request(&rt, "stdin", "input_reply", "{\"value\":\"12 34\"}")?;
-    assert!(rt;
-        matches!(&line, Content::Request(Request::InputReply { value }) if value.as_str() == "12 34")
-    );
-    Ok(())
-}
-
-#[test]
-fn reads_no_fields_elsewhere(rt: HostRuntime) -> Result<(), Fail> {
-    let other = request(&rt, "control", "execute_request", "{\"code\":7}")?;
-    assert!(rt; matches!(&other, Content::Request(Request::Other)));
-    let other = request(&rt, "shell", "interrupt_request", "{}")?;
-    assert!(rt; matches!(&other, Content::Request(Request::Other)));
-    let other = request(&rt, "shell", "input_reply", "{}")?;
-    assert!(rt; matches!(&other, Content::Request(Request::Other)));
-    let other = request(&rt, "shell", "comm_open", "{\"code\":7}")?;
-    assert!(rt; matches!(&other, Content::Request(Request::Other)));
-    Ok(())
-}
-
-#[test]
-fn refuses_texts(rt: HostRuntime) -> Result<(), Fail> {
-    assert_eq!(rt; fault(&rt, "{"), 1);
-    assert_eq!(rt; fault(&rt, "{\"n\":1e999}"), 1);
-    assert_eq!(rt; fault(&rt, "{\"s\":\"\\ud800\"}"), 1);
-    assert_eq!(rt; fault(&rt, "{\"n\":1.5}"), 4);
-    assert_eq!(rt; fault(&rt, "{\"n\":1e2}"), 4);
-    assert_eq!(rt; fault(&rt, "{\"n\":-0}"), 4);
-    assert_eq!(rt; fault(&rt, "{\"n\":18446744073709551616}"), 4);
-    assert_eq!(rt; fault(&rt, "{\"n\":18446744073709551615}"), 2);
-    assert_eq!(rt; fault(&rt, "7"), 2);
-    Ok(())
-}
-
-#[test]
-fn refuses_numbers_under_equal_keys(rt: HostRuntime) -> Result<(), Fail> {
-    let contents = [
-        "{\"code\":\"x\",\"n\":1.5}",
-        "{\"code\":\"x\",\"n\":1.5,\"n\":1}",
-        "{\"code\":\"x\",\"n\":{\"a\":1e2,\"a\":1}}",
-        "{\"code\":-0,\"code\":\"x\"}",
-    ];
-    for content in contents {
-        assert_eq!(rt; fault_of(&rt, "shell", "execute_request", content)?, 4);
-    }
-    let whole = "{\"code\":7,\"code\":\"x\",\"n\":1,\"n\":2}";
-    assert_eq!(rt; fault_of(&rt, "shell", "execute_request", whole)?, 0);
-    assert_eq!(rt; fault(&rt, "{\"header\":1.5,\"header\":7}"), 4);
-    Ok(())
-}
-
-#[test]
-fn refuses_the_first_fault(rt: HostRuntime) -> Result<(), Fail> {
-    assert_eq!(rt; fault(&rt, "{\"header\":7}"), 3);
-    assert_eq!(rt; fault(&rt, "{\"header\":null}"), 3);
-    let no_id =
-        "{\"content\":{\"code\":7},\"header\":{\"msg_type\":\"execute_request\",\"session\":\"s\"}}";
-    assert_eq!(rt; fault(&rt, no_id), 2);
-    let no_content =
-        "{\"channel\":7,\"header\":{\"msg_id\":\"m\",\"msg_type\":\"execute_request\",\"session\":\"s\"}}";
-    assert_eq!(rt; fault(&rt, no_content), 2);
-    let no_object =
-        "{\"content\":{},\"header\":{\"msg_id\":\"m\",\"msg_type\":\"t\",\"session\":\"s\"},\"metadata\":[]}";
-    assert_eq!(rt; fault(&rt, no_object), 3);
-    let buffers =
-        "{\"buffers\":[{}],\"content\":{},\"header\":{\"msg_id\":\"m\",\"msg_type\":\"execute_request\",\"session\":\"s\"}}";
-    assert_eq!(rt; fault(&rt, buffers), 3);
-    assert_eq!(rt; fault_of(&rt, "iopub", "status", "{}")?, 3);
-    assert_eq!(rt; fault_of(&rt, "shell", "execute_request", "{}")?, 2);
-    assert_eq!(rt;
-        fault_of(&rt, "shell", "execute_request", "{\"code\":7}")?,
-        3
-    );
-    assert_eq!(rt;
-        fault_of(&rt, "shell", "execute_request", "{\"code\":7,\"n\":1.5}")?,
-        4
-    );
-    assert_eq!(rt;
-        fault_of(&rt, "shell", "complete_request", "{\"cursor_pos\":true}")?,
-        3
-    );
-    assert_eq!(rt;
-        fault_of(&rt, "control", "shutdown_request", "{\"restart\":1}")?,
-        3
-    );
-    assert_eq!(rt; fault_of(&rt, "stdin", "input_reply", "{}")?, 2);
-    Ok(())
-}
-
-#[test]
-fn reads_the_last_of_equal_keys(rt: HostRuntime) -> Result<(), Fail> {
-    let twice = request(
-        &rt,
+        "{\"allow_stdin\":false,\"code\":\"c\",\"silent\":true,\"stop_on_error\":false,\"store_history\":false,\"user_expressions\":{\"a\":\"b\"}}",
+        "execute c true false false false",
+    ),
+    (
+        "shell",
+        "execute_request",
+        "{\"code\":\"c\"}",
+        "execute c false true true true",
+    ),
+    ("shell", "kernel_info_request", "{}", "kernel info"),
+    ("control", "kernel_info_request", "{}", "kernel info"),
+    (
+        "shell",
+        "is_complete_request",
+        "{\"code\":\"x\"}",
+        "is complete x",
+    ),
+    (
         "shell",
         "is_complete_request",
         "{\"code\":7,\"code\":\"y\"}",
-    )?;
-    assert!(rt;
-        matches!(&twice, Content::Request(Request::IsComplete { code }) if code.as_str() == "y")
-    );
+        "is complete y",
+    ),
+    ("shell", "complete_request", "{}", "complete 0"),
+    (
+        "shell",
+        "complete_request",
+        "{\"cursor_pos\":-3}",
+        "complete -3",
+    ),
+    ("shell", "inspect_request", "{}", "inspect"),
+    ("shell", "history_request", "{}", "history"),
+    ("shell", "comm_info_request", "{}", "comm info"),
+    ("control", "interrupt_request", "{}", "interrupt"),
+    ("control", "shutdown_request", "{}", "shutdown false"),
+    (
+        "control",
+        "shutdown_request",
+        "{\"restart\":true}",
+        "shutdown true",
+    ),
+    (
+        "stdin",
+        "input_reply",
+        "{\"value\":\"12 34\"}",
+        "input 12 34",
+    ),
+    ("control", "execute_request", "{\"code\":7}", "other"),
+    ("shell", "interrupt_request", "{}", "other"),
+    ("shell", "input_reply", "{}", "other"),
+    ("shell", "comm_open", "{\"code\":7}", "other"),
+];
+
+#[test]
+fn reads_each_request(rt: HostRuntime) -> Result<(), Fail> {
+    for (channel, msg_type, content, wanted) in REQUESTS {
+        let read = request(&rt, channel, msg_type, content)?;
+        assert_eq!(rt; told(&rt, &read)?.as_str(), wanted);
+    }
+    Ok(())
+}
+
+// Texts, and the numbers of their faults, of which the first is told.
+const TEXTS: [(&str, u8); 16] = [
+    ("{", 1),
+    ("{\"n\":1e999}", 1),
+    ("{\"s\":\"\\ud800\"}", 1),
+    ("{\"n\":1.5}", 4),
+    ("{\"n\":1e2}", 4),
+    ("{\"n\":-0}", 4),
+    ("{\"n\":18446744073709551616}", 4),
+    ("{\"n\":18446744073709551615}", 2),
+    ("7", 2),
+    ("{\"header\":1.5,\"header\":7}", 4),
+    ("{\"header\":7}", 3),
+    ("{\"header\":null}", 3),
+    (
+        "{\"content\":{\"code\":7},\"header\":{\"msg_type\":\"execute_request\",\"session\":\"s\"}}",
+        2,
+    ),
+    (
+        "{\"channel\":7,\"header\":{\"msg_id\":\"m\",\"msg_type\":\"execute_request\",\"session\":\"s\"}}",
+        2,
+    ),
+    (
+        "{\"content\":{},\"header\":{\"msg_id\":\"m\",\"msg_type\":\"t\",\"session\":\"s\"},\"metadata\":[]}",
+        3,
+    ),
+    (
+        "{\"buffers\":[{}],\"content\":{},\"header\":{\"msg_id\":\"m\",\"msg_type\":\"execute_request\",\"session\":\"s\"}}",
+        3,
+    ),
+];
+
+#[test]
+fn refuses_texts(rt: HostRuntime) -> Result<(), Fail> {
+    for (text, number) in TEXTS {
+        assert_eq!(rt; fault(&rt, text), number);
+    }
+    Ok(())
+}
+
+// A channel, a type, a content, and the number of its fault, or 0.
+const CONTENTS: [(&str, &str, &str, u8); 12] = [
+    ("shell", "execute_request", "{\"code\":\"x\",\"n\":1.5}", 4),
+    (
+        "shell",
+        "execute_request",
+        "{\"code\":\"x\",\"n\":1.5,\"n\":1}",
+        4,
+    ),
+    (
+        "shell",
+        "execute_request",
+        "{\"code\":\"x\",\"n\":{\"a\":1e2,\"a\":1}}",
+        4,
+    ),
+    (
+        "shell",
+        "execute_request",
+        "{\"code\":-0,\"code\":\"x\"}",
+        4,
+    ),
+    (
+        "shell",
+        "execute_request",
+        "{\"code\":7,\"code\":\"x\",\"n\":1,\"n\":2}",
+        0,
+    ),
+    ("iopub", "status", "{}", 3),
+    ("shell", "execute_request", "{}", 2),
+    ("shell", "execute_request", "{\"code\":7}", 3),
+    ("shell", "execute_request", "{\"code\":7,\"n\":1.5}", 4),
+    ("shell", "complete_request", "{\"cursor_pos\":true}", 3),
+    ("control", "shutdown_request", "{\"restart\":1}", 3),
+    ("stdin", "input_reply", "{}", 2),
+];
+
+#[test]
+fn refuses_contents(rt: HostRuntime) -> Result<(), Fail> {
+    for (channel, msg_type, content, number) in CONTENTS {
+        assert_eq!(rt; fault_of(&rt, channel, msg_type, content)?, number);
+    }
     Ok(())
 }
 

@@ -120,31 +120,41 @@ fn joins_streams_of_one_name(rt: HostRuntime) -> Result<(), Fail> {
     Ok(())
 }
 
+const REFUSED: [(&str, NbFault); 7] = [
+    ("{", NbFault::NotJson),
+    ("[1.5]", NbFault::NotWhole),
+    ("7", NbFault::OtherVersion),
+    ("{\"nbformat\":4}", NbFault::OtherVersion),
+    (
+        "{\"nbformat\":4,\"nbformat_minor\":\"5\"}",
+        NbFault::OtherVersion,
+    ),
+    (
+        "{\"nbformat\":3,\"nbformat_minor\":5}",
+        NbFault::OtherVersion,
+    ),
+    (
+        "{\"nbformat\":4,\"nbformat_minor\":-1}",
+        NbFault::OtherVersion,
+    ),
+];
+
+const NUMBERS: [(NbFault, u8); 6] = [
+    (NbFault::NotJson, 1),
+    (NbFault::BadField, 2),
+    (NbFault::BadId, 3),
+    (NbFault::RepeatedId, 4),
+    (NbFault::OtherVersion, 5),
+    (NbFault::NotWhole, 6),
+];
+
 #[test]
 fn refuses_by_number(rt: HostRuntime) -> Result<(), Fail> {
-    assert_eq!(rt; refused(&rt, "{"), Some(NbFault::NotJson));
-    assert_eq!(rt; refused(&rt, "[1.5]"), Some(NbFault::NotWhole));
-    assert_eq!(rt; refused(&rt, "7"), Some(NbFault::OtherVersion));
-    assert_eq!(rt;
-        refused(&rt, "{\"nbformat\":4}"),
-        Some(NbFault::OtherVersion)
-    );
-    assert_eq!(rt;
-        refused(&rt, "{\"nbformat\":4,\"nbformat_minor\":\"5\"}"),
-        Some(NbFault::OtherVersion)
-    );
-    assert_eq!(rt;
-        refused(&rt, "{\"nbformat\":3,\"nbformat_minor\":5}"),
-        Some(NbFault::OtherVersion)
-    );
-    assert_eq!(rt;
-        refused(&rt, "{\"nbformat\":4,\"nbformat_minor\":-1}"),
-        Some(NbFault::OtherVersion)
-    );
-    assert_eq!(rt;
-        refused(&rt, "{\"nbformat\":4,\"nbformat_minor\":5}"),
-        Some(NbFault::BadField)
-    );
+    for (text, fault) in REFUSED {
+        assert_eq!(rt; refused(&rt, text), Some(fault));
+    }
+    let no_cells = "{\"nbformat\":4,\"nbformat_minor\":5}";
+    assert_eq!(rt; refused(&rt, no_cells), Some(NbFault::BadField));
     let minor_six = notebook_text(&rt, 6, "")?;
     assert_eq!(rt;
         refused(&rt, minor_six.as_str()),
@@ -154,12 +164,9 @@ fn refuses_by_number(rt: HostRuntime) -> Result<(), Fail> {
     let not_utf8 = [34, 255, 34];
     let bytes = read_notebook(rt.alloc(), &not_utf8);
     assert!(rt; matches!(&bytes, Err(NbBad::Fault(NbFault::NotJson))));
-    assert_eq!(rt; number_of(NbFault::NotJson), 1);
-    assert_eq!(rt; number_of(NbFault::BadField), 2);
-    assert_eq!(rt; number_of(NbFault::BadId), 3);
-    assert_eq!(rt; number_of(NbFault::RepeatedId), 4);
-    assert_eq!(rt; number_of(NbFault::OtherVersion), 5);
-    assert_eq!(rt; number_of(NbFault::NotWhole), 6);
+    for (fault, number) in NUMBERS {
+        assert_eq!(rt; number_of(fault), number);
+    }
     Ok(())
 }
 
