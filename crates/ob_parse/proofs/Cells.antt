@@ -22,16 +22,16 @@ use Rattle.ob_tree.specs.Statement.{statements}
 use Rattle.ob_tree.specs.Declaration.{declarations, name_again}
 use Rattle.ob_parse.specs.Grammar as p
 use Rattle.ob_parse.specs.Grammar.{Derives, AnswersTree, FaultsOnly, max_nesting}
-use Rattle.ob_parse.specs.Reading as reading
-use Rattle.ob_parse.specs.Reading.{Reader, Reads, Outcome, eat, many, if_ident, at_ident}
+use Rattle.ob_parse_expression.specs.Reading as reading
+use Rattle.ob_parse_expression.specs.Reading.{Reader, Reads, Outcome, eat, many, if_ident, at_ident}
 use Rattle.ob_parse.specs.GrammarReading as r
 use Rattle.ob_parse.specs.GrammarReading.{is_semicolon, at_semicolon, behind_semicolons}
-use Rattle.ob_parse.proofs.Exact.{Exact, Anything, OrAbsent, IsAbsent, answer, answers, same_answer, Seq, Is, Either, exact_seq, exact_pure, exact_as, exact_maybe_as, exact_where, exact_either, exact_where_some, absent_where, before_pure}
-use Rattle.ob_parse.proofs.OneToken.{exact_expect, exact_eat, exact_ident, starts_by, absent_start, other_symbol, Closes, closes_by, absent_closing}
+use Rattle.ob_parse_expression.proofs.Exact.{Exact, Anything, OrAbsent, IsAbsent, answer, answers, same_answer, Seq, Is, Either, exact_seq, exact_pure, exact_as, exact_maybe_as, exact_where, exact_either, exact_where_some, absent_where, before_pure}
+use Rattle.ob_parse_expression.proofs.OneToken.{exact_expect, exact_eat, exact_ident, starts_by, absent_start, other_symbol, Closes, closes_by, absent_closing}
 use Rattle.ob_tree.proofs.Tokens.{made}
-use Rattle.ob_parse.proofs.Separated.{exact_separated}
+use Rattle.ob_parse_expression.proofs.Separated.{exact_separated}
 use Rattle.ob_parse.proofs.Optional.{exact_optional, optional_begins}
-use Rattle.ob_parse.proofs.Entries.{exact_entries, entries_follow, ident_at}
+use Rattle.ob_parse_expression.proofs.Entries.{exact_entries, entries_follow, ident_at}
 use Rattle.ob_parse.proofs.Sections.{Later, later_at, later_by, absent_later}
 use Rattle.ob_parse.proofs.Declarations.{exact_body, exact_name}
 use Rattle.ob_parse.proofs.Procedures.{exact_declarations, declarations_begin}

@@ -27,20 +27,20 @@ use Rattle.ob_tree.specs.Structure as structure
 use Rattle.ob_tree.specs.Statement.{statements}
 use Rattle.ob_tree.specs.Declaration as p
 use Rattle.ob_tree.specs.Declaration.{FormalLayer}
-use Rattle.ob_parse.specs.Reading as reading
-use Rattle.ob_parse.specs.Reading.{Reader, ◌>>=◌, pure, eat, at_ident, many, if_ident}
+use Rattle.ob_parse_expression.specs.Reading as reading
+use Rattle.ob_parse_expression.specs.Reading.{Reader, ◌>>=◌, pure, eat, at_ident, many, if_ident}
 use Rattle.ob_parse.specs.DeclarationReading as r
-use Rattle.ob_parse.specs.NameReading as names
-use Rattle.ob_parse.specs.ExpressionReading as exr
+use Rattle.ob_parse_expression.specs.NameReading as names
+use Rattle.ob_parse_expression.specs.ExpressionReading as exr
 use Rattle.ob_parse.specs.StatementReading as statement
-use Rattle.ob_parse.proofs.Exact.{Exact, Anything, OrAbsent, IsAbsent, answer, answers, Seq, Is, Made, Either, exact_seq, exact_pure, exact_as, exact_maybe_as, exact_where, exact_made, exact_either, exact_where_some, absent_where, before_made, before_pure, exact_refuse}
-use Rattle.ob_parse.proofs.OneToken.{exact_expect, exact_eat, exact_opens, Opens, Ends, ends_by, Starts, absent_start, other_symbol, Closes, closes_at, closes_ends, absent_closing}
-use Rattle.ob_parse.proofs.Separated.{exact_separated}
+use Rattle.ob_parse_expression.proofs.Exact.{Exact, Anything, OrAbsent, IsAbsent, answer, answers, Seq, Is, Made, Either, exact_seq, exact_pure, exact_as, exact_maybe_as, exact_where, exact_made, exact_either, exact_where_some, absent_where, before_made, before_pure, exact_refuse}
+use Rattle.ob_parse_expression.proofs.OneToken.{exact_expect, exact_eat, exact_opens, Opens, Ends, ends_by, Starts, absent_start, other_symbol, Closes, closes_at, closes_ends, absent_closing}
+use Rattle.ob_parse_expression.proofs.Separated.{exact_separated}
 use Rattle.ob_parse.proofs.Optional.{exact_optional, closed_list, exact_closed}
-use Rattle.ob_parse.proofs.Entries.{exact_entries}
+use Rattle.ob_parse_expression.proofs.Entries.{exact_entries}
 use Rattle.ob_parse.proofs.Sections.{Later, later_at, later_by, absent_later, later_no_ident, later_closes}
-use Rattle.ob_parse.proofs.Expressions.{exact_expression, pred_of, some_levels}
-use Rattle.ob_parse.proofs.Names.{exact_ident_def, ident_def_at, no_mark, exact_idents, idents_start, exact_qualident, qualident_starts}
+use Rattle.ob_parse_expression.proofs.Expressions.{exact_expression, pred_of, some_levels}
+use Rattle.ob_parse_expression.proofs.Names.{exact_ident_def, ident_def_at, no_mark, exact_idents, idents_start, exact_qualident, qualident_starts}
 use Rattle.ob_parse.proofs.Structures.{exact_type_expr, exact_typed_names, names_of_at}
 use Rattle.ob_parse.proofs.Statements.{exact_statements}
 

@@ -1,14 +1,6 @@
-pub mod Loop
 pub mod StatementLoop
-pub mod Exact
-pub mod OneToken
-pub mod Operators
-pub mod Separated
 pub mod Optional
-pub mod Entries
 pub mod Sections
-pub mod Expressions
-pub mod Names
 pub mod Statements
 pub mod Structures
 pub mod Declarations

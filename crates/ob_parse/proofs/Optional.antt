@@ -4,10 +4,10 @@ use Rattle.ob_scan.specs.declared.token.Span.{Span}
 use Rattle.ob_scan.specs.declared.token.Symbol.{Symbol}
 use Rattle.ob_scan.specs.declared.token.Token.{Token}
 use Rattle.ob_tree.specs.Phrase.{Phrase, ◌⨾◌, symbol_at, symbol, maybe, separated, listed, optional}
-use Rattle.ob_parse.specs.Reading as reading
-use Rattle.ob_parse.specs.Reading.{Reader, eat, closed_by}
-use Rattle.ob_parse.proofs.Exact.{Exact, Anything, OrAbsent, IsAbsent, Seq, Is, Either, exact_seq, exact_pure, exact_as, exact_either}
-use Rattle.ob_parse.proofs.OneToken.{exact_eat, exact_expect}
+use Rattle.ob_parse_expression.specs.Reading as reading
+use Rattle.ob_parse_expression.specs.Reading.{Reader, eat, closed_by}
+use Rattle.ob_parse_expression.proofs.Exact.{Exact, Anything, OrAbsent, IsAbsent, Seq, Is, Either, exact_seq, exact_pure, exact_as, exact_either}
+use Rattle.ob_parse_expression.proofs.OneToken.{exact_eat, exact_expect}
 
 module _ {A : Type 0} (word : Symbol) (P : List A → Phrase) (R : Reader (List A)) (Outside : List Token → Type 0) (exact : Exact P R (λ xs. Outside))
     (absent : (tokens : List Token) → Outside tokens → IsAbsent (eat word) tokens) where

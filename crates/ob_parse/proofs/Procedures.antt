@@ -10,14 +10,14 @@ use Rattle.ob_tree.specs.Phrase.{Phrase, ◌⨾◌, symbol_at, symbol, each, may
 use Rattle.ob_tree.specs.Name.{ident_def}
 use Rattle.ob_tree.specs.Statement.{statements}
 use Rattle.ob_tree.specs.Declaration as p
-use Rattle.ob_parse.specs.Reading.{Reader, eat}
+use Rattle.ob_parse_expression.specs.Reading.{Reader, eat}
 use Rattle.ob_parse.specs.DeclarationReading as r
-use Rattle.ob_parse.proofs.Exact.{Exact, Anything, OrAbsent, IsAbsent, Repeats, exact_seq, exact_pure, exact_as, exact_maybe_as, exact_many, each_follows, exact_made, exact_where_some, absent_where, before_made, exact_refuse}
-use Rattle.ob_parse.proofs.OneToken.{exact_expect, exact_eat, exact_opens, closes_by}
+use Rattle.ob_parse_expression.proofs.Exact.{Exact, Anything, OrAbsent, IsAbsent, Repeats, exact_seq, exact_pure, exact_as, exact_maybe_as, exact_many, each_follows, exact_made, exact_where_some, absent_where, before_made, exact_refuse}
+use Rattle.ob_parse_expression.proofs.OneToken.{exact_expect, exact_eat, exact_opens, closes_by}
 use Rattle.ob_parse.proofs.Optional.{optional_begins}
 use Rattle.ob_parse.proofs.Sections.{Later, later_at, later_by, absent_later}
-use Rattle.ob_parse.proofs.Expressions.{pred_of, some_levels}
-use Rattle.ob_parse.proofs.Names.{exact_ident_def}
+use Rattle.ob_parse_expression.proofs.Expressions.{pred_of, some_levels}
+use Rattle.ob_parse_expression.proofs.Names.{exact_ident_def}
 use Rattle.ob_parse.proofs.Declarations.{exact_formals, formals_follow, heading_follows, exact_constants, exact_types, exact_vars, exact_body, exact_returned, returned_follows, body_follows, exact_name}
 
 abbrev DeclarationsLayer : Type 0

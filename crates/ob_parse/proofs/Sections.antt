@@ -7,9 +7,9 @@ use Rattle.ob_scan.specs.declared.token.Symbol.{Symbol}
 use Rattle.ob_scan.specs.declared.token.Symbol.TheVariants as s
 use Rattle.ob_scan.specs.declared.token.Token.{Token}
 use Rattle.ob_tree.specs.Phrase.{symbol_at}
-use Rattle.ob_parse.specs.Reading.{eat, is_symbol, is_ident, at_ident}
-use Rattle.ob_parse.proofs.Exact.{IsAbsent, answer}
-use Rattle.ob_parse.proofs.OneToken.{is_symbol_is, Closes, closing}
+use Rattle.ob_parse_expression.specs.Reading.{eat, is_symbol, is_ident, at_ident}
+use Rattle.ob_parse_expression.proofs.Exact.{IsAbsent, answer}
+use Rattle.ob_parse_expression.proofs.OneToken.{is_symbol_is, Closes, closing}
 
 abbrev pub section_of : Symbol → ℕ
 section_of s.Import = 1

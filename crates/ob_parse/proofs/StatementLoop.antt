@@ -7,7 +7,7 @@ use Rattle.ob_base.specs.declared.fault.Refused.TheVariants as refused
 use Rattle.ob_scan.specs.declared.token.Symbol.TheVariants as s
 use Rattle.ob_scan.specs.declared.token.Token.{Token}
 use Rattle.ob_tree.specs.declared.tree.Statement.{Statement}
-use Rattle.ob_parse.specs.Reading.{Reads, Outcome, opens, separated}
+use Rattle.ob_parse_expression.specs.Reading.{Reads, Outcome, opens, separated}
 use Rattle.ob_parse.specs.StatementReading.{statement, statements}
 
 abbrev fault : {A : Type 0} → Code → Outcome A

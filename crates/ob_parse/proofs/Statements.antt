@@ -21,17 +21,17 @@ use Rattle.ob_tree.specs.Name.{label_range}
 use Rattle.ob_tree.specs.Expression as ex
 use Rattle.ob_tree.specs.Statement as p
 use Rattle.ob_tree.specs.Statement.{StatementLayer}
-use Rattle.ob_parse.specs.Reading as reading
-use Rattle.ob_parse.specs.Reading.{Outcome, Reader, eat}
+use Rattle.ob_parse_expression.specs.Reading as reading
+use Rattle.ob_parse_expression.specs.Reading.{Outcome, Reader, eat}
 use Rattle.ob_parse.specs.StatementReading as r
-use Rattle.ob_parse.specs.ExpressionReading as exr
+use Rattle.ob_parse_expression.specs.ExpressionReading as exr
 use Rattle.ob_parse.specs.StatementReading.{at_case_end, ends_case}
-use Rattle.ob_parse.proofs.Exact.{Exact, exact_where, Anything, OrAbsent, IsAbsent, Repeats, answer, same_answer, Seq, Made, Either, exact_seq, exact_as, exact_maybe_as, exact_many, each_follows, exact_made, exact_pure, exact_either, exact_where_some, absent_where, before_made, before_pure, exact_refuse}
-use Rattle.ob_parse.proofs.OneToken.{exact_expect, exact_eat, exact_ident, Starts, start_of, Ends, ends_by, other_symbol, Closes, closes_at, closes_by, closes_ends, closing, binding_of, absent_closing}
-use Rattle.ob_parse.proofs.Separated.{exact_separated}
+use Rattle.ob_parse_expression.proofs.Exact.{Exact, exact_where, Anything, OrAbsent, IsAbsent, Repeats, answer, same_answer, Seq, Made, Either, exact_seq, exact_as, exact_maybe_as, exact_many, each_follows, exact_made, exact_pure, exact_either, exact_where_some, absent_where, before_made, before_pure, exact_refuse}
+use Rattle.ob_parse_expression.proofs.OneToken.{exact_expect, exact_eat, exact_ident, Starts, start_of, Ends, ends_by, other_symbol, Closes, closes_at, closes_by, closes_ends, closing, binding_of, absent_closing}
+use Rattle.ob_parse_expression.proofs.Separated.{exact_separated}
 use Rattle.ob_parse.proofs.Optional.{exact_optional, optional_begins}
-use Rattle.ob_parse.proofs.Names.{exact_label_ranges, ranges_at_colon, ranges_start}
-use Rattle.ob_parse.proofs.Expressions.{exact_expression, exact_designator_in, exact_actuals_in, behind_paren}
+use Rattle.ob_parse_expression.proofs.Names.{exact_label_ranges, ranges_at_colon, ranges_start}
+use Rattle.ob_parse_expression.proofs.Expressions.{exact_expression, exact_designator_in, exact_actuals_in, behind_paren}
 
 abbrev BranchLayer : Type 0
 BranchLayer = Branch-F Statement Branch Case

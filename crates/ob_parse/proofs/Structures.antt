@@ -15,16 +15,16 @@ use Rattle.ob_tree.specs.Name.{ident_list, qualident}
 use Rattle.ob_tree.specs.Expression as ex
 use Rattle.ob_tree.specs.Structure as p
 use Rattle.ob_tree.specs.Structure.{TypeLayer}
-use Rattle.ob_parse.specs.Reading as reading
-use Rattle.ob_parse.specs.Reading.{Reader, eat, at_ident}
+use Rattle.ob_parse_expression.specs.Reading as reading
+use Rattle.ob_parse_expression.specs.Reading.{Reader, eat, at_ident}
 use Rattle.ob_parse.specs.StructureReading as r
-use Rattle.ob_parse.proofs.Exact.{Exact, Anything, IsAbsent, answer, Seq, Made, exact_seq, exact_as, exact_made, before_made, exact_refuse}
-use Rattle.ob_parse.proofs.OneToken.{exact_expect, exact_opens, Opens, Ends, ends_by, absent_start, Closes, closes_at, closes_by, closes_ends, absent_closing}
+use Rattle.ob_parse_expression.proofs.Exact.{Exact, Anything, IsAbsent, answer, Seq, Made, exact_seq, exact_as, exact_made, before_made, exact_refuse}
+use Rattle.ob_parse_expression.proofs.OneToken.{exact_expect, exact_opens, Opens, Ends, ends_by, absent_start, Closes, closes_at, closes_by, closes_ends, absent_closing}
 use Rattle.ob_tree.proofs.Tokens.{made}
-use Rattle.ob_parse.proofs.Separated.{exact_separated}
+use Rattle.ob_parse_expression.proofs.Separated.{exact_separated}
 use Rattle.ob_parse.proofs.Optional.{closed_list, exact_closed}
-use Rattle.ob_parse.proofs.Expressions.{exact_exprs_in, pred_of, some_levels}
-use Rattle.ob_parse.proofs.Names.{exact_ident_list, ident_list_at, ident_list_starts, exact_qualident}
+use Rattle.ob_parse_expression.proofs.Expressions.{exact_exprs_in, pred_of, some_levels}
+use Rattle.ob_parse_expression.proofs.Names.{exact_ident_list, ident_list_at, ident_list_starts, exact_qualident}
 
 abbrev NamesLayer : Type 0
 NamesLayer = TypedNames-F TypeExpr TypedNames

@@ -5,7 +5,7 @@ use Rattle.ob_scan.specs.TokensOf.{tokens_of}
 use Rattle.ob_scan.proofs.TokenReading.{tokens_of-sound, tokens_of-complete}
 use Rattle.ob_tree.specs.declared.tree.Cell.{Cell}
 use Rattle.ob_parse.specs.Grammar.{Derives}
-use Rattle.ob_parse.specs.Reading.{Outcome}
+use Rattle.ob_parse_expression.specs.Reading.{Outcome}
 use Rattle.ob_parse.specs.GrammarReading.{whole}
 use Rattle.ob_parse.specs.CellText.{IsCellOf}
 use Rattle.ob_parse.specs.TreeOf.{tree_of, tree_read, tree_where, cell_of}

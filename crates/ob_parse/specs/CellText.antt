@@ -9,7 +9,7 @@ use Rattle.ob_scan.specs.Exactly.{IsScanCode}
 use Rattle.ob_scan.specs.Tokens.{Tokens}
 use Rattle.ob_tree.specs.declared.tree.Cell.{Cell}
 use Rattle.ob_parse.specs.Grammar.{Derives}
-use Rattle.ob_parse.specs.Reading.{IsParseCode}
+use Rattle.ob_parse_expression.specs.Reading.{IsParseCode}
 
 -- the tree of a text is that of its tokens
 abbrev pub IsCellOf : List ℕ → Cell → Type 0

@@ -17,9 +17,9 @@ use Rattle.ob_tree.specs.declared.tree.TypedNames.{TypedNames}
 use Rattle.ob_tree.specs.declared.tree.Declarations.{Declarations, roll-Declarations}
 use Rattle.ob_tree.specs.declared.tree.Procedure.{Procedure, roll-Procedure}
 use Rattle.ob_tree.specs.declared.tree.Returned.{Returned}
-use Rattle.ob_parse.specs.Reading.{Outcome, Reader, ◌>>=◌, ◌>>◌, pure, refuse, eat, expect, ident, opens, many, where_some, not_there, separated, optional, closed_by, if_ident}
-use Rattle.ob_parse.specs.NameReading.{ident_def, qualident}
-use Rattle.ob_parse.specs.ExpressionReading as expression
+use Rattle.ob_parse_expression.specs.Reading.{Outcome, Reader, ◌>>=◌, ◌>>◌, pure, refuse, eat, expect, ident, opens, many, where_some, not_there, separated, optional, closed_by, if_ident}
+use Rattle.ob_parse_expression.specs.NameReading.{ident_def, qualident}
+use Rattle.ob_parse_expression.specs.ExpressionReading as expression
 use Rattle.ob_parse.specs.StructureReading.{type_expr, typed_names}
 use Rattle.ob_parse.specs.StatementReading.{statements}
 

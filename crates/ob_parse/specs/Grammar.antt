@@ -15,7 +15,7 @@ use Rattle.ob_tree.specs.declared.tree.Cell.TheVariants as cells
 use Rattle.ob_tree.specs.Phrase.{Phrase, ◌⨾◌, symbol_at, symbol, ident, each, maybe, separated, optional}
 use Rattle.ob_tree.specs.Statement.{statements}
 use Rattle.ob_tree.specs.Declaration.{declarations, name_again}
-use Rattle.ob_parse.specs.Reading.{IsParseCode}
+use Rattle.ob_parse_expression.specs.Reading.{IsParseCode}
 
 -- how many constructs nest
 abbrev pub max_nesting : ℕ

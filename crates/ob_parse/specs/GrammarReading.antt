@@ -11,7 +11,7 @@ use Rattle.ob_tree.specs.declared.tree.Module.{Module}
 use Rattle.ob_tree.specs.declared.tree.Command.{Command}
 use Rattle.ob_tree.specs.declared.tree.Cell.{Cell}
 use Rattle.ob_tree.specs.declared.tree.Cell.TheVariants as cells
-use Rattle.ob_parse.specs.Reading.{Reader, ◌>>=◌, ◌>>◌, pure, eat, expect, ident, many, where_some, not_there, separated, optional, if_ident}
+use Rattle.ob_parse_expression.specs.Reading.{Reader, ◌>>=◌, ◌>>◌, pure, eat, expect, ident, many, where_some, not_there, separated, optional, if_ident}
 use Rattle.ob_parse.specs.StatementReading.{statements}
 use Rattle.ob_parse.specs.DeclarationReading.{declarations, name_again}
 use Rattle.ob_parse.specs.Grammar.{max_nesting}

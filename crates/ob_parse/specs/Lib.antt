@@ -1,7 +1,4 @@
 pub mod Grammar
-pub mod Reading
-pub mod NameReading
-pub mod ExpressionReading
 pub mod StatementReading
 pub mod StructureReading
 pub mod DeclarationReading

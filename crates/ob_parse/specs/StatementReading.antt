@@ -14,9 +14,9 @@ use Rattle.ob_tree.specs.declared.tree.Branch.{Branch, roll-Branch}
 use Rattle.ob_tree.specs.declared.tree.Case.{Case, roll-Case}
 use Rattle.ob_tree.specs.declared.tree.ForHead.{ForHead}
 use Rattle.ob_tree.specs.declared.tree.Statement.TheOpen.{Statement-F}
-use Rattle.ob_parse.specs.Reading.{Reader, ◌>>=◌, ◌>>◌, pure, refuse, eat, expect, ident, many, where_some, not_there, separated, optional}
-use Rattle.ob_parse.specs.NameReading.{label_range}
-use Rattle.ob_parse.specs.ExpressionReading as expression
+use Rattle.ob_parse_expression.specs.Reading.{Reader, ◌>>=◌, ◌>>◌, pure, refuse, eat, expect, ident, many, where_some, not_there, separated, optional}
+use Rattle.ob_parse_expression.specs.NameReading.{label_range}
+use Rattle.ob_parse_expression.specs.ExpressionReading as expression
 
 abbrev pub designator : ℕ → Reader Designator
 designator levels = expression.designator levels (expression.inner levels)

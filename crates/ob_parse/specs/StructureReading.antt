@@ -9,9 +9,9 @@ use Rattle.ob_scan.specs.declared.token.Token.{Token}
 use Rattle.ob_tree.specs.declared.tree.TypeExpr.{TypeExpr, roll-TypeExpr}
 use Rattle.ob_tree.specs.declared.tree.TypedNames.{TypedNames, roll-TypedNames}
 use Rattle.ob_tree.specs.declared.tree.TypeExpr.TheOpen.{TypeExpr-F}
-use Rattle.ob_parse.specs.Reading.{Reader, ◌>>=◌, ◌>>◌, pure, refuse, expect, opens, separated, closed_by}
-use Rattle.ob_parse.specs.NameReading.{ident_def, qualident}
-use Rattle.ob_parse.specs.ExpressionReading as expression
+use Rattle.ob_parse_expression.specs.Reading.{Reader, ◌>>=◌, ◌>>◌, pure, refuse, expect, opens, separated, closed_by}
+use Rattle.ob_parse_expression.specs.NameReading.{ident_def, qualident}
+use Rattle.ob_parse_expression.specs.ExpressionReading as expression
 
 unfoldable pub names_of : Reader TypeExpr → Reader TypedNames
 names_of type = do

@@ -3,7 +3,7 @@ use Rattle.std.specs.Prelude.{ℕ, List, Option, Some, None, Ok, Err}
 use Rattle.ob_scan.specs.declared.token.Token.{Token}
 use Rattle.ob_scan.specs.TokensOf.{tokens_of}
 use Rattle.ob_tree.specs.declared.tree.Cell.{Cell}
-use Rattle.ob_parse.specs.Reading.{Outcome}
+use Rattle.ob_parse_expression.specs.Reading.{Outcome}
 use Rattle.ob_parse.specs.GrammarReading.{whole}
 
 abbrev pub tree_read : Outcome Cell → Option Cell

@@ -3,108 +3,107 @@
 ghost use Rattle.std.specs.Prelude.{◌≡◌, ◌≤◌, ◌<◌, length, IfOk, OnSome, Ok, Result};
 ghost use Rattle.ob_parse.specs.GrammarReading as spec;
 ghost use Rattle.ob_parse.specs.Grammar.{Derives, AnswersTree, FaultsOnly};
-ghost use Rattle.ob_parse.specs.Reading.{Reads, many, if_ident};
+ghost use Rattle.ob_parse_expression.specs.Reading.{Reads, many, if_ident};
 
-use crate::parser::Parser;
+use crate::module::module;
 use ob_base::{Code, Items, Refused};
+use ob_parse_expression::Parser;
 use ob_scan::{Kind, Span, Symbol, Token};
 use ob_tree::tree::{Cell, Command};
 use std::alloc::Global;
 
-impl Parser<'_> {
-    /// Passes the semicolons that come next.
-    fn semicolons(&mut self)
-        ensures read { self.new.rest.now ≡ spec.behind_semicolons self.old.rest.now }
-        ensures shorter { length self.new.rest.now ≤ length self.old.rest.now }
+/// Passes the semicolons that come next.
+fn semicolons(parser: &mut Parser<'_>)
+    ensures read { parser.new.rest.now ≡ spec.behind_semicolons parser.old.rest.now }
+    ensures shorter { length parser.new.rest.now ≤ length parser.old.rest.now }
+{
+    while let [
+        Token {
+            kind: Kind::Symbol(Symbol::Semicolon),
+            ..
+        },
+        rest @ ..,
+    ] = parser.rest
     {
-        while let [
-            Token {
-                kind: Kind::Symbol(Symbol::Semicolon),
-                ..
-            },
-            rest @ ..,
-        ] = self.rest
-        {
-            self.rest = rest;
-        }
+        parser.rest = rest;
     }
+}
 
-    /// A command, and the semicolons behind it.
-    #[tactic(auto, unfolding(crate::specs::GrammarReading::command))]
-    fn command(&mut self) -> Result<Command, Refused>
-        ensures read { Reads (spec.command self.old.rest.now) result self.new.rest.now }
-        ensures taken { IfOk result (λ _. length self.new.rest.now < length self.old.rest.now) }
-        ensures shorter { length self.new.rest.now ≤ length self.old.rest.now }
-    {
-        let module_name = self.ident()?;
-        self.expect(Symbol::Period)?;
-        let procedure = self.ident()?;
-        self.semicolons();
-        Ok(Command {
-            module_name,
-            procedure,
-        })
-    }
+/// A command, and the semicolons behind it.
+#[tactic(auto, unfolding(crate::specs::GrammarReading::command))]
+fn command(parser: &mut Parser<'_>) -> Result<Command, Refused>
+    ensures read { Reads (spec.command parser.old.rest.now) result parser.new.rest.now }
+    ensures taken { IfOk result (λ _. length parser.new.rest.now < length parser.old.rest.now) }
+    ensures shorter { length parser.new.rest.now ≤ length parser.old.rest.now }
+{
+    let module_name = parser.ident()?;
+    parser.expect(Symbol::Period)?;
+    let procedure = parser.ident()?;
+    semicolons(parser);
+    Ok(Command {
+        module_name,
+        procedure,
+    })
+}
 
-    #[tactic(auto, unfolding(crate::specs::Reading::if_ident))]
-    fn next_command(&mut self) -> Result<Option<Command>, Refused>
-        ensures read { Reads (if_ident spec.command self.old.rest.now) result self.new.rest.now }
-        ensures shorter { length self.new.rest.now ≤ length self.old.rest.now }
-        ensures taken { IfOk result (λ found. OnSome found (length self.new.rest.now < length self.old.rest.now)) }
-    {
-        if !self.at_ident() {
-            return Ok(None);
-        }
-        Ok(Some(self.command()?))
+#[tactic(auto, unfolding(ob_parse_expression::specs::Reading::if_ident))]
+fn next_command(parser: &mut Parser<'_>) -> Result<Option<Command>, Refused>
+    ensures read { Reads (if_ident spec.command parser.old.rest.now) result parser.new.rest.now }
+    ensures shorter { length parser.new.rest.now ≤ length parser.old.rest.now }
+    ensures taken { IfOk result (λ found. OnSome found (length parser.new.rest.now < length parser.old.rest.now)) }
+{
+    if !parser.at_ident() {
+        return Ok(None);
     }
+    Ok(Some(command(parser)?))
+}
 
-    fn command_items(&mut self) -> Result<Items<Command>, Refused>
-        ensures read { Reads (many (if_ident spec.command) self.old.rest.now) result self.new.rest.now }
-        ensures shorter { length self.new.rest.now ≤ length self.old.rest.now }
-    {
-        let mut items = Items::new(self.alloc);
-        while let Some(next) = self.next_command()? {
-            items.push(next)?;
-        }
-        Ok(items)
+fn command_items(parser: &mut Parser<'_>) -> Result<Items<Command>, Refused>
+    ensures read { Reads (many (if_ident spec.command) parser.old.rest.now) result parser.new.rest.now }
+    ensures shorter { length parser.new.rest.now ≤ length parser.old.rest.now }
+{
+    let mut items = Items::new(parser.alloc);
+    while let Some(next) = next_command(parser)? {
+        items.push(next)?;
     }
+    Ok(items)
+}
 
-    #[tactic(auto, unfolding(crate::specs::GrammarReading::commands))]
-    fn commands(&mut self) -> Result<Items<Command>, Refused>
-        ensures read { Reads (spec.commands self.old.rest.now) result self.new.rest.now }
-    {
-        self.semicolons();
-        self.command_items()
-    }
+#[tactic(auto, unfolding(crate::specs::GrammarReading::commands))]
+fn commands(parser: &mut Parser<'_>) -> Result<Items<Command>, Refused>
+    ensures read { Reads (spec.commands parser.old.rest.now) result parser.new.rest.now }
+{
+    semicolons(parser);
+    command_items(parser)
+}
 
-    #[tactic(auto, unfolding(crate::specs::GrammarReading::cell))]
-    fn cell(&mut self) -> Result<Cell, Refused>
-        ensures read { Reads (spec.cell self.old.rest.now) result self.new.rest.now }
-    {
-        if self.eat(Symbol::Module).is_none() {
-            return Ok(Cell::Commands(self.commands()?));
-        }
-        Ok(Cell::Module(self.module()?))
+#[tactic(auto, unfolding(crate::specs::GrammarReading::cell))]
+fn cell(parser: &mut Parser<'_>) -> Result<Cell, Refused>
+    ensures read { Reads (spec.cell parser.old.rest.now) result parser.new.rest.now }
+{
+    if parser.eat(Symbol::Module).is_none() {
+        return Ok(Cell::Commands(commands(parser)?));
     }
+    Ok(Cell::Module(module(parser)?))
+}
 
-    #[tactic(auto, unfolding(crate::specs::GrammarReading::ended))]
-    fn ended(&self) -> Result<(), Refused>
-        ensures read { Reads (spec.ended self.now.rest.now) result self.now.rest.now }
-    {
-        match self.rest {
-            [] => Ok(()),
-            [_, ..] => Err(self.fault(Code::Token)),
-        }
+#[tactic(auto, unfolding(crate::specs::GrammarReading::ended))]
+fn ended(parser: &Parser<'_>) -> Result<(), Refused>
+    ensures read { Reads (spec.ended parser.now.rest.now) result parser.now.rest.now }
+{
+    match parser.rest {
+        [] => Ok(()),
+        [_, ..] => Err(parser.fault(Code::Token)),
     }
+}
 
-    #[tactic(auto, unfolding(crate::specs::GrammarReading::whole))]
-    fn whole(&mut self) -> Result<Cell, Refused>
-        ensures read { Reads (spec.whole self.old.rest.now) result self.new.rest.now }
-    {
-        let cell = self.cell()?;
-        self.ended()?;
-        Ok(cell)
-    }
+#[tactic(auto, unfolding(crate::specs::GrammarReading::whole))]
+fn whole(parser: &mut Parser<'_>) -> Result<Cell, Refused>
+    ensures read { Reads (spec.whole parser.old.rest.now) result parser.new.rest.now }
+{
+    let cell = cell(parser)?;
+    ended(parser)?;
+    Ok(cell)
 }
 
 /// The tree of a cell's tokens, by the grammar of Oberon-07 (Wirth, The Programming Language Oberon): a module, or
@@ -123,7 +122,7 @@ pub fn parse(alloc: Global, tokens: &[Token]) -> Result<Cell, Refused>
         rest: tokens,
         end: end_of(tokens),
     };
-    parser.whole()
+    whole(&mut parser)
 }
 
 /// The place just behind the last token.

@@ -3,13 +3,9 @@
 
 mod cell;
 mod declaration;
-mod expression;
 mod formal;
 mod laws;
 mod module;
-mod name;
-mod operator;
-mod parser;
 mod procedure;
 mod statement;
 mod structure;
