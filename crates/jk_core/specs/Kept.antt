@@ -201,7 +201,7 @@ has_asked (Given place) = false
 abbrev pub is_asking : {M : Type 0} → Active M → Log → Bool
 is_asking active log = has_asked active.wants && not (left active.seat active.at log)
 
--- what waits is answered and the first cell starts, or nothing changes for want of memory
+-- what waits is answered and the first cell starts, or nothing changes for lack of memory
 abbrev pub StartsOr : {S T : Type 0} → Spoken S T → ℕ → KernelState T → Work → KernelState T → Type 0
 StartsOr spoken turns old work new = ((work ≡ NoMemory) × (new ≡ old)) ⊎ AnswersFirst spoken turns old work new
 

@@ -171,7 +171,7 @@ pub record Ends {S T : Type 0} (spoken : Spoken S T) (past : Log) (r : Running) 
 abbrev pub IsStopped : Outcome → Type 0
 IsStopped o = OutcomeIs turned.Stopped o
 
--- A cell is stopped where its meaning is. For want of memory that is before a turn that may want it: there alone the
+-- A cell is stopped where its meaning is. For lack of memory that is before a turn that may want it: there alone the
 -- machine answers NoMemory. An interrupt or a shutdown stops it also where it needs a line.
 abbrev pub StopsFor : Cause → Outcome → Type 0
 StopsFor Memory o = OutcomeIs turned.NoMemory o

@@ -7,3 +7,4 @@ pub mod Failures
 pub mod Render
 pub mod Pending
 pub mod Leaving
+pub mod View

@@ -74,7 +74,7 @@ admitted s (step.Message seat m) = Ok (step.Message seat m)
 admitted s (step.Run turns) = Ok (step.Run turns)
 admitted s (step.Leave seat) = if is_seated seat s then Ok (step.Leave seat) else Err WrongKind
 
--- the next job, if there is one, is given, read and handed in: its tree, a fault that its text has, or want of memory
+-- the next job, if there is one, is given, read and handed in: its tree, a fault that its text has, or lack of memory
 abbrev pub ParsesOne : {S T : Type 0} → Spoken S T → KernelState T → KernelState T → Type 0
 ParsesOne {T = T} spoken old new =
     GivesJob old None new

@@ -47,7 +47,7 @@ fn tell<E: Write>(ended: Result<End, ReplayFault>, errors: &mut E) -> io::Result
 }
 
 /// Tells how a replay ended, and answers the program's status: 0 where the kernel rests, 1 where a line was refused, 2
-/// for want of memory, 3 where work is left, 4 where a device failed. It is 4 too where telling fails.
+/// for lack of memory, 3 where work is left, 4 where a device failed. It is 4 too where telling fails.
 pub fn ended_status<E: Write>(ended: Result<End, ReplayFault>, errors: &mut E) -> u8
     ensures { spec.Tells (E.contents errors.old) (E.contents errors.new) (spec.told_of ended) (spec.status_of ended) result }
 {

@@ -5,6 +5,5 @@ pub mod Sessions
 pub mod Counts
 pub mod Input
 pub mod Requests
-pub mod View
 pub mod Parents
 pub mod Answers

@@ -16,7 +16,7 @@ ghost use Rattle.jk_world.specs.Counts.{TellCounts};
 ghost use Rattle.jk_world.specs.Requests.{IsShownRight};
 ghost use Rattle.jk_world.specs.Parents.{ParentsFit};
 ghost use Rattle.jk_world.specs.Answers.{AreShownOnce};
-ghost use Rattle.jk_world.specs.View.{view, part, has_joined};
+ghost use Rattle.jk_log.specs.View.{view, part, has_joined};
 
 use jk_language::Language;
 

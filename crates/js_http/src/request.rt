@@ -86,7 +86,7 @@ pub fn read_request<R: Read>(alloc: Global, reader: &mut R) -> Result<Request, H
     take_request(alloc, reader)
 }
 
-/// A law: bytes begin with one request at most; what begins with a request is refused for nothing but want of memory;
+/// A law: bytes begin with one request at most; what begins with a request is refused for nothing but lack of memory;
 /// and what begins with a head that is refused for what it says of its body is refused for that.
 pub fn one_request_law()
     ensures request { (input : List ℕ) (r q : Request) → IsRequest input r → IsRequest input q → r ≡ q }

@@ -5,7 +5,8 @@ use Rattle.std.specs.declared.alloc.AllocError.{AllocError}
 use Rattle.std.specs.declared.alloc.Global.{Global}
 use Rattle.std.specs.declared.vec.Vec.{Vec}
 use Rattle.jk_log.specs.declared.entry.Entry.{Entry}
-use Rattle.js_ws.specs.Views.{is_join, has_joined, after_join, goes_to, for_seat, view, part, one}
+use Rattle.jk_log.specs.View.{is_join, has_joined, after_join, goes_to, for_seat, view, part}
+use Rattle.js_ws.specs.Views.{one}
 use Rattle.js_ws.specs.Reads.{items_read}
 use Rattle.js_ws.specs.Shutdowns.{is_last, has_last}
 use Rattle.js_ws.specs.Statuses.{busy_with, busy_after}

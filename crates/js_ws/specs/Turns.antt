@@ -17,7 +17,7 @@ use Rattle.js_ws.specs.Arrivals.{sent_or_held, arrivals_of, is_due, leave_of}
 use Rattle.js_ws.specs.Frames.{SentAll, Tells, EndsIn, frames_of}
 use Rattle.js_ws.specs.Hearing.{Hears, is_fault, is_quiet}
 use Rattle.js_ws.specs.Shutdowns.{has_last}
-use Rattle.js_ws.specs.Views.{part, has_joined}
+use Rattle.jk_log.specs.View.{part, has_joined}
 use Rattle.js_ws.specs.declared.channel.Channel.{Channel}
 use Rattle.js_ws.specs.declared.channel.Turn.{Turn}
 use Rattle.js_ws.specs.declared.channel.Turn.TheVariants.{Open, Quiet, Closed}

@@ -38,7 +38,8 @@ struct Place {
 }
 
 impl Place {
-    ghost use Rattle.js_ws.specs.Views.{is_join, one, part, has_joined};
+    ghost use Rattle.jk_log.specs.View.{is_join, part, has_joined};
+    ghost use Rattle.js_ws.specs.Views.{one};
     ghost use Rattle.js_ws.specs.Shutdowns.{is_last, has_last};
     ghost use Rattle.js_ws.specs.Statuses.{busy_with, busy_after};
 
@@ -79,7 +80,7 @@ impl Place {
 }
 
 impl<L: Language> Feed<L> {
-    ghost use Rattle.js_ws.specs.Views.{part, has_joined};
+    ghost use Rattle.jk_log.specs.View.{part, has_joined};
     ghost use Rattle.js_ws.specs.Shutdowns.{has_last};
     ghost use Rattle.js_ws.specs.Statuses.{busy_after};
     ghost use Rattle.jk_log.specs.declared.entry.Entry.{Entry};

@@ -1,6 +1,6 @@
 //! Which entries a connection is sent.
 ghost use Rattle.std.specs.Prelude.{◌≡◌};
-ghost use Rattle.js_ws.specs.Views as spec;
+ghost use Rattle.jk_log.specs.View as spec;
 ghost use Rattle.js_ws.specs.Shutdowns as last;
 ghost use Rattle.js_ws.specs.Statuses as status;
 

@@ -44,7 +44,7 @@ age_of d = age_by (number_at (codes "nbformat") d) (number_at minor_key d)
 
 -- ---- the ids
 
--- why ids are not distinct, or want of memory
+-- why ids are not distinct, or lack of memory
 abbrev pub IsRepeated : NbBad → Bool → Type 0
 IsRepeated (bad.Fault f) distinct = (f ≡ RepeatedId) × (distinct ≡ false)
 IsRepeated bad.Memory distinct = Unit {0}

@@ -26,7 +26,7 @@ pub enum NbFault {
     RepeatedId,
 }
 
-/// A fault, or want of memory.
+/// A fault, or lack of memory.
 #[derive(Clone, Copy, Debug, PartialEq, Eq)]
 pub enum NbBad {
     Fault(NbFault),

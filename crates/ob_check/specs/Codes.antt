@@ -1,4 +1,4 @@
--- What a checker answers, by the rules: a tree, or a refusal with a code of the static rules, 10 to 21, or for want of memory.
+-- What a checker answers, by the rules: a tree, or a refusal with a code of the static rules, 10 to 21, or for lack of memory.
 use Rattle.std.specs.Prelude.{◌≡◌, Bool, true, false, Result, Ok, Err}
 use Rattle.ob_base.specs.declared.fault.Code.{Code}
 use Rattle.ob_base.specs.declared.fault.Code.TheVariants as code
@@ -42,7 +42,7 @@ is_rule_code code.Nesting = false
 is_rule_code code.EndName = false
 is_rule_code c = true
 
--- a refusal for want of memory, or with such a code
+-- a refusal for lack of memory, or with such a code
 abbrev pub HasRuleCode : Refused → Type 0
 HasRuleCode refused.Memory = Unit {0}
 HasRuleCode (refused.Fault fault) = is_rule_code fault.code ≡ true

@@ -83,7 +83,7 @@ impl Made {
         Ok(None)
     }
 
-    /// Keeps a type with its shape, which is the answer, and forgets the first one where there are too many. Or want of memory.
+    /// Keeps a type with its shape, which is the answer, and forgets the first one where there are too many. Or lack of memory.
     pub(crate) fn keep(&mut self, of: &ObType, shape: Shape) -> Result<Shape, AllocError>
         requires { shape ≡ spec.shape_of of.now }
         ensures { IfOk result (λ s. s ≡ spec.shape_of of.now) }

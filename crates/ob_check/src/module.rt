@@ -147,7 +147,7 @@ fn all_imported(
     Ok(so_far)
 }
 
-/// A checked module as its parts make it, or want of memory.
+/// A checked module as its parts make it, or lack of memory.
 fn checked_of(
     alloc: Global,
     imports: &Imports,

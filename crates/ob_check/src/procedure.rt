@@ -133,7 +133,7 @@ fn returned(
     }
 }
 
-/// A procedure as its parts make it, or want of memory.
+/// A procedure as its parts make it, or lack of memory.
 fn typed_procedure(
     alloc: Global,
     signature: &Signature,

@@ -9,7 +9,7 @@ use ob_mean::{Parameter, Shape};
 use ob_types::{Field, Formal, FormalKind, ObType};
 use std::alloc::{AllocError, Global};
 
-/// How a type is made of basic ones, or want of memory. It shares what it can with the shapes that were made.
+/// How a type is made of basic ones, or lack of memory. It shares what it can with the shapes that were made.
 #[cycle(shapes)]
 #[tactic(auto, using(crate::proofs::ShapeForms::shape_array, crate::proofs::ShapeForms::shape_open, crate::proofs::ShapeForms::shape_record))]
 pub fn shape_of(alloc: Global, made: &mut Made, of: &ObType) -> Result<Shape, AllocError>
@@ -71,7 +71,7 @@ fn parameter_of(
     }
 }
 
-/// What formal parameters are to their procedure, or want of memory. They share what they can with the shapes that were made.
+/// What formal parameters are to their procedure, or lack of memory. They share what they can with the shapes that were made.
 pub fn parameters_of(
     alloc: Global,
     made: &mut Made,

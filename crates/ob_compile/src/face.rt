@@ -53,7 +53,7 @@ fn procedure_headings(
 }
 
 /// What an importing module knows of a module with this interface: the shapes of its exported variables and the headings of its
-/// exported procedures, in order of declaration. Or want of memory.
+/// exported procedures, in order of declaration. Or lack of memory.
 pub fn face_of(alloc: Global, interface: &Interface) -> Result<Face, AllocError>
     ensures { IfOk result (λ face. face ≡ spec.face_of_interface interface.now) }
 {

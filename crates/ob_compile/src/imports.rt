@@ -40,7 +40,7 @@ fn with_face(
     }
 }
 
-/// What the interfaces of the loaded modules say of those that are imported, in the order of the imports. Or want of memory.
+/// What the interfaces of the loaded modules say of those that are imported, in the order of the imports. Or lack of memory.
 pub fn faces_of(
     alloc: Global,
     loaded: &Imports,

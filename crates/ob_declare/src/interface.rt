@@ -53,7 +53,7 @@ fn exports_of(alloc: Global, declared: &[Declared]) -> Result<Items<Exported>, A
     Ok(so_far)
 }
 
-/// The interface of a module of this name with these declarations: those with a mark, in their order. Or want of memory.
+/// The interface of a module of this name with these declarations: those with a mark, in their order. Or lack of memory.
 pub fn interface_of(alloc: Global, name: &Text, block: &Block) -> Result<Interface, AllocError>
     ensures { IfOk result (λ i. i ≡ spec.interface_of name.now block.now) }
 {
@@ -71,7 +71,7 @@ fn number(d: &Declared) -> Option<usize>
     }
 }
 
-/// The numbers of the exported procedures among these declarations, in their order. Or want of memory.
+/// The numbers of the exported procedures among these declarations, in their order. Or lack of memory.
 pub fn exported_procedures(alloc: Global, declared: &[Declared]) -> Result<Items<usize>, AllocError>
     ensures { IfOk result (λ ns. ns ≡ spec.exported_procedures declared.now) }
 {

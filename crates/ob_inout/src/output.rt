@@ -9,7 +9,7 @@ use std::alloc::AllocError;
 const WIDEST: i32 = 1024;
 
 /// Writes blanks up to `width` characters (at most 1,024) and then the number in decimal, as `Out.Int`.
-/// After want of memory the output is unchanged.
+/// Where memory runs out the output is unchanged.
 #[tactic(auto, unfolding(crate::specs::Writing::int_text))]
 pub fn put_int(output: &mut String, value: i32, width: i32) -> Result<(), AllocError>
     ensures ok { OnOk result (string_bytes output.new ≡ string_bytes output.old ++ spec.int_text value width) }
@@ -24,7 +24,7 @@ pub fn put_int(output: &mut String, value: i32, width: i32) -> Result<(), AllocE
 }
 
 /// Writes the character of that number (a CHAR, 0 to 255), as `Out.Char`: two bytes from 128 on.
-/// After want of memory the output is unchanged.
+/// Where memory runs out the output is unchanged.
 #[tactic(auto, unfolding(crate::specs::Writing::char_text))]
 pub fn put_char(output: &mut String, character: u8) -> Result<(), AllocError>
     ensures ok { OnOk result (string_bytes output.new ≡ string_bytes output.old ++ spec.char_text character) }
@@ -34,7 +34,7 @@ pub fn put_char(output: &mut String, character: u8) -> Result<(), AllocError>
 }
 
 /// Writes the characters (of CHAR) before the first 0X, or all of them where there is none, as `Out.String`.
-/// After want of memory the output is unchanged.
+/// Where memory runs out the output is unchanged.
 #[tactic(auto, unfolding(crate::specs::Writing::char_text))]
 pub fn put_string(output: &mut String, characters: &[u8]) -> Result<(), AllocError>
     ensures ok { OnOk result (string_bytes output.new ≡ string_bytes output.old ++ spec.string_text characters.now) }
@@ -50,7 +50,7 @@ pub fn put_string(output: &mut String, characters: &[u8]) -> Result<(), AllocErr
     Ok(())
 }
 
-/// Writes the end of a line, as `Out.Ln`. After want of memory the output is unchanged.
+/// Writes the end of a line, as `Out.Ln`. Where memory runs out the output is unchanged.
 pub fn put_line_end(output: &mut String) -> Result<(), AllocError>
     ensures ok { OnOk result (string_bytes output.new ≡ string_bytes output.old ++ spec.line_end) }
     ensures err { OnErr result (string_bytes output.new ≡ string_bytes output.old) }

@@ -140,7 +140,7 @@ pub fn with_operand(
     }
 }
 
-/// The operand that a sum is, or want of memory.
+/// The operand that a sum is, or lack of memory.
 pub fn sum_of(alloc: Global, joined: Joined) -> Result<Operand, Rejected>
     ensures { Judges (Given (spec.sum_of joined)) result }
 {
@@ -154,7 +154,7 @@ pub fn sum_of(alloc: Global, joined: Joined) -> Result<Operand, Rejected>
     }
 }
 
-/// The operand that a product is, or want of memory.
+/// The operand that a product is, or lack of memory.
 pub fn product_of(alloc: Global, joined: Joined) -> Result<Operand, Rejected>
     ensures { Judges (Given (spec.product_of joined)) result }
 {

@@ -19,7 +19,7 @@ abbrev pub IsFault : Code → Refused → Type 0
 IsFault code refused.Memory = ⊥
 IsFault code (refused.Fault fault) = fault.code ≡ code
 
--- the one kind and rest for which p holds; a fault where there are none; and want of memory says nothing
+-- the one kind and rest for which p holds; a fault where there are none; and lack of memory says nothing
 abbrev pub Exactly : (Kind → List ℕ → Type 0) → Result Found Refused → Type 0
 Exactly p (Ok found) = p found.kind found.rest.now × ((kind : Kind) (rest : List ℕ) → p kind rest → (kind ≡ found.kind) × (rest ≡ found.rest.now))
 Exactly p (Err refused.Memory) = Unit {0}

@@ -25,7 +25,7 @@ StepExactly place text (Ok (Some step)) = IsFirst place text step
 StepExactly place text (Err refused.Memory) = Unit {0}
 StepExactly place text (Err (refused.Fault fault)) = IsScanCode fault.code × ((tokens : List Token) → Scans place text tokens → ⊥)
 
--- an answer of these tokens, or want of memory
+-- an answer of these tokens, or lack of memory
 abbrev pub AnswersTokens : List Token → Result (List Token) Refused → Type 0
 AnswersTokens tokens (Ok list) = list ≡ tokens
 AnswersTokens tokens (Err refused.Memory) = Unit {0}

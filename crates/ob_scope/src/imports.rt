@@ -179,7 +179,7 @@ fn exported_by<'a>(tables: &Tables, exports: &'a [Exported], name: &Text) -> Opt
 }
 
 impl LoadedModule {
-    /// A module of this interface that reaches these. Or want of memory.
+    /// A module of this interface that reaches these. Or lack of memory.
     fn new(
         alloc: Global,
         interface: &Interface,

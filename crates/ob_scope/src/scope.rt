@@ -184,7 +184,7 @@ impl Scope {
     }
 
     /// One declaration more in the innermost block, of a name that it doesn't have. In a procedure the mark has no effect.
-    /// Or want of memory, and then the scope is to be dropped.
+    /// Or lack of memory, and then the scope is to be dropped.
     pub fn declare(
         &mut self,
         alloc: Global,
@@ -199,7 +199,7 @@ impl Scope {
         self.block.declare(alloc, name, exported, entry)
     }
 
-    /// Inside a procedure of this name, behind its parameters. Or want of memory.
+    /// Inside a procedure of this name, behind its parameters. Or lack of memory.
     pub fn enter(self, alloc: Global, name: &Text, parameters: Block) -> Result<Scope, AllocError>
         ensures { IfOk result (λ s. s ≡ spec.entered self name.now parameters) }
     {
@@ -232,7 +232,7 @@ impl Scope {
         }
     }
 
-    /// The name of the first record type in the declaration of a name, or want of memory.
+    /// The name of the first record type in the declaration of a name, or lack of memory.
     pub fn naming(&self, alloc: Global, declared: &[u8]) -> Result<RecordName, AllocError>
         ensures { IfOk result (λ n. n ≡ spec.naming self.now declared.now) }
     {

@@ -45,7 +45,7 @@ impl<T> Stack<T> {
 }
 
 impl<T: Drop> Stack<T> {
-    /// One more on top, or want of memory.
+    /// One more on top, or lack of memory.
     pub fn push(&mut self, item: T) -> Result<(), AllocError>
         ensures ok { OnOk result (self.new ≡ item ∷ self.old) }
     {

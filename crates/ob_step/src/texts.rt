@@ -113,7 +113,7 @@ fn text_size(row: &[i32]) -> usize
     size
 }
 
-// Writes the text of a row. After want of memory the output is unchanged.
+// Writes the text of a row. Where memory runs out the output is unchanged.
 #[tactic(auto, unfolding(ob_inout::specs::Writing::char_text))]
 pub fn write_text(output: &mut String, row: &[i32]) -> Result<(), AllocError>
     ensures ok { OnOk result (string_bytes output.new ≡ string_bytes output.old ++ string_text (map texts.character row.now)) }

@@ -18,7 +18,7 @@ fn copy_names(alloc: Global, names: &[Text]) -> Result<Items<Text>, AllocError>
 }
 
 impl RecordName {
-    /// An equal name, or want of memory.
+    /// An equal name, or lack of memory.
     pub fn copy(&self, alloc: Global) -> Result<RecordName, AllocError>
         ensures { IfOk result (λ c. c ≡ self.now) }
     {
@@ -57,7 +57,7 @@ impl RecordType {
 }
 
 impl Constant {
-    /// An equal constant, or want of memory.
+    /// An equal constant, or lack of memory.
     pub fn copy(&self, alloc: Global) -> Result<Constant, AllocError>
         ensures { IfOk result (λ c. c ≡ self.now) }
     {
@@ -93,7 +93,7 @@ fn copy_formals(alloc: Global, formals: &[Formal]) -> Result<Items<Formal>, Allo
 }
 
 impl Signature {
-    /// An equal signature, or want of memory.
+    /// An equal signature, or lack of memory.
     pub fn copy(&self, alloc: Global) -> Result<Signature, AllocError>
         ensures { IfOk result (λ c. c ≡ self.now) }
     {

@@ -81,7 +81,7 @@ impl Model for Interface {
 }
 
 impl Interface {
-    /// The interface of these parts, or want of memory.
+    /// The interface of these parts, or lack of memory.
     pub fn new(alloc: Global, name: Text, exports: Items<Exported>) -> Result<Interface, AllocError>
         ensures { IfOk result (λ i. i ≡ record { name = name; exports = exports }) }
     {

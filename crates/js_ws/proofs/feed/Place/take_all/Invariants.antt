@@ -1,7 +1,7 @@
 use Rattle.std.proofs.Common.{◌≡◌, ◌+◌, ◌≤◌, ◌++◌, length, vec_len, vec_capacity}
 use Rattle.std.specs.Prelude.{◌||◌}
 use Rattle.std.specs.Vec.Iter.{into_iter_items}
-use Rattle.js_ws.specs.Views.{part, has_joined}
+use Rattle.jk_log.specs.View.{part, has_joined}
 use Rattle.js_ws.specs.Shutdowns.{has_last}
 use Rattle.js_ws.specs.Statuses.{busy_after}
 use Rattle.js_ws.proofs.feed.Place.take_all.Given as goal
