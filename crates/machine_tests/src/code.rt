@@ -1,11 +1,11 @@
 use ob_base::Items;
-use ob_code::checked::validate;
 use ob_code::instr::{
     CodeModule, Entries, Entry, Extent, Instr, Length, Line, LinkedModule, NameKind, Procedure,
     Root, Target,
 };
-use ob_code::linked::are_linked;
 use ob_mean::{Adjustment, Callee, Operator, Relation};
+use ob_verify::linked::are_linked;
+use ob_verify::validate::validate;
 use std::alloc::{AllocError, Global};
 use std::test::Fail;
 

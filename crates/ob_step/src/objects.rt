@@ -15,10 +15,7 @@ pub fn module(code: &[LinkedModule], home: usize) -> &LinkedModule
     requires { home < length code.now }
     ensures { slice_get code.now home ≡ Some result.now }
 {
-    match code.get(home) {
-        Some(module) => module,
-        None => unreachable!(),
-    }
+    &code[home]
 }
 
 // A procedure that is there.
@@ -26,13 +23,7 @@ pub fn procedure(code: &[LinkedModule], home: usize, number: usize) -> &Procedur
     requires { IsSome (spec.procedure_in (slice_get code.now home) number) }
     ensures { spec.procedure_in (slice_get code.now home) number ≡ Some result.now }
 {
-    let Some(module) = code.get(home) else {
-        unreachable!()
-    };
-    let Some(procedure) = module.code.procedures.get(number) else {
-        unreachable!()
-    };
-    procedure
+    &code[home].code.procedures[number]
 }
 
 // The number of the module that a module imports.

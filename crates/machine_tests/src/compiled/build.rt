@@ -6,13 +6,13 @@ ghost use Rattle.ob_code.specs.Linked.{all_cells, runs_of};
 ghost use Rattle.ob_code.specs.Kinds.{IsMeasured};
 ghost use Rattle.ob_vm.specs.Images.{IsOf};
 
-use ob_code::checked::validate;
 use ob_code::instr::{CodeModule, LinkedModule};
-use ob_code::linked::are_linked;
 use ob_gen::module_code;
 use ob_image::push_opening;
 use ob_mean::{Face, Loaded, TypedModule};
 use ob_reference_store::stop::NoAnswer;
+use ob_verify::linked::are_linked;
+use ob_verify::validate::validate;
 use ob_vm::{Image, Machine};
 use std::alloc::Global;
 

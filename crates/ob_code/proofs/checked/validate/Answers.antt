@@ -1,4 +1,0 @@
-use Rattle.ob_code.proofs.checked.validate.Goals as goal
-
-pub returns-then-branch-clause-measured : goal.returns-then-branch-clause-measured
-returns-then-branch-clause-measured c = c.in_ok-is_measured.ensures c.if-branch.true
