@@ -1,6 +1,5 @@
 use Rattle.std.proofs.Common.{arith}
 use Rattle.ob_step.specs.declared.state.State.{State}
-use Rattle.ob_step.specs.Rooms.{IsSafe}
 use Rattle.ob_step.proofs.Steps.{goes_safe, caller_roomy, returned_is}
 use Rattle.ob_step.proofs.step.leave.Goals as goal
 

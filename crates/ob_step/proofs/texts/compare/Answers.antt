@@ -1,4 +1,4 @@
-use Rattle.std.proofs.Common.{◌∙◌, sym, ◌⊎◌, ⊎_elim}
+use Rattle.std.proofs.Common.{◌∙◌, sym, ⊎_elim}
 use Rattle.ob_step.proofs.TextRows.{both_on, differ_on}
 use Rattle.ob_step.proofs.texts.compare.Goals as goal
 

@@ -1,8 +1,6 @@
-use Rattle.std.proofs.Common.{◌≡◌, ◌+◌, ◌++◌, drop, length, rules, arith, ap, sym, ◌∙◌}
-use Rattle.std.specs.Prelude.{map, string_bytes}
+use Rattle.std.proofs.Common.{arith}
 use Rattle.std.proofs.lemmas.Grind.{common_steps}
-use Rattle.ob_inout.specs.Writing.{char_text, string_text}
-use Rattle.ob_mean.specs.Texts.{character}
+use Rattle.ob_inout.specs.Writing.{char_text}
 use Rattle.ob_step.proofs.TextRows.{written_on}
 use Rattle.ob_step.proofs.texts.write_text.Goals as goal
 

@@ -1,7 +1,6 @@
-use Rattle.std.proofs.Common.{◌≡◌, length, Some, sym, ap, ◌∙◌, arith}
+use Rattle.std.proofs.Common.{length, sym, ap, ◌∙◌, arith}
 use Rattle.std.specs.Prelude.{slice_get}
 use Rattle.std.proofs.lemmas.List.{length-reverse}
-use Rattle.ob_code.specs.declared.instr.Procedure.{Procedure}
 use Rattle.ob_code.specs.Machine.{Config, procedure_in, target_of, number_of, entered}
 use Rattle.ob_step.specs.States.{config_of}
 use Rattle.ob_step.proofs.turn.call.Goals as goal

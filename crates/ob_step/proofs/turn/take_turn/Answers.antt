@@ -1,8 +1,6 @@
 use Rattle.std.proofs.Common.{refl, subst}
-use Rattle.ob_step.specs.States.{config_of}
 use Rattle.ob_step.specs.Needs.{Needs}
-use Rattle.ob_step.proofs.Turns.{turn_is}
-use Rattle.ob_step.proofs.Calls.{is_turn, either_safe, either_done, either_refused, call_either_safe, call_either_done, call_either_refused}
+use Rattle.ob_step.proofs.Calls.{either_safe, either_done, either_refused, call_either_safe, call_either_done, call_either_refused}
 use Rattle.ob_step.proofs.turn.take_turn.Goals as goal
 
 pub returns-in-Invoke-clause-safe : goal.returns-in-Invoke-clause-safe
