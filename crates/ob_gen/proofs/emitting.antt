@@ -1,4 +1,3 @@
-pub mod Tables
 pub mod Known
 pub mod Trees
 pub mod Lists

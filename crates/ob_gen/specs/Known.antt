@@ -8,7 +8,7 @@ use Rattle.ob_gen.specs.declared.known.Known.{Known}
 use Rattle.ob_gen.specs.declared.known.Object.{Object as Seen}
 use Rattle.ob_gen.specs.declared.known.Object.TheVariants as seen
 use Rattle.ob_gen.specs.Code.{own_row, named_one}
-use Rattle.ob_gen.specs.Tables.{row_sizes}
+use Rattle.ob_table.specs.Tables.{row_sizes}
 
 abbrev pub names_in : Known → Names
 names_in k = record { faces = k.faces.now; variables = k.variables.now; procedures = k.procedures.now; parameters = k.parameters.now; own = k.own.now }

@@ -7,15 +7,15 @@ ghost use Rattle.ob_gen.specs.Code as spec;
 ghost use Rattle.ob_gen.specs.Correct.{name_kind, name_kinds, IsCodeOf};
 ghost use Rattle.ob_gen.specs.Generated.{entry_for, most_names, most_operands, AreOfFaces, HasRoom, IsOfFace};
 ghost use Rattle.ob_gen.specs.Known.{face_sizes, names_in, IsPlaced};
-ghost use Rattle.ob_gen.specs.Tables.{row_sizes};
+ghost use Rattle.ob_table.specs.Tables.{row_sizes};
 
 use crate::emit::emit_expr;
 use crate::known::Known;
 use crate::statement::emit_statements;
-use crate::table::{Table, shape_cells};
 use ob_base::Items;
 use ob_code::instr::{Entries, Entry, Line, NameKind, Procedure};
 use ob_mean::{Face, ModuleVariable, Parameter, Shape, TypedExpr, TypedStatement};
+use ob_table::{Table, shape_cells};
 use std::alloc::{AllocError, Global};
 
 // ---- where variables are

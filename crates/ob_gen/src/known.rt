@@ -6,9 +6,9 @@ ghost use Rattle.ob_mean.specs.WellFormed as formed;
 ghost use Rattle.ob_gen.specs.Code as code;
 ghost use Rattle.ob_gen.specs.Known.{names_in, object_seen, IsPlaced};
 
-use crate::table::{Table, cells_before, shape_cells};
 use ob_code::instr::{Extent, Length, Root};
 use ob_mean::{Face, ModuleVariable, Parameter, Shape, TypedProcedure, Variable};
+use ob_table::{Table, cells_before, shape_cells};
 use std::alloc::AllocError;
 
 /// What stands at a place.

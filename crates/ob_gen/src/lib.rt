@@ -9,7 +9,6 @@ mod known;
 mod laws;
 mod module;
 mod statement;
-mod table;
 
 pub use laws::{body_law, commands_law};
 pub use module::{generate, module_code};

@@ -6,16 +6,16 @@ ghost use Rattle.ob_mean.specs.WellFormed.{IsWellFormed, names_in};
 ghost use Rattle.ob_gen.specs.Correct.{IsCodeOf};
 ghost use Rattle.ob_gen.specs.Generated.{HasRoom, IsGenerated};
 ghost use Rattle.ob_gen.specs.Known.{face_sizes};
-ghost use Rattle.ob_gen.specs.Tables.{row_sizes};
+ghost use Rattle.ob_table.specs.Tables.{row_sizes};
 
 use crate::compile::{
     all_entries, emit_procedure, face_tables, name_table, own_table, variable_table,
 };
 use crate::known::Known;
-use crate::table::Table;
 use ob_code::checked::Checked;
 use ob_code::instr::{CodeModule, Procedure};
 use ob_mean::{Face, Parameter, Shape, TypedExpr, TypedModule, TypedStatement};
+use ob_table::Table;
 use std::alloc::{AllocError, Global};
 
 /// What a procedure, or a body, has of its own.

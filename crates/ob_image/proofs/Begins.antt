@@ -8,7 +8,7 @@ use Rattle.ob_mean.specs.Values.{Value, image, row}
 use Rattle.ob_mean.specs.Shapes.{at_least_one, zero_of, zeros, opening_value, opening_row}
 use Rattle.ob_mean.specs.Texts.{text_row}
 use Rattle.ob_code.specs.Machine.{text_cells}
-use Rattle.ob_gen.proofs.emitting.Tables.{array_zero, record_zero}
+use Rattle.ob_table.proofs.Tables.{array_zero, record_zero}
 use Rattle.ob_gen.proofs.machine.Zeros.{image-text_row, length-text_cells}
 
 -- ---- zeros

@@ -18,7 +18,7 @@ use Rattle.ob_code.specs.declared.instr.Procedure.{Procedure}
 use Rattle.ob_gen.specs.Code.{parameter_row, parameter_value}
 use Rattle.ob_gen.specs.Correct.{IsCodeOf, AreCompiled, named_count, parameter_count}
 use Rattle.ob_gen.specs.Generated.{valued_count, AreOfFaces, HasRoom, AllHaveRoom}
-use Rattle.ob_gen.specs.Tables.{row_sizes, cells_in}
+use Rattle.ob_table.specs.Tables.{row_sizes, cells_in}
 
 pub text_size : (n : ℕ) (cs : List ℕ) → size (text_row n cs) ≡ n
 text_size zero cs = refl

@@ -9,10 +9,10 @@ use Rattle.ob_mean.specs.Values.{Value, Cell, Named, Open, Nothing, Beside, row,
 use Rattle.ob_mean.specs.Shapes.{zero_of, zeros, at_least_one}
 use Rattle.ob_mean.specs.WellFormed.{Of, elements_in, own_object, value_object, shape_object, element_shape, field_shape, field_at}
 use Rattle.ob_gen.specs.Code.{zero_in, extent_at, face_row, named_one, named_before}
-use Rattle.ob_gen.specs.Tables.{extent_in, row_sizes}
+use Rattle.ob_table.specs.Tables.{extent_in, row_sizes}
 use Rattle.ob_gen.specs.Known.{face_sizes, object_seen}
 use Rattle.ob_gen.specs.declared.known.Object.{Object as Seen}
-use Rattle.ob_gen.proofs.emitting.Tables.{array_zero, record_zero, array_size, array_before}
+use Rattle.ob_table.proofs.Tables.{array_zero, record_zero, array_size, array_before}
 
 extent_from : (a : ℕ) (r : Value) (x : ℕ) → extent_in a (row_sizes r) x ≡ record { from = a + before r x; cells = size (item r x) }
 extent_from a (Cell z) x = ap (λ k. record { from = k; cells = 0 }) (omega arith)

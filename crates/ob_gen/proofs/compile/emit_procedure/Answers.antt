@@ -3,7 +3,7 @@ use Rattle.ob_mean.specs.WellFormed.{is_there}
 use Rattle.ob_code.specs.declared.instr.Entry.{Entry}
 use Rattle.ob_gen.specs.Code.{list_code, result_code}
 use Rattle.ob_gen.specs.Known.{names_in}
-use Rattle.ob_gen.specs.Tables.{cells_in}
+use Rattle.ob_table.specs.Tables.{cells_in}
 use Rattle.ob_gen.proofs.emitting.Generated.{cells_own, counts, there_is}
 use Rattle.ob_gen.proofs.compile.emit_procedure.Goals as goal
 

@@ -1,6 +1,6 @@
 use Rattle.std.proofs.Common.{ap, ◌∙◌, map}
 use Rattle.ob_gen.specs.Generated.{heading_entry}
-use Rattle.ob_gen.specs.Tables.{cells_in}
+use Rattle.ob_table.specs.Tables.{cells_in}
 use Rattle.ob_gen.proofs.emitting.Generated.{cells_zeros, list_done}
 use Rattle.ob_gen.proofs.compile.entries_of.Goals as goal
 

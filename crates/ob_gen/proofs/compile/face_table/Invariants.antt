@@ -1,6 +1,6 @@
 use Rattle.std.proofs.Common.{◌≡◌, ◌++◌, drop}
 use Rattle.ob_mean.specs.Shapes.{zeros}
-use Rattle.ob_gen.specs.Tables.{row_sizes}
+use Rattle.ob_table.specs.Tables.{row_sizes}
 use Rattle.ob_gen.proofs.compile.face_table.Given as goal
 
 abbrev pub invariant-loop-shape : goal.invariant-loop-shape

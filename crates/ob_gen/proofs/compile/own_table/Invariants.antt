@@ -2,7 +2,7 @@ use Rattle.std.proofs.Common.{◌≡◌, ◌++◌, drop}
 use Rattle.ob_mean.specs.Values.{append}
 use Rattle.ob_mean.specs.Shapes.{zeros}
 use Rattle.ob_gen.specs.Code.{parameter_row}
-use Rattle.ob_gen.specs.Tables.{row_sizes}
+use Rattle.ob_table.specs.Tables.{row_sizes}
 use Rattle.ob_gen.proofs.compile.own_table.Given as goal
 
 abbrev pub invariant-loop-parameter : goal.invariant-loop-parameter

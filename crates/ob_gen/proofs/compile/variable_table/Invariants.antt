@@ -1,6 +1,6 @@
 use Rattle.std.proofs.Common.{◌≡◌, ◌++◌, drop}
 use Rattle.ob_mean.specs.Shapes.{opening_row}
-use Rattle.ob_gen.specs.Tables.{row_sizes}
+use Rattle.ob_table.specs.Tables.{row_sizes}
 use Rattle.ob_gen.proofs.compile.variable_table.Given as goal
 
 abbrev pub invariant-loop-variable : goal.invariant-loop-variable

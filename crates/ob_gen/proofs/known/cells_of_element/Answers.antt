@@ -3,7 +3,7 @@ use Rattle.ob_mean.specs.Values.{size}
 use Rattle.ob_mean.specs.Shapes.{zero_of}
 use Rattle.ob_mean.specs.WellFormed.{element_shape}
 use Rattle.ob_gen.specs.Code.{zero_element}
-use Rattle.ob_gen.proofs.emitting.Tables.{if_ok}
+use Rattle.ob_table.proofs.Tables.{if_ok}
 use Rattle.ob_gen.proofs.emitting.Known.{array_element}
 use Rattle.ob_gen.proofs.known.cells_of_element.Goals as goal
 

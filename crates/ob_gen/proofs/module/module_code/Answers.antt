@@ -5,7 +5,7 @@ use Rattle.ob_mean.specs.declared.shape.Shape.{Shape}
 use Rattle.ob_mean.specs.declared.statement.TypedStatement.{TypedStatement}
 use Rattle.ob_mean.specs.Shapes.{opening_row}
 use Rattle.ob_gen.specs.Correct.{IsCodeOf, AreCompiled}
-use Rattle.ob_gen.specs.Tables.{cells_in, row_sizes}
+use Rattle.ob_table.specs.Tables.{cells_in, row_sizes}
 use Rattle.ob_gen.proofs.emitting.Generated.{cells_opening, compiled_next, compiled_whole, rooms_more}
 use Rattle.ob_gen.proofs.module.module_code.Goals as goal
 

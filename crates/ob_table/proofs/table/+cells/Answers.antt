@@ -1,8 +1,8 @@
 use Rattle.std.proofs.Common.{ap, ◌∙◌, ◌*◌, sym, rules, length, ◌<◌}
 use Rattle.ob_mean.specs.Values.{size}
 use Rattle.ob_mean.specs.Shapes.{zero_of}
-use Rattle.ob_gen.proofs.emitting.Tables.{if_ok, array_size, record_row}
-use Rattle.ob_gen.proofs.table.+cells.Goals as goal
+use Rattle.ob_table.proofs.Tables.{if_ok, array_size, record_row}
+use Rattle.ob_table.proofs.table.+cells.Goals as goal
 
 pub record_cells-returns : goal.record_cells-returns
 record_cells-returns t c =

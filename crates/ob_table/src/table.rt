@@ -3,7 +3,7 @@
 ghost use Rattle.std.specs.Prelude.{◌≡◌, ◌+◌, ◌*◌, [], ◌∷◌, ◌++◌, IfOk, OnOk};
 ghost use Rattle.ob_mean.specs.Values.{before, size};
 ghost use Rattle.ob_mean.specs.Shapes.{at_least_one, zero_of, zeros};
-ghost use Rattle.ob_gen.specs.Tables.{cells_in, extent_in};
+ghost use Rattle.ob_table.specs.Tables.{cells_in, extent_in};
 
 use ob_code::instr::Extent;
 use ob_mean::Shape;
@@ -31,7 +31,7 @@ fn times(count: usize, each: usize) -> Result<usize, AllocError>
 
 /// How many cells a variable of this shape has. There is no room for 2^64.
 #[cycle(cells)]
-#[tactic(auto, using(crate::proofs::emitting::Tables::array_size, crate::proofs::emitting::Tables::record_size, crate::proofs::emitting::Tables::array_zero))]
+#[tactic(auto, using(crate::proofs::Tables::array_size, crate::proofs::Tables::record_size, crate::proofs::Tables::array_zero))]
 pub fn shape_cells(shape: &Shape) -> Result<usize, AllocError>
     ensures { IfOk result (λ n. n ≡ size (zero_of shape.now)) }
 {
@@ -57,7 +57,7 @@ fn record_cells(fields: &[Shape]) -> Result<usize, AllocError>
 }
 
 #[cycle(cells)]
-#[tactic(auto, using(crate::proofs::emitting::Tables::shapes_more))]
+#[tactic(auto, using(crate::proofs::Tables::shapes_more))]
 fn shapes_cells(shapes: &[Shape]) -> Result<usize, AllocError>
     ensures { IfOk result (λ n. n ≡ size (zeros shapes.now)) }
 {
@@ -70,7 +70,7 @@ fn shapes_cells(shapes: &[Shape]) -> Result<usize, AllocError>
 }
 
 /// How many cells of a variable of this shape stand before a part of it.
-#[tactic(auto, using(crate::proofs::emitting::Tables::array_before, crate::proofs::emitting::Tables::record_before))]
+#[tactic(auto, using(crate::proofs::Tables::array_before, crate::proofs::Tables::record_before))]
 pub fn cells_before(shape: &Shape, part: usize) -> Result<usize, AllocError>
     ensures { IfOk result (λ n. n ≡ before (zero_of shape.now) part) }
 {
@@ -84,7 +84,7 @@ pub fn cells_before(shape: &Shape, part: usize) -> Result<usize, AllocError>
     }
 }
 
-#[tactic(auto, using(crate::proofs::emitting::Tables::none_before, crate::proofs::emitting::Tables::fields_first, crate::proofs::emitting::Tables::take_least))]
+#[tactic(auto, using(crate::proofs::Tables::none_before, crate::proofs::Tables::fields_first, crate::proofs::Tables::take_least))]
 fn fields_before(fields: &[Shape], part: usize) -> Result<usize, AllocError>
     ensures { IfOk result (λ n. n ≡ before (at_least_one (zeros fields.now)) part) }
 {
@@ -103,7 +103,7 @@ pub struct Table {
 
 impl Model for Table {
     ghost use Rattle.std.specs.Prelude.{ℕ, List};
-    ghost use Rattle.ob_gen.specs.Tables.{sizes_of, AreBehind};
+    ghost use Rattle.ob_table.specs.Tables.{sizes_of, AreBehind};
 
     ghost Value = { List ℕ };
 

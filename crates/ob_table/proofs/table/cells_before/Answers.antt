@@ -1,8 +1,8 @@
 use Rattle.std.proofs.Common.{ap, ◌∙◌, ◌*◌, min, sym}
 use Rattle.ob_mean.specs.Values.{size, before}
 use Rattle.ob_mean.specs.Shapes.{zero_of}
-use Rattle.ob_gen.proofs.emitting.Tables.{if_ok, array_before}
-use Rattle.ob_gen.proofs.table.cells_before.Goals as goal
+use Rattle.ob_table.proofs.Tables.{if_ok, array_before}
+use Rattle.ob_table.proofs.table.cells_before.Goals as goal
 
 pub returns-in_ok-each-in-Array : goal.returns-in_ok-each-in-Array
 returns-in_ok-each-in-Array c =

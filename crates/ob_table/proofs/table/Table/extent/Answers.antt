@@ -1,6 +1,6 @@
 use Rattle.std.proofs.Common.{◌∙◌, arith, length, ◌<◌, ◌≤◌}
-use Rattle.ob_gen.proofs.emitting.Tables.{looked, looked_past}
-use Rattle.ob_gen.proofs.table.Table.extent.Goals as goal
+use Rattle.ob_table.proofs.Tables.{looked, looked_past}
+use Rattle.ob_table.proofs.table.Table.extent.Goals as goal
 
 pub returns-then-number-len : goal.returns-then-number-len
 returns-then-number-len c =

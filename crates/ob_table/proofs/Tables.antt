@@ -7,7 +7,7 @@ use Rattle.ob_mean.specs.declared.shape.Shape.TheVariants.{Array, Record, Record
 use Rattle.ob_mean.specs.Values.{Value, Nothing, Beside, row, size, before}
 use Rattle.ob_mean.specs.Shapes.{zero_of, zeros, zeros_in, at_least_one}
 use Rattle.ob_code.specs.declared.instr.Extent.{Extent}
-use Rattle.ob_gen.specs.Tables.{cells_in, extents, extent_in, sizes_of, AreBehind}
+use Rattle.ob_table.specs.Tables.{cells_in, extents, extent_in, sizes_of, AreBehind}
 
 -- ---- shapes
 
