@@ -1,13 +1,12 @@
 -- The modules that are loaded, added one after the other, are those that the rules see.
-use Rattle.std.proofs.Common.{◌≡◌, ℕ, zero, suc, Bool, false, cond, ◌||◌, List, [], ◌∷◌, length, map, get_or, take, drop, ◌+◌, Option, Some, None, option_map, slice_get, refl, ◌∙◌, ap, arith}
-use Rattle.std.specs.List.{list_any}
-use Rattle.std.specs.Str.{bytes_eq}
+use Rattle.std.proofs.Common.{◌≡◌, ℕ, zero, suc, Bool, false, cond, List, [], ◌∷◌, length, map, get_or, take, drop, ◌+◌, Option, Some, None, option_map, slice_get, refl, ◌∙◌, ap, arith}
 use Rattle.std.proofs.lemmas.Option.{slice_get-map}
 use Rattle.ob_scope.specs.Exports.{Modules as Loaded, module_names}
 use Rattle.ob_scope.specs.Names.{place_in}
 use Rattle.ob_scope.specs.Imports.{added, module_place}
 use Rattle.ob_scope.specs.LoadedTree.{LoadedTree}
-use Rattle.ob_session.specs.Session.{Import, Module, name_of, find_module}
+use Rattle.ob_session.specs.Session.{Module, name_of}
+use Rattle.ob_session.specs.Reaches.{reached_by}
 use Rattle.ob_link.specs.Reaching as found
 use Rattle.ob_cell.specs.Texts as meaning
 use Rattle.ob_link.specs.Modules.{AllDistinct}
@@ -16,32 +15,17 @@ use Rattle.ob_link.proofs.Appended.{none_reaches}
 use Rattle.ob_link.proofs.Named.{turned}
 use Rattle.ob_cell.proofs.Named.{other_name}
 
--- ---- what reaches a name is what the rules have
-
-behind_same : (o : Option Module) (reaches : Import → Bool) → found.any_behind o reaches ≡ meaning.any_behind o reaches
-behind_same None reaches = refl
-behind_same (Some m) reaches = refl
-
-reaches_same : (modules : List Module) (most : ℕ) (name : List ℕ) (i : Import) → found.reaches modules most name i ≡ meaning.reaches modules most name i
-reaches_same modules zero name i = refl
-reaches_same modules (suc most) name i =
-    ap (λ (t : Import → Bool). bytes_eq i.name name || found.any_behind (find_module modules i.name) t) (λ x j. reaches_same modules most name j x)
-    ∙ ap (λ b. bytes_eq i.name name || b) (behind_same (find_module modules i.name) (meaning.reaches modules most name))
-
-pub reached_same : (modules : List Module) (name : List ℕ) (m : Module) → found.reached_by modules name m ≡ meaning.reached_by modules name m
-reached_same modules name m = ap (λ (t : Import → Bool). list_any t m.imports) (λ x i. reaches_same modules (length modules) name i x)
-
 -- ---- where none reaches it
 
-reached_none : (all : List Module) (name : List ℕ) (m : Module) → false ≡ found.reached_by all name m → seen_alone m ≡ meaning.loaded_as all name m
+reached_none : (all : List Module) (name : List ℕ) (m : Module) → false ≡ reached_by all name m → seen_alone m ≡ meaning.loaded_as all name m
 reached_none all name m e =
-    ap (λ (b : Bool). let seen : LoadedTree = record { interface = m.interface; reached = cond b (name ∷ []) [] } in seen) (e ∙ reached_same all name m)
+    ap (λ (b : Bool). let seen : LoadedTree = record { interface = m.interface; reached = cond b (name ∷ []) [] } in seen) e
 
-seen_where : (all ms : List Module) (name : List ℕ) → map (λ (m : Module). false) ms ≡ map (found.reached_by all name) ms → all_seen ms ≡ map (meaning.loaded_as all name) ms
+seen_where : (all ms : List Module) (name : List ℕ) → map (λ (m : Module). false) ms ≡ map (reached_by all name) ms → all_seen ms ≡ map (meaning.loaded_as all name) ms
 seen_where all [] name e = refl
 seen_where all (m ∷ ms) name e =
-    let here : false ≡ found.reached_by all name m = ap (λ (row : List Bool). get_or row 0 false) e in
-    let behind : map (λ (n : Module). false) ms ≡ map (found.reached_by all name) ms = ap (λ (row : List Bool). drop 1 row) e in
+    let here : false ≡ reached_by all name m = ap (λ (row : List Bool). get_or row 0 false) e in
+    let behind : map (λ (n : Module). false) ms ≡ map (reached_by all name) ms = ap (λ (row : List Bool). drop 1 row) e in
     ap (λ (seen : LoadedTree). seen ∷ all_seen ms) (reached_none all name m here)
     ∙ ap (λ (rest : Loaded). meaning.loaded_as all name m ∷ rest) (seen_where all ms name behind)
 
@@ -77,16 +61,15 @@ pub new_place : (modules : List Module) (name : List ℕ) (k : ℕ) (m : Module)
 unfolding module_place
 new_place modules name k m so_far distinct e s = ap (λ (l : Loaded). place_in (module_names l) (name_of m)) s ∙ new_among modules modules name k m distinct e
 
-flag_there : (modules : List Module) (name : List ℕ) (k : ℕ) (m : Module) (flag : Bool) → slice_get modules k ≡ Some m → slice_get (found.reaching modules name) k ≡ Some flag → flag ≡ meaning.reached_by modules name m
+flag_there : (modules : List Module) (name : List ℕ) (k : ℕ) (m : Module) (flag : Bool) → slice_get modules k ≡ Some m → slice_get (found.reaching modules name) k ≡ Some flag → flag ≡ reached_by modules name m
 flag_there modules name k m flag e f =
-    let read : slice_get (found.reaching modules name) k ≡ Some (found.reached_by modules name m) = slice_get-map (found.reached_by modules name) modules k ∙ ap (option_map (found.reached_by modules name)) e in
-    let same : flag ≡ found.reached_by modules name m = cc in
-    same ∙ reached_same modules name m
+    let read : slice_get (found.reaching modules name) k ≡ Some (reached_by modules name m) = slice_get-map (reached_by modules name) modules k ∙ ap (option_map (reached_by modules name)) e in
+    cc
 
 -- the module of a number, added to those before it with what it reaches
 pub added_more : (modules : List Module) (name : List ℕ) (k : ℕ) (m : Module) (flag : Bool) (reached : List (List ℕ)) (so_far more : Loaded) → AllDistinct modules → slice_get modules k ≡ Some m → slice_get (found.reaching modules name) k ≡ Some flag → reached ≡ cond flag (name ∷ []) [] → so_far ≡ map (meaning.loaded_as modules name) (take k modules) → more ≡ added so_far (record { interface = m.interface; reached = reached }) → more ≡ map (meaning.loaded_as modules name) (take (k + 1) modules)
 added_more modules name k m flag reached so_far more distinct e f r s a =
-    let own : reached ≡ cond (meaning.reached_by modules name m) (name ∷ []) [] = r ∙ ap (λ b. cond b (name ∷ []) []) (flag_there modules name k m flag e f) in
+    let own : reached ≡ cond (reached_by modules name m) (name ∷ []) [] = r ∙ ap (λ b. cond b (name ∷ []) []) (flag_there modules name k m flag e f) in
     let n : suc k ≡ k + 1 = omega arith in
     a
     ∙ ap (λ (l : Loaded). added l (record { interface = m.interface; reached = reached })) s

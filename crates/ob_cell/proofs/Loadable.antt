@@ -35,6 +35,7 @@ use Rattle.ob_fit.specs.Fitting as fit
 use Rattle.ob_fit.specs.Fitting.{procedure_heading, procedure_headings, heading_of, face_of_interface}
 use Rattle.ob_session.specs.Session.{Import, Module, name_of, find_module, place_of}
 use Rattle.ob_session.specs.Links.{Reached, First, Behind, Through}
+use Rattle.ob_session.specs.Reaches.{reached_by}
 use Rattle.ob_session.specs.Cells.{is_plain, is_command, command_place, place_behind}
 use Rattle.ob_link.specs.Reaching as reaching
 use Rattle.ob_link.proofs.Chains.{each_reaches}
@@ -44,7 +45,6 @@ use Rattle.ob_load.specs.Known.{IsPlainAt, HasCommands}
 use Rattle.ob_load.specs.Said.{face_said}
 use Rattle.ob_load.specs.Words.{InterfaceWords, AllWords}
 use Rattle.ob_cell.specs.Texts as meaning
-use Rattle.ob_cell.proofs.Adding.{reached_same}
 use Rattle.ob_cell.proofs.Keys.{key_says}
 use Rattle.ob_cell.proofs.Spelled.{Each, text_words}
 use Rattle.ob_cell.proofs.WordTypes.{LoadedWords, some_same, nothing}
@@ -132,15 +132,15 @@ module _ (ms : Loaded) (loaded : LoadedWords ms) (self : List ℕ) where
 -- ---- imports that don't reach the module
 
 abbrev Apart : List Module → List ℕ → Import → Type 0
-Apart modules self i = (i.name ≢ self) × ((d : Module) → find_module modules i.name ≡ Some d → reaching.reached_by modules self d ≡ false)
+Apart modules self i = (i.name ≢ self) × ((d : Module) → find_module modules i.name ≡ Some d → reached_by modules self d ≡ false)
 
 module _ (modules : List Module) (self : List ℕ) where
-  never_reached : (d : Module) (name : List ℕ) → find_module modules name ≡ Some d → reaching.reached_by modules self d ≡ false → (i : Import) → Reached modules i d.imports → i.name ≢ self
+  never_reached : (d : Module) (name : List ℕ) → find_module modules name ≡ Some d → reached_by modules self d ≡ false → (i : Import) → Reached modules i d.imports → i.name ≢ self
   never_reached d name found flag i r same =
       let at = found_at modules name d found in
       let yes = (each_reaches modules (place_of modules name) d self at).1 (i, r, same) in
-      let read : slice_get (reaching.reaching modules self) (place_of modules name) ≡ Some (reaching.reached_by modules self d) = slice_get-map (reaching.reached_by modules self) modules (place_of modules name) ∙ ap (option_map (reaching.reached_by modules self)) at in
-      let is = indexed (reaching.reaching modules self) (place_of modules name) (reaching.reached_by modules self d) read in
+      let read : slice_get (reaching.reaching modules self) (place_of modules name) ≡ Some (reached_by modules self d) = slice_get-map (reached_by modules self) modules (place_of modules name) ∙ ap (option_map (reached_by modules self)) at in
+      let is = indexed (reaching.reaching modules self) (place_of modules name) (reached_by modules self d) read in
       absurd (let n : true ≡ false = sym yes ∙ is ∙ flag in cc)
     where
       indexed : (xs : List Bool) (k : ℕ) (b : Bool) → slice_get xs k ≡ Some b → slice_index_or xs k false ≡ b
@@ -190,12 +190,12 @@ module _ (modules : List Module) (self : List ℕ) where
   unfolding module_place
   apart_of place h is g =
       let r = found_first modules h.0 place h.1 in
-      let flag : meaning.reached_by modules self r.y ≡ false = flag_of _ (subst (λ o. reaches o self ≡ false) r.there h.3) in
+      let flag : reached_by modules self r.y ≡ false = flag_of _ (subst (λ o. reaches o self ≡ false) r.there h.3) in
       subst (λ o. Each (Apart modules self) (map meaning.import_of (with_key o) ++ is)) (sym r.there) (
         (
           (λ same. let t = sym (equal_name self) ∙ ap (λ n. bytes_eq n self) (sym same ∙ r.name) ∙ h.2 in absurd (let n : true ≡ false = t in cc)),
           (λ d found. let one : r.y ≡ d = some_same r.y d (sym r.found ∙ ap (find_module modules) (sym r.name) ∙ found) in
-              subst (λ x. reaching.reached_by modules self x ≡ false) one (reached_same modules self r.y ∙ flag)),
+              subst (λ x. reached_by modules self x ≡ false) one flag),
         ),
         g,
       )

@@ -2,9 +2,7 @@
 -- The meaning of a cell of Oberon, from its text: it is read by the tokens and the grammar, judged by the static
 -- rules over the modules that are loaded, linked, and run by what its typed tree means (Wirth, The Programming Language Oberon,
 -- Oberon-07; In and Out after the Oakwood Guidelines).
-use Rattle.std.specs.Prelude.{◌≡◌, ℕ, zero, suc, Bool, false, ◌||◌, List, [], ◌∷◌, ◌++◌, length, map, Option, Some, None, Result, Ok, Err, if◌then◌else◌}
-use Rattle.std.specs.List.{list_any}
-use Rattle.std.specs.Str.{bytes_eq}
+use Rattle.std.specs.Prelude.{◌≡◌, ℕ, List, [], ◌∷◌, ◌++◌, map, Option, Some, None, Result, Ok, Err, if◌then◌else◌}
 use Rattle.ob_base.specs.declared.fault.Code.{Code}
 use Rattle.ob_scope.specs.declared.rule.RuleCode.{RuleCode}
 use Rattle.ob_inout.specs.Reading.{Line}
@@ -18,25 +16,12 @@ use Rattle.ob_scope.specs.RuleCodes.{code_of}
 use Rattle.ob_check.specs.CheckedTree.{CheckedTree}
 use Rattle.ob_check.specs.declared.checked.Imported.{Imported}
 use Rattle.ob_check.specs.Modules.{module_at}
-use Rattle.ob_session.specs.Session.{Session, Module, Import, find_module}
+use Rattle.ob_session.specs.Session.{Session, Module, Import}
+use Rattle.ob_session.specs.Reaches.{reached_by}
 use Rattle.ob_session.specs.Cells.{CellMeaning, Checked, OfModule, OfCommands, CommandName, checked_meaning}
 use Rattle.ob_session.specs.Laws.{IsLawful, IsFed}
 
 -- ---- the modules that are loaded, as the static rules see them
-
--- one of the imports of what is found
-abbrev pub any_behind : Option Module → (Import → Bool) → Bool
-any_behind None reaches = false
-any_behind (Some m) reaches = list_any reaches m.imports
-
--- whether an import is of this name, or reaches it through chains of so many imports more
-abbrev pub reaches : List Module → ℕ → List ℕ → Import → Bool
-reaches modules zero name i = bytes_eq i.name name
-reaches modules (suc most) name i = bytes_eq i.name name || any_behind (find_module modules i.name) (reaches modules most name)
-
--- whether an import of a module does; a chain that goes through no module twice has no more imports than there are modules
-abbrev pub reached_by : List Module → List ℕ → Module → Bool
-reached_by modules name m = list_any (reaches modules (length modules) name) m.imports
 
 -- The rules for a module of this name ask of what others reach nothing but whether that is among it.
 abbrev pub loaded_as : List Module → List ℕ → Module → LoadedTree

@@ -7,7 +7,8 @@ use Rattle.std.proofs.lemmas.Bool.{cases_Bool}
 use Rattle.ob_session.specs.Session.{Import, Module, name_of, key_of, find_module, first_some, first_fault, fault_of, import_fault, with_module}
 use Rattle.ob_link.specs.Exchange.{LinksBehind}
 use Rattle.ob_link.specs.Faults.{fault_row, next_row, all_none}
-use Rattle.ob_link.specs.Reaching.{IsApart, reaches, reach_row, reaching}
+use Rattle.ob_session.specs.Reaches.{reaches}
+use Rattle.ob_link.specs.Reaching.{IsApart, reach_row, reaching}
 use Rattle.ob_link.specs.Runs.{may_run}
 use Rattle.ob_link.proofs.Exchanged.{taken_new}
 use Rattle.ob_link.proofs.Faults.{all_link, both_true, first_row, firsts_none, no_fault, none_first_row, none_rows, row_none, some_none, zero_first}

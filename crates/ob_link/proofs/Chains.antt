@@ -7,7 +7,8 @@ use Rattle.std.specs.Str.{bytes_eq}
 use Rattle.std.proofs.lemmas.Bool.{cases_lt}
 use Rattle.ob_session.specs.Session.{Import, Module, find_module}
 use Rattle.ob_session.specs.Links.{Reached, First, Behind, Through}
-use Rattle.ob_link.specs.Reaching.{any_behind, reaches, reaches_in, reach_row, next_reach_row, EachReachesExactly}
+use Rattle.ob_session.specs.Reaches.{any_behind, reaches}
+use Rattle.ob_link.specs.Reaching.{reaches_in, reach_row, next_reach_row, EachReachesExactly}
 use Rattle.ob_link.proofs.Rows.{at_number}
 use Rattle.ob_link.proofs.ReachRows.{reaches_same, reach_next}
 

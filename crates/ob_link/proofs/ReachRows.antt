@@ -4,7 +4,8 @@ use Rattle.std.specs.Prelude.{slice_index_or}
 use Rattle.std.specs.List.{list_any}
 use Rattle.std.specs.Str.{bytes_eq}
 use Rattle.ob_session.specs.Session.{Import, Module, find_module, place_of}
-use Rattle.ob_link.specs.Reaching.{any_behind, reaches, reaches_in, reach_row, next_reach_row, reaching}
+use Rattle.ob_session.specs.Reaches.{any_behind, reaches}
+use Rattle.ob_link.specs.Reaching.{reaches_in, reach_row, next_reach_row, reaching}
 use Rattle.ob_link.proofs.Rows.{at_place, at_no_place}
 
 by_found : (modules : List Module) (k : ℕ) (name : List ℕ) (i : Import) (o : Option Module) → find_module modules i.name ≡ o → slice_index_or (reach_row modules k name) (place_of modules i.name) false ≡ any_behind o (reaches modules k name)

@@ -1,26 +1,11 @@
 -- Which modules reach a module of a name, by their imports and theirs.
-use Rattle.std.specs.Prelude.{◌≡◌, ◌↔◌, ℕ, zero, suc, List, length, map, Bool, true, false, ◌||◌, Option, Some, None, slice_get, slice_index_or}
+use Rattle.std.specs.Prelude.{◌≡◌, ◌↔◌, ℕ, List, length, map, Bool, true, false, ◌||◌, Some, None, slice_get, slice_index_or}
 use Rattle.std.specs.List.{list_any}
 use Rattle.std.specs.Str.{bytes_eq}
 use Rattle.ob_session.specs.Session.{Import, Module, find_module, place_of}
 use Rattle.ob_session.specs.Links.{Reached}
+use Rattle.ob_session.specs.Reaches.{reaches, reached_by}
 use Rattle.ob_link.specs.Faults.{all_none, fault_row}
-
--- one of the imports of what is found
-abbrev pub any_behind : Option Module → (Import → Bool) → Bool
-any_behind None reaches = false
-any_behind (Some m) reaches = list_any reaches m.imports
-
--- An import reaches a name if it is of that name, or if what is found under its own name has an import that reaches it,
--- through chains of so many imports more.
-abbrev pub reaches : List Module → ℕ → List ℕ → Import → Bool
-reaches modules zero name i = bytes_eq i.name name
-reaches modules (suc most) name i = bytes_eq i.name name || any_behind (find_module modules i.name) (reaches modules most name)
-
--- A module does if one of its imports does. A chain that goes through no module twice has no more imports than there are
--- modules.
-abbrev pub reached_by : List Module → List ℕ → Module → Bool
-reached_by modules name m = list_any (reaches modules (length modules) name) m.imports
 
 -- for each module, by its number
 abbrev pub reaching : List Module → List ℕ → List Bool

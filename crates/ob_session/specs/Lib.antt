@@ -1,5 +1,6 @@
 pub mod Session
 pub mod Links
+pub mod Reaches
 pub mod Cells
 pub mod Laws
 pub mod Rows

@@ -2,7 +2,8 @@ use Rattle.std.proofs.Common.{◌<◌, Bool, [], cond, length, List, ℕ, refl, 
 use Rattle.std.proofs.lemmas.List.{length-map}
 use Rattle.std.proofs.lemmas.Option.{slice_get_read}
 use Rattle.ob_session.specs.Session.{Module}
-use Rattle.ob_link.specs.Reaching.{reached_by, reaching}
+use Rattle.ob_session.specs.Reaches.{reached_by}
+use Rattle.ob_link.specs.Reaching.{reaching}
 use Rattle.ob_cell.proofs.Adding.{added_more, new_place}
 use Rattle.ob_cell.proofs.loaded.all_loaded.Goals as goal
 
