@@ -40,7 +40,7 @@ use Rattle.jk_log.specs.Legal.{IsLineless, MayAsk}
 use Rattle.jk_core.specs.State.{KernelState, first_of, is_cell}
 use Rattle.jk_core.specs.Steps.{allows_at, answering, begun, closing, broken, closed, failing, flushed as flushed_to, gone_on, has_lines, limit, noted, sliced, written, written_out, stopped, stops_at, with_waits, BeginsAt, Closes, GoesOn, GoesWithout, IsBrokenAt, Starts, StartsAs, StartsFirst, Takes}
 use Rattle.jk_core.specs.Kept.{HoldsAt, IsKept, IsOf, IsRunBy, IsWanting, Opens, Stands, WantsAt, AllWait, IsCellAt, IsTaskAt}
-use Rattle.jk_core.specs.Slices.{HasAsked, HasCome, IsAtWork, may_ask}
+use Rattle.jk_core.specs.Slices.{HasAsked, HasCome, IsAtWork, may_ask, place_of, work_of}
 use Rattle.jk_core.proofs.Keeps.{answering_going, answering_idle, answering_moves, answering_waits, failing_moves, first_found, flushed_runs, asking_runs, no_lines, meaning_shown, silent_slice, kept-takes, some_same, stops_same}
 use Rattle.jk_log.proofs.Logs.{input_grows}
 use Rattle.jk_core.proofs.Turns.{count_same, lacks, law_of, may_by, not_lineless, not_stopped, ran_same, seat_left, stood_at}
@@ -57,10 +57,10 @@ pub no_given : (o : Option Running) (r : Running) (P : Type 0) → o ≡ None �
 no_given o r P e f = cc
 
 -- answers that ask for no line
-pub stopped_not : turned.Stopped ≢ turned.NeedsLine
+stopped_not : turned.Stopped ≢ turned.NeedsLine
 stopped_not e = cc
 
-pub over_not : (answer : Turned) → IsOver answer → answer ≢ turned.NeedsLine
+over_not : (answer : Turned) → IsOver answer → answer ≢ turned.NeedsLine
 over_not turned.Stopped o e = absurd o
 over_not turned.NeedsLine o e = absurd o
 over_not turned.Ended o e = cc
@@ -72,6 +72,19 @@ module _ {T : Type 0} where
   closed_same answer at at' b b' t t' n n' k k' e f g h i =
       ap (λ (x : ℕ). closed answer x b t n k) e ∙ ap (λ (x : Bool). closed answer at' x t n k) f ∙ ap (λ (x : ℕ). closed answer at' b' x n k) g
       ∙ ap (λ (x : ℕ). closed answer at' b' t' x k) h ∙ ap (closed answer at' b' t' n') i
+
+  gone_waits : (text : List ℕ) (read : Bool) (at turns : ℕ) (k : KernelState T) → (gone_on read at turns text k).waits ≡ k.waits
+  gone_waits (x ∷ text) read at turns k = refl
+  gone_waits [] true at turns k = refl
+  gone_waits [] false at turns k = refl
+
+  -- a flush changes nothing of what waits
+  pub flushed_waits : (answer : Turned) (read : Bool) (at turns : ℕ) (text : List ℕ) (k : KernelState T) → (flushed_to answer read at turns text k).waits ≡ k.waits
+  flushed_waits turned.Stopped read at turns text k = gone_waits text read at turns k
+  flushed_waits turned.NeedsLine read at turns text k = refl
+  flushed_waits turned.Ended read at turns text k = refl
+  flushed_waits (turned.Trapped trap) read at turns text k = refl
+  flushed_waits turned.NoMemory read at turns text k = refl
 
   stop_same : (at at' turns turns' : ℕ) (why : Cause) (n n' : ℕ) (text : List ℕ) (k : KernelState T) → at ≡ at' → turns ≡ turns' → n ≡ n' → text ≡ [] → noted at (Stop turns why n) (noted at (Flush turns text) k) ≡ noted at' (Stop turns' why n') (noted at' (Flush turns' []) k)
   stop_same at at' turns turns' why n n' text k e f g i =
@@ -144,7 +157,7 @@ module _ {S T M : Type 0} (spoken : Spoken S T) (laws : IsLanguage spoken) (stat
   abbrev GoesTo : ℕ → Running → KernelState T → Work → KernelState T → Type 0
   GoesTo n r old work new = (nones : ℕ) × (now : Running) × (k : KernelState T) × GoesWithout spoken nones n r old now k × Closes spoken n now k work new
 
-  pub goes_ran : (turns : ℕ) (old k mid new : KernelState T) (n used c : ℕ) (answer : Turned) (a : Active M) → (h : HasCome spoken state old k n answer a) → n ≡ limit turns old → answer ≢ turned.NeedsLine → used ≡ (state a.machine).turns → c ≡ count_of old.log → mid ≡ written_out spoken answer h.stands.cell h.turns k → new ≡ closed answer a.at a.stops used c mid → (r : Running) × (running old.log ≡ Some r) × GoesOn spoken turns r old work.Ran new
+  goes_ran : (turns : ℕ) (old k mid new : KernelState T) (n used c : ℕ) (answer : Turned) (a : Active M) → (h : HasCome spoken state old k n answer a) → n ≡ limit turns old → answer ≢ turned.NeedsLine → used ≡ (state a.machine).turns → c ≡ count_of old.log → mid ≡ written_out spoken answer h.stands.cell h.turns k → new ≡ closed answer a.at a.stops used c mid → (r : Running) × (running old.log ≡ Some r) × GoesOn spoken turns r old work.Ran new
   goes_ran turns old k mid new n used c answer a h most last u counted m e =
       let s = h.stands in
       let onward : k.ran ≤ h.turns = subst (λ (x : ℕ). x ≤ h.turns) (sym (ran_same spoken s.nones n s.first old s.cell k s.without)) h.onward in (
@@ -162,7 +175,7 @@ module _ {S T M : Type 0} (spoken : Spoken S T) (laws : IsLanguage spoken) (stat
       by wants.Asked asked = absurd (not_lineless a.allows (left a.seat a.at k.log) k.log r of.allows (seat_left k.log r a of) may (none asked))
       by (wants.Given place) asked = absurd asked
 
-  pub goes_asks : (turns : ℕ) (old k mid new : KernelState T) (n used c : ℕ) (a : Active M) → (h : HasCome spoken state old k n turned.NeedsLine a) → n ≡ limit turns old → IsTrue (may_ask a k.log) → used ≡ (state a.machine).turns → c ≡ count_of old.log → mid ≡ written_out spoken turned.NeedsLine h.stands.cell h.turns k → new ≡ noted a.at Ask mid → (r : Running) × (running old.log ≡ Some r) × GoesOn spoken turns r old work.NeedsLine new
+  goes_asks : (turns : ℕ) (old k mid new : KernelState T) (n used c : ℕ) (a : Active M) → (h : HasCome spoken state old k n turned.NeedsLine a) → n ≡ limit turns old → IsTrue (may_ask a k.log) → used ≡ (state a.machine).turns → c ≡ count_of old.log → mid ≡ written_out spoken turned.NeedsLine h.stands.cell h.turns k → new ≡ noted a.at Ask mid → (r : Running) × (running old.log ≡ Some r) × GoesOn spoken turns r old work.NeedsLine new
   goes_asks turns old k mid new n used c a h most may u counted m e =
       let s = h.stands in (
         s.first,
@@ -179,6 +192,19 @@ module _ {S T M : Type 0} (spoken : Spoken S T) (laws : IsLanguage spoken) (stat
           ),
         ),
       )
+
+  goes_at : (answer : Turned) (turns : ℕ) (old k mid new : KernelState T) (n used c : ℕ) (a : Active M) → (h : HasCome spoken state old k n answer a) → n ≡ limit turns old → (answer ≡ turned.NeedsLine → IsTrue (may_ask a k.log)) → used ≡ (state a.machine).turns → c ≡ count_of old.log → mid ≡ written_out spoken answer h.stands.cell h.turns k → new ≡ closed answer a.at a.stops used c mid → (r : Running) × (running old.log ≡ Some r) × GoesOn spoken turns r old (work_of answer) new
+  goes_at turned.Stopped turns old k mid new n used c a h most may u counted m e = goes_ran turns old k mid new n used c turned.Stopped a h most stopped_not u counted m e
+  goes_at turned.NeedsLine turns old k mid new n used c a h most may u counted m e = goes_asks turns old k mid new n used c a h most (may refl) u counted m e
+  goes_at turned.Ended turns old k mid new n used c a h most may u counted m e = goes_ran turns old k mid new n used c turned.Ended a h most (over_not turned.Ended tt) u counted m e
+  goes_at (turned.Trapped trap) turns old k mid new n used c a h most may u counted m e = goes_ran turns old k mid new n used c (turned.Trapped trap) a h most (over_not (turned.Trapped trap) tt) u counted m e
+  goes_at turned.NoMemory turns old k mid new n used c a h most may u counted m e = goes_ran turns old k mid new n used c turned.NoMemory a h most (over_not turned.NoMemory tt) u counted m e
+
+  -- the cell that runs goes on, whatever the machine answers
+  pub goes_closed : (answer : Turned) (w : Work) (turns : ℕ) (old k mid new : KernelState T) (n used c : ℕ) (a : Active M) → (h : HasCome spoken state old k n answer a) → n ≡ limit turns old → (answer ≡ turned.NeedsLine → IsTrue (may_ask a k.log)) → used ≡ (state a.machine).turns → c ≡ count_of old.log → mid ≡ written_out spoken answer h.stands.cell h.turns k → w ≡ work_of answer → new ≡ closed answer a.at a.stops used c mid → (r : Running) × (running old.log ≡ Some r) × GoesOn spoken turns r old w new
+  goes_closed answer w turns old k mid new n used c a h most may u counted m f e =
+      subst (λ (w : Work). (r : Running) × (running old.log ≡ Some r) × GoesOn spoken turns r old w new) (sym f)
+      (goes_at answer turns old k mid new n used c a h most may u counted m e)
 
   pub goes_stuck : (turns : ℕ) (old k new : KernelState T) (n used : ℕ) (a : Active M) → (h : HasCome spoken state old k n turned.NeedsLine a) → n ≡ limit turns old → IsLineless k.log h.stands.cell → new ≡ written_out spoken turned.NeedsLine h.stands.cell h.turns k → (r : Running) × (running old.log ≡ Some r) × GoesOn spoken turns r old work.NoMemory new
   goes_stuck turns old k new n used a h most none e =
@@ -276,7 +302,7 @@ module _ {S T M : Type 0} (spoken : Spoken S T) (laws : IsLanguage spoken) (stat
       (wanting_on a.wants (noted h.stands.cell.at (Flush (meaning spoken k.log h.stands.cell h.turns).turns []) k).log h.stands.cell (flushed_at (meaning spoken k.log h.stands.cell h.turns).turns h.stands.cell) (state m) h.stands.asked (not_asked old k n a h) refl refl)
   on_at [] false old k n d a m h f is same counted = silent_stands old k n d a m h f is same counted
 
-  pub on_stands : (old k mid : KernelState T) (n : ℕ) (d : Desk S M) (a : Active M) (m : M) → (h : HasCome spoken state old k n turned.Stopped a) → mid ≡ written_out spoken turned.Stopped h.stands.cell h.turns k → state m ≡ output_taken (state a.machine) → d.count ≡ count_of old.log → Stands spoken state mid (record d { place = Runs (record a { read = false; machine = m }) })
+  on_stands : (old k mid : KernelState T) (n : ℕ) (d : Desk S M) (a : Active M) (m : M) → (h : HasCome spoken state old k n turned.Stopped a) → mid ≡ written_out spoken turned.Stopped h.stands.cell h.turns k → state m ≡ output_taken (state a.machine) → d.count ≡ count_of old.log → Stands spoken state mid (record d { place = Runs (record a { read = false; machine = m }) })
   on_stands old k mid n d a m h e same counted =
       subst (λ (k : KernelState T). Stands spoken state k (record d { place = Runs (record a { read = false; machine = m }) })) (sym e)
       (on_at _ _ old k n d a m h refl refl same counted)
@@ -323,7 +349,7 @@ module _ {S T M : Type 0} (spoken : Spoken S T) (laws : IsLanguage spoken) (stat
         wants = (asking r, now, read, w);
       }
 
-  pub asks_stands : (old k mid new : KernelState T) (n : ℕ) (d : Desk S M) (a : Active M) (m : M) → (h : HasCome spoken state old k n turned.NeedsLine a) → mid ≡ written_out spoken turned.NeedsLine h.stands.cell h.turns k → new ≡ noted a.at Ask mid → state m ≡ output_taken (state a.machine) → d.count ≡ count_of old.log → Stands spoken state new (record d { place = Runs (record a { wants = wants.Asked; read = false; machine = m }) })
+  asks_stands : (old k mid new : KernelState T) (n : ℕ) (d : Desk S M) (a : Active M) (m : M) → (h : HasCome spoken state old k n turned.NeedsLine a) → mid ≡ written_out spoken turned.NeedsLine h.stands.cell h.turns k → new ≡ noted a.at Ask mid → state m ≡ output_taken (state a.machine) → d.count ≡ count_of old.log → Stands spoken state new (record d { place = Runs (record a { wants = wants.Asked; read = false; machine = m }) })
   asks_stands old k mid new n d a m h e f same counted =
       let s = h.stands in
       let flat = written_out spoken turned.NeedsLine s.cell h.turns k in
@@ -358,7 +384,7 @@ module _ {S T M : Type 0} (spoken : Spoken S T) (laws : IsLanguage spoken) (stat
       stands_failing b (noted at (Stop t cause.Memory n) (noted at (Flush t text) k)) d (rests_stands (noted at (Stop t cause.Memory n) (noted at (Flush t text) k)) d s counted rests refl is)
 
   -- a cell that is over
-  pub over_stands : (old k mid new : KernelState T) (n used c : ℕ) (answer : Turned) (d e : Desk S M) (a : Active M) (m : M) → (h : HasCome spoken state old k n answer a) → IsOver answer → used ≡ (state a.machine).turns → c ≡ count_of old.log → mid ≡ written_out spoken answer h.stands.cell h.turns k → new ≡ closed answer a.at a.stops used c mid → state m ≡ output_taken (state a.machine) → d.count ≡ count_of old.log → e.count ≡ d.count → e.place ≡ Resting (here (state m)).session → Stands spoken state new e
+  over_stands : (old k mid new : KernelState T) (n used c : ℕ) (answer : Turned) (d e : Desk S M) (a : Active M) (m : M) → (h : HasCome spoken state old k n answer a) → IsOver answer → used ≡ (state a.machine).turns → c ≡ count_of old.log → mid ≡ written_out spoken answer h.stands.cell h.turns k → new ≡ closed answer a.at a.stops used c mid → state m ≡ output_taken (state a.machine) → d.count ≡ count_of old.log → e.count ≡ d.count → e.place ≡ Resting (here (state m)).session → Stands spoken state new e
   over_stands old k mid new n used c answer d e a m h over u counted w f same dc ec place =
       let s = h.stands in
       let t = (meaning spoken k.log s.cell h.turns).turns in
@@ -367,6 +393,22 @@ module _ {S T M : Type 0} (spoken : Spoken S T) (laws : IsLanguage spoken) (stat
       subst (λ (k : KernelState T). Stands spoken state k e) (sym (closed_as old k mid new n used c answer a h u counted w f))
       (over_at answer _ k e s.cell.at t (count_of k.log) _ s.cell.request.stop_on_error (here (state m)).session over
       (ec ∙ dc ∙ sym (count_same spoken s.nones n s.first old s.cell k s.without), place, ended_session k.log s.cell t _ s.runs left))
+
+  -- what stands beside the script is all that counts of a desk
+  placed : (k : KernelState T) (d e : Desk S M) (p : Place S M) → e.count ≡ d.count → e.place ≡ p → Stands spoken state k (record d { place = p }) → Stands spoken state k e
+  placed k d e p c f h = record {
+    count = c ∙ h.count;
+    place = subst (λ (p : Place S M). HoldsAt spoken state (session spoken k.log) (running k.log) k.ran p) (sym f) h.place;
+    wants = subst (λ (p : Place S M). WantsAt state k.log (running k.log) p) (sym f) h.wants;
+  }
+
+  -- what stands beside the script at the end of a slice, whatever the machine answers
+  pub closed_stands : (answer : Turned) (old k mid new : KernelState T) (n used c : ℕ) (d e : Desk S M) (a : Active M) (m : M) → (h : HasCome spoken state old k n answer a) → used ≡ (state a.machine).turns → c ≡ count_of old.log → mid ≡ written_out spoken answer h.stands.cell h.turns k → new ≡ closed answer a.at a.stops used c mid → state m ≡ output_taken (state a.machine) → d.count ≡ count_of old.log → e.count ≡ d.count → e.place ≡ place_of answer (here (state m)).session (record a { read = false; machine = m }) → Stands spoken state new e
+  closed_stands turned.Stopped old k mid new n used c d e a m h u counted w f same dc ec place = placed new d e _ ec place (on_stands old k new n d a m h (f ∙ w) same dc)
+  closed_stands turned.NeedsLine old k mid new n used c d e a m h u counted w f same dc ec place = placed new d e _ ec place (asks_stands old k mid new n d a m h w f same dc)
+  closed_stands turned.Ended old k mid new n used c d e a m h u counted w f same dc ec place = over_stands old k mid new n used c turned.Ended d e a m h tt u counted w f same dc ec place
+  closed_stands (turned.Trapped trap) old k mid new n used c d e a m h u counted w f same dc ec place = over_stands old k mid new n used c (turned.Trapped trap) d e a m h tt u counted w f same dc ec place
+  closed_stands turned.NoMemory old k mid new n used c d e a m h u counted w f same dc ec place = over_stands old k mid new n used c turned.NoMemory d e a m h tt u counted w f same dc ec place
 
   -- what stopping comes to
   pub stop_moves : (k one two : KernelState T) (d : Desk S M) (a : Active M) (turns n : ℕ) (text : List ℕ) (why : Cause) → d.count ≡ count_of k.log → IsRunBy spoken state (session spoken k.log) (running k.log) k.ran a → turns ≡ (state a.machine).turns → text ≡ [] → n ≡ d.count → one ≡ noted a.at (Flush turns text) k → two ≡ noted a.at (Stop turns why n) one → two ≡ stopped why (running k.log) k

@@ -284,8 +284,3 @@ module _ {S T M : Type 0} (spoken : Spoken S T) (laws : IsLanguage spoken) (stat
   is_stuck old k got n a answer e h may g =
       let come_so = known old k n a answer e h in
       subst (λ (j : KernelState T). HasStuck spoken state old j n a) (sym g) (come_so, lineless k.log come_so.stands.cell a come_so.stands.of may)
-
-  -- the flush, where the answer is known
-  pub has_run : (old k mid : KernelState T) (n used : ℕ) (answer so : Turned) (a : Active M) (text : List ℕ) → answer ≡ so → HasCome spoken state old k n answer a → used ≡ (state a.machine).turns → text ≡ unshown (state a.machine) → mid ≡ flushed answer a.read a.at used text k → (h : HasCome spoken state old k n so a) × (mid ≡ written_out spoken so h.stands.cell h.turns k)
-  has_run old k mid n used answer so a text e c u t f =
-      subst (λ (x : Turned). (h : HasCome spoken state old k n x a) × (mid ≡ written_out spoken x h.stands.cell h.turns k)) e (c, flushed_as old k mid n used answer a text c u t f)

@@ -8,8 +8,12 @@ use Rattle.jk_language.specs.Spoken.{Spoken}
 use Rattle.jk_language.specs.MachineState.{MachineState, here}
 use Rattle.jk_language.specs.Runs.{IsGiven, OutcomeIs, tells_end, tells_line}
 use Rattle.jk_core.specs.declared.desk.Active.{Active}
+use Rattle.jk_core.specs.declared.desk.Place.{Place}
+use Rattle.jk_core.specs.declared.desk.Place.TheVariants.{Resting, Running as Runs}
 use Rattle.jk_core.specs.declared.desk.Wants.{Wants}
 use Rattle.jk_core.specs.declared.desk.Wants.TheVariants.{Nothing, Asked, Given}
+use Rattle.jk_core.specs.declared.kernel.Work.{Work}
+use Rattle.jk_core.specs.declared.kernel.Work.TheVariants.{Ran, NeedsLine}
 use Rattle.jk_log.specs.Log.{Log, Running, running, session, meaning, stood, left}
 use Rattle.jk_log.specs.Legal.{IsLineless}
 use Rattle.jk_core.specs.State.{KernelState}
@@ -77,3 +81,19 @@ pub record HasCome {S T M : Type 0} (spoken : Spoken S T) (state : M → Machine
 abbrev pub HasStuck : {S T M : Type 0} → Spoken S T → (M → MachineState S) → KernelState T → KernelState T → ℕ → Active M → Type 0
 HasStuck spoken state old k n active =
     (c : HasCome spoken state old k n turned.NeedsLine active) × IsLineless k.log c.stands.cell
+
+-- what a kernel says of its work at the end of a slice, by the machine's answer
+abbrev pub work_of : Turned → Work
+work_of turned.Stopped = Ran
+work_of turned.Ended = Ran
+work_of (turned.Trapped trap) = Ran
+work_of turned.NeedsLine = NeedsLine
+work_of turned.NoMemory = Ran
+
+-- what stands beside the script then: the cell, which may have asked, or the session that it leaves
+abbrev pub place_of : {S M : Type 0} → Turned → S → Active M → Place S M
+place_of turned.Stopped session active = Runs active
+place_of turned.Ended session active = Resting session
+place_of (turned.Trapped trap) session active = Resting session
+place_of turned.NeedsLine session active = Runs (record active { wants = Asked })
+place_of turned.NoMemory session active = Resting session

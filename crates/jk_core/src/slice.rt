@@ -2,9 +2,9 @@
 
 ghost use Rattle.std.specs.Prelude.{false, IsTrue, ◌&&◌, ◌≡◌, ℕ, ◌+◌, ◌-◌, ◌<◌, ◌≤◌, ◌^◌, Some, None, if◌then◌else◌, length, IfSome, IfNone, OnOk, OnErr};
 ghost use Rattle.jk_log.specs.Log.{count as count_of, left, running, Running};
-ghost use Rattle.jk_core.specs.Steps.{flushed, failing, limit as limit_of, noted, GoesOn};
+ghost use Rattle.jk_core.specs.Steps.{closed, flushed, failing, limit as limit_of, noted, GoesOn};
 ghost use Rattle.jk_core.specs.Kept.{Stands};
-ghost use Rattle.jk_core.specs.Slices.{IsAtWork, HasCome, HasStuck, may_ask as may_ask_of};
+ghost use Rattle.jk_core.specs.Slices.{IsAtWork, HasCome, HasStuck, may_ask as may_ask_of, work_of, place_of};
 ghost use Rattle.jk_language.specs.MachineState.{here};
 ghost use Rattle.jk_language.specs.Runs.{HasTurned};
 
@@ -16,7 +16,7 @@ use jk_language::{Language, Turned};
 use jk_log::{Cause, Ending, Kind};
 use json_form::Text;
 
-/// Runs a cell for at most so many turns, flushes it, and marks its end if it ended.
+/// Runs a cell for at most so many turns, flushes it, and closes the slice by its answer.
 pub(crate) fn go_on<L: Language>(
     script: &mut Script<L::Tree>,
     desk: &mut Desk<L::Session, L::Machine>,
@@ -43,34 +43,7 @@ pub(crate) fn go_on<L: Language>(
     };
     flush(script, &answer, &active, turns, text);
     active.read = false;
-    let count = desk.count;
-    match answer {
-        Turned::Stopped => desk.place = Place::Running(active),
-        Turned::NeedsLine => {
-            script.note(active.at, Kind::Ask);
-            active.wants = Wants::Asked;
-            desk.place = Place::Running(active);
-            return Work::NeedsLine;
-        }
-        Turned::Ended => {
-            let ending = Ending::Completed;
-            end::<L>(script, desk, active, Kind::End { ending, count }, false);
-        }
-        Turned::Trapped(trap) => {
-            let ending = Ending::Trapped(trap);
-            end::<L>(script, desk, active, Kind::End { ending, count }, true);
-        }
-        Turned::NoMemory => {
-            let cause = Cause::Memory;
-            let kind = Kind::Stop {
-                turns,
-                cause,
-                count,
-            };
-            end::<L>(script, desk, active, kind, true);
-        }
-    }
-    Work::Ran
+    close::<L>(script, desk, active, answer, turns)
 }
 
 /// Runs a cell to so many turns in all. Where it lacks a line, that is marked, and it goes on without one; where that
@@ -147,6 +120,50 @@ fn flush<T: Drop, M>(
             script.note(at, Kind::Flush { turns, text });
         }
     }
+}
+
+/// Closes a slice that was flushed. The cell runs on, asks for a line, or has ended, which is marked.
+fn close<L: Language>(
+    script: &mut Script<L::Tree>,
+    desk: &mut Desk<L::Session, L::Machine>,
+    mut active: Active<L::Machine>,
+    answer: Turned,
+    turns: u64,
+) -> Work
+    requires { 1 + length script.old.state.waits ≤ script.old.room }
+    ensures work { result ≡ work_of answer }
+    ensures state { script.new.state ≡ closed answer active.at active.stops turns desk.old.count script.old.state }
+    ensures place { desk.new.place ≡ place_of answer (here (L.state active.machine)).session active }
+    ensures count { desk.new.count ≡ desk.old.count }
+{
+    let count = desk.count;
+    match answer {
+        Turned::Stopped => desk.place = Place::Running(active),
+        Turned::NeedsLine => {
+            script.note(active.at, Kind::Ask);
+            active.wants = Wants::Asked;
+            desk.place = Place::Running(active);
+            return Work::NeedsLine;
+        }
+        Turned::Ended => {
+            let ending = Ending::Completed;
+            end::<L>(script, desk, active, Kind::End { ending, count }, false);
+        }
+        Turned::Trapped(trap) => {
+            let ending = Ending::Trapped(trap);
+            end::<L>(script, desk, active, Kind::End { ending, count }, true);
+        }
+        Turned::NoMemory => {
+            let cause = Cause::Memory;
+            let kind = Kind::Stop {
+                turns,
+                cause,
+                count,
+            };
+            end::<L>(script, desk, active, kind, true);
+        }
+    }
+    Work::Ran
 }
 
 /// Marks the end of a cell, which leaves its session.

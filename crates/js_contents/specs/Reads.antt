@@ -4,7 +4,7 @@ use Rattle.std.specs.Prelude.{◌≡◌, ◌==◌, ℕ, Bool, false, List, Optio
 use Rattle.std.specs.List.{after_first}
 use Rattle.std.specs.Str.{bytes_eq}
 use Rattle.serde_json.specs.Data.{Data}
-use Rattle.nb_doc.specs.Writing.{notebook_text}
+use Rattle.nb_doc.specs.Writing.{array_of, notebook_text}
 use Rattle.js_http.specs.Targets.{query_value}
 use Rattle.js_http.specs.declared.request.Request.{Request}
 use Rattle.js_http.specs.declared.response.ErrorStatus.{ErrorStatus}
@@ -19,7 +19,7 @@ use Rattle.js_tables.specs.declared.forms.Kind.TheVariants as kind
 use Rattle.js_tables.specs.declared.plan.Plan.{Plan}
 use Rattle.js_tables.specs.declared.refusal.Refusal.{Refusal}
 use Rattle.js_tables.specs.Bodies.{body_of}
-use Rattle.js_tables.specs.Forms.{body_text, kind_name, array_of}
+use Rattle.js_tables.specs.Forms.{body_text, kind_name}
 use Rattle.js_tables.specs.Plans.{◌>>=◌, Gives, Found, reply}
 use Rattle.js_tables.specs.Tables.{Rows}
 use Rattle.js_contents.specs.declared.place.Place.{Place}

@@ -11,7 +11,8 @@ use crate::look::has_folder;
 use crate::place::below;
 use crate::read::bare_value;
 use js_shelf::{Name, Shelf};
-use js_tables::{Row, Tables};
+use js_tables::Tables;
+use nb_doc::Row;
 use serde_json::Value;
 use std::alloc::Global;
 

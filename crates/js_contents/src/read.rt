@@ -17,9 +17,9 @@ use base64::engine::general_purpose::STANDARD;
 use js_http::{Bytes, ErrorStatus, Request, Response, query_value};
 use js_shelf::{Item, Name, Shelf};
 use js_tables::{
-    About, Kind, Plan, Refusal, Row, Tables, json_body, model_value, read_body, reply, text_value,
+    About, Kind, Plan, Refusal, Tables, json_body, model_value, read_body, reply, text_value,
 };
-use nb_doc::write_notebook;
+use nb_doc::{Row, write_notebook};
 use serde_json::Value;
 use std::alloc::{AllocError, Global};
 

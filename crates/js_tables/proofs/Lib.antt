@@ -1,4 +1,3 @@
-pub mod Rows
 pub mod Giving
 pub mod Dates
 pub mod SessionForms

@@ -1,10 +1,10 @@
 -- To be believed.
 -- The JSON of answers: compact, with sorted keys.
 use Rattle.std.specs.Prelude.{ℕ, true, List, [], ◌∷◌, ◌++◌, map, Option, Some, None, codes}
-use Rattle.serde_json.specs.Data.{Data, null, boolean, string, array, object, number, unsigned, no_items, Members, no_members, member}
-use Rattle.serde_json.specs.View.{items_of}
+use Rattle.serde_json.specs.Data.{Data, null, boolean, string, array, number, unsigned, no_items}
 use Rattle.serde_json.specs.Written.{compact_text}
 use Rattle.json_form.specs.Forms.{empty_object}
+use Rattle.nb_doc.specs.Writing.{array_of, fields}
 use Rattle.js_tables.specs.declared.tables.State.{State}
 use Rattle.js_tables.specs.declared.tables.State.TheVariants.{Busy, Idle}
 use Rattle.js_tables.specs.declared.tables.Kernel.{Kernel}
@@ -12,17 +12,6 @@ use Rattle.js_tables.specs.declared.tables.Session.{Session}
 use Rattle.js_tables.specs.declared.forms.Kind.{Kind}
 use Rattle.js_tables.specs.declared.forms.Kind.TheVariants.{Directory, File, Notebook}
 use Rattle.js_tables.specs.declared.forms.About.{About}
-
--- an object of these fields, which stand in the order of their keys
-abbrev pub members : List (List ℕ × Data) → Members
-members [] = no_members
-members (m ∷ ms) = member m.0 m.1 (members ms)
-
-abbrev pub fields : List (List ℕ × Data) → Data
-fields ms = object (members ms)
-
-abbrev pub array_of : List Data → Data
-array_of ds = array (items_of ds)
 
 -- the bytes of a body
 unfoldable pub body_text : Data → List ℕ

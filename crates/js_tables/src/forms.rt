@@ -5,10 +5,10 @@ ghost use Rattle.serde_json.specs.View.{view};
 ghost use Rattle.serde_json.specs.Written.{has_float};
 ghost use Rattle.js_tables.specs.Forms as spec;
 
-use crate::row::Row;
 use crate::tables::{Kernel, Session, State};
 use js_http::Bytes;
 use json_form::Text;
+use nb_doc::Row;
 use serde_json::{Value, json};
 use std::alloc::{AllocError, Global};
 

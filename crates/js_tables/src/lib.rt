@@ -8,7 +8,6 @@ mod given;
 mod moment;
 mod plan;
 mod refusal;
-mod row;
 mod sessions;
 mod tables;
 
@@ -21,6 +20,5 @@ pub use given::Given;
 pub use moment::date_text;
 pub use plan::{Answer, Change, Command, Plan, Update, reply};
 pub use refusal::Refusal;
-pub use row::Row;
 pub use sessions::{find_by_path, find_by_session, kernel_copy, session_copy, with_session};
 pub use tables::{Dated, Kernel, Recording, Session, State, Tables, find_kernel};

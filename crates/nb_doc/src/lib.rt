@@ -27,4 +27,5 @@ pub use names::Names;
 pub use notebook::{Cell, Content, Execution, Notebook, Output};
 pub use raising::free_name;
 pub use reading::read_notebook;
+pub use row::Row;
 pub use writing::write_notebook;

@@ -10,7 +10,7 @@ use std::alloc::{AllocError, Global};
 use std::marker::Model;
 
 /// Values whose numbers are whole, in order.
-pub(crate) struct Row {
+pub struct Row {
     values: Vec<Value>,
 }
 
@@ -39,7 +39,8 @@ impl Model for Row {
 }
 
 impl Row {
-    pub(crate) fn empty(alloc: Global) -> Row
+    /// No values.
+    pub fn empty(alloc: Global) -> Row
         ensures { result ≡ [] }
     {
         Row {
@@ -48,7 +49,7 @@ impl Row {
     }
 
     /// One more at the end.
-    pub(crate) fn push(&mut self, value: Value) -> Result<(), AllocError>
+    pub fn push(&mut self, value: Value) -> Result<(), AllocError>
         requires { has_float (data_of value) ≡ false }
         ensures ok { OnOk result (self.new ≡ self.old ++ data_of value ∷ []) }
         ensures err { OnErr result (self.new ≡ self.old) }
@@ -58,7 +59,7 @@ impl Row {
     }
 
     /// The list.
-    pub(crate) fn into_value(self) -> Value
+    pub fn into_value(self) -> Value
         ensures form { data_of result ≡ array_of self }
         ensures whole { has_float (data_of result) ≡ false }
     {

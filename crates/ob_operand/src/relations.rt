@@ -136,13 +136,13 @@ fn values_related(
     alloc: Global,
     relation: Relation,
     span: Span,
-    one: Basic,
-    left: TypedExpr,
-    other: Basic,
-    right: TypedExpr,
+    left: (Basic, TypedExpr),
+    right: (Basic, TypedExpr),
 ) -> Result<Operand, Rejected>
-    ensures { Judges (spec.values_related relation span.line one left other right) result }
+    ensures { Judges (spec.values_related relation span.line left.0 left.1 right.0 right.1) result }
 {
+    let (one, left) = left;
+    let (other, right) = right;
     if are_related(relation, one, other) {
         compared(alloc, relation, span, left, right)
     } else {
@@ -178,61 +178,19 @@ pub fn related(
     ensures { Judges (spec.related relation span.line variables left right) result }
 {
     match (left, right) {
-        (Operand::Value(b, x), Operand::Value(c, y)) => {
-            let value = values_related(alloc, relation, span, b, x, c, y)?;
+        (Operand::Value(one, left), Operand::Value(other, right)) => {
+            let value = values_related(alloc, relation, span, (one, left), (other, right))?;
             Ok((value, variables))
         }
-        (Operand::Value(b, x), Operand::Text(t)) => {
-            let (left, right) = (Operand::Value(b, x), Operand::Text(t));
+        (Operand::Value(_, _), Operand::Place(_, _))
+        | (Operand::Place(_, _), Operand::Value(_, _)) => {
+            Err(Rejected::Rule(broken(RuleCode::Types, span)))
+        }
+        (left @ Operand::Value(_, _), right @ Operand::Text(_))
+        | (left @ Operand::Text(_), right @ Operand::Value(_, _)) => {
             let value = characters_related(alloc, relation, span, left, right)?;
             Ok((value, variables))
         }
-        (Operand::Text(t), Operand::Value(c, y)) => {
-            let (left, right) = (Operand::Text(t), Operand::Value(c, y));
-            let value = characters_related(alloc, relation, span, left, right)?;
-            Ok((value, variables))
-        }
-        (Operand::Value(_, _), Operand::Place(_, _)) => {
-            Err(Rejected::Rule(broken(RuleCode::Types, span)))
-        }
-        (Operand::Place(_, _), Operand::Value(_, _)) => {
-            Err(Rejected::Rule(broken(RuleCode::Types, span)))
-        }
-        (Operand::Text(t), Operand::Text(u)) => {
-            texts_related(
-                relation,
-                span,
-                variables,
-                Operand::Text(t),
-                Operand::Text(u),
-            )
-        }
-        (Operand::Text(t), Operand::Place(u, e)) => {
-            texts_related(
-                relation,
-                span,
-                variables,
-                Operand::Text(t),
-                Operand::Place(u, e),
-            )
-        }
-        (Operand::Place(t, d), Operand::Text(u)) => {
-            texts_related(
-                relation,
-                span,
-                variables,
-                Operand::Place(t, d),
-                Operand::Text(u),
-            )
-        }
-        (Operand::Place(t, d), Operand::Place(u, e)) => {
-            texts_related(
-                relation,
-                span,
-                variables,
-                Operand::Place(t, d),
-                Operand::Place(u, e),
-            )
-        }
+        (left, right) => texts_related(relation, span, variables, left, right),
     }
 }

@@ -47,6 +47,8 @@ pub struct Play<'a> {
 struct Screen {
     follower: Follower<TestLanguage>,
     entries: Vec<Entry>,
+    /// How many entries it reads in all.
+    all: usize,
 }
 
 /// A seat, and what it sends next.
@@ -142,18 +144,18 @@ fn send_at_cue<R: Wait>(rt: &R, sender: Sender, shown: usize) -> Sender {
     }
 }
 
-/// Makes rounds until so many entries were shown.
+/// Makes rounds until the screen was shown all its entries.
 fn run<R: Wait>(
     rt: &R,
     alloc: Global,
     driver: Driver<TestLanguage>,
     screen: Screen,
     sender: Sender,
-    all: usize,
 ) -> (Driver<TestLanguage>, Result<Vec<Entry>, AllocError>) {
     let Screen {
         mut follower,
         mut entries,
+        all,
     } = screen;
     let mut driver = driver;
     let mut sender = sender;
@@ -208,7 +210,6 @@ fn perform<R>(
     end: Parser,
     screen: Screen,
     sender: Sender,
-    all: usize,
 ) -> Result<Vec<Entry>, AllocError>
 where
     R: Threads + Wait + Clock + Copy + Send + 'static,
@@ -220,7 +221,7 @@ where
             return Err(error);
         }
     };
-    let (driver, entries) = run(&rt, alloc, driver, screen, sender, all);
+    let (driver, entries) = run(&rt, alloc, driver, screen, sender);
     finish(&rt, driver);
     drop(parser.join(&rt));
     entries
@@ -253,7 +254,11 @@ where
         followers,
     } = Board::<TestLanguage>::new(&rt, alloc)?;
     let follower = followers.two;
-    let screen = Screen { follower, entries };
+    let screen = Screen {
+        follower,
+        entries,
+        all,
+    };
     let driver = Driver::new(alloc, kernel, taker, pool, publisher);
-    Ok(perform(rt, alloc, driver, end, screen, sender, all)?)
+    Ok(perform(rt, alloc, driver, end, screen, sender)?)
 }
