@@ -31,7 +31,7 @@ fn times(count: usize, each: usize) -> Result<usize, AllocError>
 
 /// How many cells a variable of this shape has. There is no room for 2^64.
 #[cycle(cells)]
-#[tactic(auto, using(crate::proofs::Tables::array_size, crate::proofs::Tables::record_size, crate::proofs::Tables::array_zero))]
+#[tactic(auto, using(crate::proofs::Tables::array_size, crate::proofs::Tables::record_size, ob_mean::proofs::Zeros::array_zero))]
 pub fn shape_cells(shape: &Shape) -> Result<usize, AllocError>
     ensures { IfOk result (λ n. n ≡ size (zero_of shape.now)) }
 {

@@ -370,9 +370,7 @@ fn object_keeps(
             && leads(procedure, rows, known, next, 1, None),
         Instr::LoadAt(root) => lie(own, *root, top, 1)
             && leads(procedure, rows, known, next, 1, Some(Kind::Number)),
-        Instr::StoreAt(root) => lie(own, *root, under, 1)
-            && leads(procedure, rows, known, next, 2, None),
-        Instr::AdjustAt(_, root) => lie(own, *root, under, 1)
+        Instr::StoreAt(root) | Instr::AdjustAt(_, root) => lie(own, *root, under, 1)
             && leads(procedure, rows, known, next, 2, None),
         Instr::Copy(target, source, cells) => {
             lie(own, *target, under, *cells)

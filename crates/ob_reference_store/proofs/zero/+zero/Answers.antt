@@ -1,7 +1,7 @@
 use Rattle.std.proofs.Common.{sym, ap, ◌∙◌}
 use Rattle.ob_mean.specs.Values.{row}
 use Rattle.ob_mean.specs.Shapes.{zero_of}
-use Rattle.ob_reference_store.proofs.Zeros.{array_zero}
+use Rattle.ob_mean.proofs.Zeros.{array_zero}
 use Rattle.ob_reference_store.proofs.zero.+zero.Goals as goal
 
 pub zero_of-returns-in_ok-equal_row-in-Array : goal.zero_of-returns-in_ok-equal_row-in-Array
