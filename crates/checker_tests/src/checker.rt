@@ -1,3 +1,5 @@
+//! Texts and the refusals of the checker.
+
 use ob_base::{Code, Items, Refused, Text};
 use ob_check::{Checked, check};
 use ob_parse::parse_text;
@@ -39,7 +41,7 @@ fn module_code(alloc: Global, inside: &str) -> Result<Option<Code>, Refused> {
 const NAMES: &str =
     "IMPORT In, Out; CONST k = 1; TYPE R = RECORD a: INTEGER END; VAR x, y: INTEGER; b: BYTE; c: CHAR; t: BOOLEAN; s: ARRAY 4 OF CHAR; r, q: R; u: ARRAY 3 OF INTEGER; PROCEDURE P(i: INTEGER; VAR j: INTEGER; v: R; o: ARRAY OF INTEGER); BEGIN FOR i := 0 TO j DO END END P; PROCEDURE F(): INTEGER; RETURN 1 END F; PROCEDURE Z; END Z;";
 
-/// The code of statements behind these names.
+/// The code of statements after these names.
 fn body_code(alloc: Global, body: &str) -> Result<Option<Code>, Refused> {
     let inside = format!(in alloc; "{NAMES} BEGIN {body}")?;
     module_code(alloc, inside.as_str())

@@ -1,3 +1,5 @@
+//! Limits of nesting and of sizes in the checker.
+
 use ob_base::{Boxed, Code, Items, Refused, Text};
 use ob_check::check;
 use ob_parse::parse_text;
@@ -80,7 +82,7 @@ fn open_arrays_of_open_arrays(rt: HostRuntime) -> Result<(), Fail> {
     Ok(())
 }
 
-/// What stands before and behind so many nested parentheses round 1.
+/// What stands before and after so many nested parentheses round 1.
 fn enclosed(alloc: Global, before: &str, depth: usize, behind: &str) -> Result<String, AllocError> {
     let mut text = String::new(alloc);
     text.push_str(before)?;

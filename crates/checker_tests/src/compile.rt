@@ -1,3 +1,5 @@
+//! Checked modules and the size of their code.
+
 ghost use Rattle.ob_fit.specs.Solid.{EachSolid};
 
 use ob_base::Refused;

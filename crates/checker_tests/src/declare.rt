@@ -1,3 +1,5 @@
+//! Declarations and headings.
+
 use ob_base::{Code, Refused, Text};
 use ob_declare::{Entered, declare_all, declare_module, enter_procedure, interface_of};
 use ob_parse::parse_text;
@@ -49,7 +51,7 @@ fn a_code_for_each_broken_rule(rt: HostRuntime) -> Result<(), Fail> {
     Ok(())
 }
 
-/// The scope inside the first procedure of a module, behind its variables.
+/// The scope inside the first procedure of a module, after its variables.
 fn inside(alloc: Global, modules: &Imports, module: &Module) -> Result<Scope, Refused> {
     let scope = declare_module(alloc, modules, module)?;
     match module.declarations.get().procedures.as_slice() {

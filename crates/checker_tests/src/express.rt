@@ -1,3 +1,5 @@
+//! Expressions and assignments.
+
 use ob_base::{Code, Refused};
 use ob_declare::{declare_module, enter_procedure};
 use ob_express::{
@@ -39,7 +41,7 @@ fn site_of<'a>(alloc: Global, imports: &'a Imports, scope: &'a Scope) -> Site<'a
     }
 }
 
-/// The scope behind the declarations of a module, the first procedure among them.
+/// The scope after the declarations of a module, the first procedure among them.
 fn scope_of(alloc: Global, module: &Module) -> Result<Scope, Refused> {
     let imports = Imports::empty(alloc);
     let scope = declare_module(alloc, &imports, module)?;
@@ -307,7 +309,7 @@ fn is_string(variable: &ModuleVariable) -> bool {
     }
 }
 
-/// Whether a string is the first variable of the module, and is passed to an open array behind two others.
+/// Whether a string is the first variable of the module, and is passed to an open array after two others.
 fn is_hidden(passed: &[Argument], variables: &[ModuleVariable]) -> bool {
     match (passed, variables) {
         ([_, _, third], [variable]) => opens_first(third) && is_string(variable),

@@ -43,7 +43,7 @@ fn fault_of(alloc: Global, text: &str) -> Result<Option<(Code, usize)>, Refused>
     }
 }
 
-/// The fault of declarations or statements behind these, and the column where the second part begins.
+/// The fault of declarations or statements after these, and the column where the second part begins.
 fn two_parts(
     alloc: Global,
     behind: &str,

@@ -1,3 +1,5 @@
+//! Handshakes of WebSockets.
+
 use js_http::{HttpRefusal, Response, read_request};
 use js_ws::{accept_value, handshake};
 use std::alloc::Global;

@@ -1,3 +1,5 @@
+//! JSON values, texts and numbers.
+
 use json_form::{
     Bad, Fault, Json, Shared, Text, Whole, given_part, joined_field, needed_object, needed_text,
     needed_whole, no_items_field, object_field, object_field_or_empty, optional_boolean,

@@ -1,3 +1,5 @@
+//! Messages, read and written.
+
 use jp_msg::{
     Bad, Channel, Completeness, Content, Fault, MAX_MESSAGE, Message, Output, Request, Stamp,
     State, message_of_value, number_of, output_json, read_message, read_value, write_message,

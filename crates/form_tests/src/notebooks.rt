@@ -1,3 +1,5 @@
+//! Notebooks, read and written.
+
 use json_form::{Json, Text, Whole};
 use nb_doc::{
     Cell, Content, Listed, Names, NbBad, NbFault, Notebook, Output, is_allowed_id, number_of,

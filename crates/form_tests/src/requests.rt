@@ -1,3 +1,5 @@
+//! Requests of HTTP, read and refused.
+
 use js_http::{
     Bytes, ErrorStatus, HttpRefusal, MAX_BODY_LEN, MAX_HEAD_LEN, Method, Response, Served, Stream,
     Text, path_segments, query_value, read_request, serve_one, write_response,

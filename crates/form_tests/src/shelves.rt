@@ -1,3 +1,5 @@
+//! Shelves of files.
+
 use js_files::FileShelf;
 use js_shelf::{Bytes, Item, MemoryShelf, Shelf, ShelfRefusal, is_path};
 use std::alloc::Global;

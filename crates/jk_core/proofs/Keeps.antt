@@ -73,7 +73,7 @@ drop_self : (xs : List ℕ) → [] ≡ drop (length xs) xs
 drop_self [] = refl
 drop_self (x ∷ xs) = drop_self xs
 
--- what is written behind nothing more is the same
+-- what is written after nothing more is the same
 nothing_more : (a rest b : List ℕ) → a ++ rest ≡ b → [] ≡ drop (length a) b → b ≡ a
 nothing_more a rest b e none =
     sym e ∙ ap (λ (xs : List ℕ). a ++ xs) (sym (drop-append_seam a rest) ∙ ap (λ (xs : List ℕ). drop (length a) xs) e ∙ sym none) ∙ append-nil a

@@ -183,7 +183,7 @@ module _ {T : Type 0} where
           let same : i ≡ j = omega (arith, low, lt) in
           ap (λ (w : Waiting T). is_cell w.task && nat_lt given w.number) (sym (some_same x w (sym there ∙ ap (slice_get ws) same ∙ e))) ∙ not
 
-  -- the first cell that was not given stands behind all that are passed
+  -- the first cell that was not given stands after all that are passed
   pub found_first : (given n : ℕ) (ws : List (Waiting T)) (w : Waiting T) → slice_get ws n ≡ Some w → is_cell w.task && nat_lt given w.number ≡ true → ((i : ℕ) (v : Waiting T) → slice_get ws i ≡ Some v → i < n → is_cell v.task && nat_lt given v.number ≡ false) → slice_get ws n ≡ first_after given ws
   found_first given n [] w there so before = none_some w _ there
   found_first given zero (x ∷ ws) w there so before =

@@ -183,7 +183,7 @@ closed (turned.Trapped trap) at stops turns count k = failing stops (noted at (E
 closed turned.NeedsLine at stops turns count k = noted at Ask k
 closed turned.NoMemory at stops turns count k = failing stops (noted at (Stop turns cause.Memory count) k)
 
--- the output at n turns behind that of the last flush
+-- the output at n turns after that of the last flush
 abbrev pub written : {S T : Type 0} → Spoken S T → Log → Running → ℕ → List ℕ
 written spoken log r n = drop (length (stood spoken log r).output) (meaning spoken log r n).output
 

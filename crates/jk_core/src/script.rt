@@ -438,7 +438,7 @@ fn is_due<T>(waiting: &Waiting<T>, given: u64) -> bool
     is_cell(&waiting.task) && given < waiting.number
 }
 
-/// The place behind the requests up to a number, found by halves.
+/// The place after the requests up to a number, found by halves.
 fn place_after<T>(waiting: &VecDeque<Waiting<T>>, number: u64) -> usize
     requires { (high : ℕ) × Ascends 0 high waiting.now.items }
     ensures before { (i : ℕ) (w : WaitingOf T) → slice_get waiting.now.items i ≡ Some w → i < result → w.number ≤ number }

@@ -248,7 +248,7 @@ input_grows log e at x h = within (leb (length log) at) refl
 pub input_newest : (log : Log) (a : Arrival) → input_at (length log) (Took a ∷ log) ≡ input_in a.what
 input_newest log a = rw (eq-eqb (length log) (length log) refl) refl
 
--- a seat has left since a place exactly where its last leave stands behind it
+-- a seat has left since a place exactly where its last leave stands after it
 last_few : (seat : ℕ) (log : Log) → last_leave seat log ≤ length log
 last_few seat [] = omega arith
 last_few seat (Took a ∷ past) = few (leaves seat a) (last_few seat past)

@@ -136,7 +136,7 @@ module _ {S T : Type 0} (spoken : Spoken S T) (laws : IsLanguage spoken) where
   none_written : (u w v : Option (List ℕ)) (text front : List ℕ) → Appends u w text → Appends w v front → front ≡ [] → Appends u v text
   none_written u w v text front p q e = subst (Appends u v) (ap (λ t. text ++ t) e ∙ append-nil text) (Appends-trans u w v text front p q)
 
-  -- a line behind which others may stand
+  -- a line after which others may stand
   pub ended_shows : (a b u w : Option (List ℕ)) (rest : List ℕ) (number : ℕ) (s : ReplayState T) (h : Known a b u w rest number s) (line held text : List ℕ) (new : ReplayState T) → rest ≡ line ++ 10 ∷ held → IsOneLine line → LineDone spoken line s new text → Shows spoken h.input b (h.text ++ text)
   ended_shows a b u w rest number s h line held text new takes one done =
       inl (
@@ -148,7 +148,7 @@ module _ {S T : Type 0} (spoken : Spoken S T) (laws : IsLanguage spoken) where
             (done_more spoken h.lines line opening s new h.text text h.done one done),
       )
 
-  -- the last line, and slices behind it
+  -- the last line, and slices after it
   pub last_finishes : (a b u w : Option (List ℕ)) (rest : List ℕ) (number : ℕ) (s : ReplayState T) (h : Known a b u w rest number s) (line text more : List ℕ) (slices : ℕ) (mid new : ReplayState T) → rest ≡ line → IsOneLine line → IsAtEnd b → LineDone spoken line s mid text → SomeSlices spoken mid new slices more → Finishes spoken h.input b slices new ((h.text ++ text) ++ more)
   last_finishes a b u w rest number s h line text more slices mid new takes one over done some =
       let lines = done_more spoken h.lines line opening s mid h.text text h.done one done in
@@ -234,7 +234,7 @@ module _ {S T : Type 0} (spoken : Spoken S T) (laws : IsLanguage spoken) where
     (h.lines, rest, s, reaches h.input h.lines rest s h.text h.split h.done, ap (λ n. n + 1) h.count, (taken.Long, held, takes, refl)),
   )
 
-  -- all lines are done, and slices behind them
+  -- all lines are done, and slices after them
   pub finishes : (a b u w v x : Option (List ℕ)) (rest : List ℕ) (number : ℕ) (s mid : ReplayState T) (line front more : List ℕ) (result : Result End ReplayFault) → Known a b u w rest number s → rest ≡ line → IsOneLine line → IsAtEnd b → Appends w v front → LineDone spoken line s mid front → Appends v x more → SlicesPlayed spoken mid more result → Final a b u x result
   finishes a b u w v x rest number s mid line front more (Ok end) h takes one over wrote done last (slices, new, some, is, why) = (
     h.input,

@@ -14,7 +14,7 @@ abbrev pub IsOneLine : List ℕ → Type 0
 IsOneLine [] = Unit {0}
 IsOneLine (c ∷ cs) = (c ≢ 10) × IsOneLine cs
 
--- of bytes, the next line and what is held behind it; or the last line, behind which the input ends; or a line that is
+-- of bytes, the next line and what is held after it; or the last line, after which the input ends; or a line that is
 -- too long, whatever follows
 abbrev pub TakesLine : List ℕ → Line → List ℕ → Option (List ℕ) → Type 0
 TakesLine bytes (Ended line) held left = (bytes ≡ line.items ++ 10 ∷ held) × IsOneLine line.items

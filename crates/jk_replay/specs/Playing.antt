@@ -35,12 +35,12 @@ SlicePlayed spoken old new front (Err (Device Input)) = ⊥
 SlicePlayed {T = T} spoken old new front (Err (Device Output)) =
     (answer : Work) × (mid : ReplayState T) × (back : List ℕ) × IsSliced spoken last_turns old answer mid (front ++ back)
 
--- so many slices, at most those behind the last line, show this text
+-- so many slices, at most those after the last line, show this text
 pub record SomeSlices {S T : Type 0} (spoken : Spoken S T) (old new : ReplayState T) (slices : ℕ) (text : List ℕ) : Type 0 where
   pub few : slices ≤ last_slices
   pub sliced : SlicesDone spoken slices old new text
 
--- what was written of the slices behind the last line
+-- what was written of the slices after the last line
 abbrev pub SlicesPlayed : {S T : Type 0} → Spoken S T → ReplayState T → List ℕ → Result End ReplayFault → Type 0
 SlicesPlayed {T = T} spoken old front (Ok end) =
     (slices : ℕ) × (new : ReplayState T) × SomeSlices spoken old new slices front

@@ -27,7 +27,7 @@ use Rattle.jk_replay.specs.Steps.{step_at}
 use Rattle.jk_replay.specs.Shown.{entry_lines}
 use Rattle.jk_replay.specs.Replaying.{ReplayState, StepDone, admitted, opening_of}
 
--- how many slices are worked behind the last line, and how many turns each has
+-- how many slices are worked after the last line, and how many turns each has
 abbrev pub last_slices : ℕ
 last_slices = 1000
 
@@ -62,7 +62,7 @@ LinesDone {T = T} spoken (line ∷ lines) old new text =
     (mid : ReplayState T) × (first rest : List ℕ)
     × IsOneLine line × LineDone spoken line old mid first × LinesDone spoken lines mid new rest × (text ≡ first ++ rest)
 
--- so many slices behind the last line, each as a line would ask for it
+-- so many slices after the last line, each as a line would ask for it
 abbrev pub SlicesDone : {S T : Type 0} → Spoken S T → ℕ → ReplayState T → ReplayState T → List ℕ → Type 0
 SlicesDone spoken zero old new text = (new ≡ old) × (text ≡ [])
 SlicesDone {T = T} spoken (suc n) old new text =
@@ -86,7 +86,7 @@ pub record Reaches {S T : Type 0} (spoken : Spoken S T) (input : List ℕ) (line
   pub legal : IsLegal spoken state.kernel.log
   pub rendered : text ≡ entry_lines (render state.kernel.log)
 
--- all lines of the input, and so many slices behind them, lead here, and this text is what they show
+-- all lines of the input, and so many slices after them, lead here, and this text is what they show
 pub record Finishes {S T : Type 0} (spoken : Spoken S T) (input : List ℕ) (left : Option (List ℕ)) (slices : ℕ) (state : ReplayState T) (text : List ℕ) : Type 0 where
   pub lines : List (List ℕ)
   pub last : List ℕ

@@ -21,9 +21,9 @@ const PIECE: usize = 16_384;
 /// The next line of input.
 #[derive(Drop)]
 pub enum Line {
-    /// A line with a line end behind it.
+    /// A line with a line end after it.
     Ended(Vec<u8>),
-    /// What stands behind the last line end.
+    /// What stands after the last line end.
     Last(Vec<u8>),
     /// A line that has more bytes than a line may have.
     Long,
@@ -122,7 +122,7 @@ impl Input {
         Ok(())
     }
 
-    /// Holds more bytes behind those that are held.
+    /// Holds more bytes after those that are held.
     #[tactic(auto, using(crate::proofs::InputLemmas::held_more))]
     fn keep(&mut self, alloc: Global, piece: &[u8]) -> Result<(), AllocError>
         ensures taken { self.new.taken ≡ self.old.taken }

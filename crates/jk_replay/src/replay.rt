@@ -64,7 +64,7 @@ impl From<InputFault> for ReplayFault {
     }
 }
 
-/// How many slices are worked behind the last line, and how many turns each has.
+/// How many slices are worked after the last line, and how many turns each has.
 const LAST_SLICES: u32 = 1000;
 
 const LAST_TURNS: u64 = 1000;
@@ -114,7 +114,7 @@ fn play_line<L: Language, W: Write>(
     Ok(())
 }
 
-/// Works a slice behind the last line, and writes what it shows. The answer is what it came to.
+/// Works a slice after the last line, and writes what it shows. The answer is what it came to.
 fn play_slice<L: Language, W: Write>(
     alloc: Global,
     replay: &mut Replay<Kernel<L>>,

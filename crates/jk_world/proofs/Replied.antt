@@ -188,7 +188,7 @@ module _ {S T : Type 0} (spoken : Spoken S T) where
   answer_may past (FlushDue ∷ ds) at status h = absurd h.0
   answer_may past (StopDue cause ∷ ds) at status (t, k, is, rest) = cc
 
-  -- the entries of a later mark stand behind them
+  -- the entries of a later mark stand after them
   later : (past : Log) (m : Mark) (at : ℕ) (a : Arrival) (q : Request) → outputs_in (shown_at at (Marked m ∷ past)) ≡ outputs_in (shown_at at past) → IsReplied spoken past at a q → IsReplied spoken (Marked m ∷ past) at a q
   later past m at a q same r = record {
     sent = r.sent;

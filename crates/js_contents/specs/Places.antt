@@ -33,7 +33,7 @@ abbrev pub joined : Place → List (List ℕ) → Result Place ErrorStatus
 joined place [] = Ok place
 joined place (part ∷ parts) = or_none (part_text part) >>= λ text. joined (below place text) parts
 
--- the last segment is empty, as it is behind a slash at the end
+-- the last segment is empty, as it is after a slash at the end
 abbrev pub ends_empty : List (List ℕ) → Bool
 ends_empty parts = nat_eq (length (get_or parts (length parts - 1) (47 ∷ []))) 0
 

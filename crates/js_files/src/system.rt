@@ -18,7 +18,7 @@ const SPARE: &str = "/\\new";
 /// The files and folders below one folder of the system, its root. It tells nothing of what it holds.
 ///
 /// Links below the root are not followed, and are neither files nor folders. A file over 2^30 bytes is a fault, and so
-/// is each call on a path that is too long for the system behind the root's: Linux takes 4,096 bytes.
+/// is each call on a path that is too long for the system after the root's: Linux takes 4,096 bytes.
 ///
 /// A write makes a new file beside the old one, with the old one's mode, and with its bytes on the disk, before it takes
 /// the old one's place: a crash leaves the old file or the new one. Where a write fails, the new file is removed again.
@@ -38,7 +38,7 @@ impl<R: Files + AllocGlobal + Clone + Drop> SystemFolder<R> {
         Ok(SystemFolder { rt, root })
     }
 
-    // The path that the system is given for a place: the root's, or behind it a slash and the place's own.
+    // The path that the system is given for a place: the root's, or after it a slash and the place's own.
     fn path_of(&self, place: &Place) -> Result<String, AllocError>
         ensures { IfOk result (λ path. string_bytes path ≡ below_root (string_bytes self.now.root) place.now) }
     {

@@ -3,7 +3,7 @@ use Rattle.std.proofs.Common.{◌≡◌, ℕ, ◌+◌, ◌≤◌, List, ◌++◌
 use Rattle.std.proofs.lemmas.List.{take-take, take_all, take-append-le}
 use Rattle.std.proofs.Math.Seq.{take-append-add}
 
--- the bytes held, made longer for the read and cut behind the count that it gave
+-- the bytes held, made longer for the read and cut after the count that it gave
 pub read_adds : (old more buf after tail : List ℕ) (held count grown room : ℕ) → held ≡ length old → held ≤ grown → count ≤ length buf → held + count ≤ room
     → take (held + count) (take room ((take held (take grown old ++ more) ++ (buf ++ after)) ++ tail)) ≡ old ++ take count buf
 read_adds old more buf after tail held count grown room is short given fits =

@@ -22,7 +22,7 @@ pub tail_is : (received items slice : List ℕ) (n : ℕ) → slice ≡ items �
 tail_is received items slice n e f =
     take_all (length slice - n) (drop n slice) (omega (arith, length-drop n slice)) ∙ ap (drop n) (e ∙ sym f)
 
--- what received begins with the head, whatever comes behind it
+-- what received begins with the head, whatever comes after it
 pub begins : (received more : List ℕ) (head : Head) (h : RequestHead) → IsHeadAt received head h → length received ≤ 16384
     → BeginsWith (received ++ more) h (drop head.len received ++ more)
 begins received more head h at small = record {

@@ -17,7 +17,7 @@ ReadsSome old new room received (Err _) = ⊥
 abbrev pub HasHead : List ℕ → Head → List ℕ → Type 0
 HasHead taken head bytes = (taken ≡ bytes) × (h : RequestHead) × IsHeadAt taken head h
 
--- of start, and of what received behind it, the first len bytes are the body
+-- of start, and of what received after it, the first len bytes are the body
 abbrev pub HasBody : List ℕ → List ℕ → ℕ → List ℕ → Type 0
 HasBody start received len body = (length body ≡ len) × (after : List ℕ) × (start ++ received ≡ body ++ after)
 

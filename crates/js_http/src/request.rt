@@ -32,7 +32,7 @@ impl Request {
         }
     }
 
-    /// The target behind its first question mark, or nothing.
+    /// The target after its first question mark, or nothing.
     pub fn query(&self) -> &str
         ensures { result.now ≡ after_first (λ byte. byte == 63) self.now.target }
     {

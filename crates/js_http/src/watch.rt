@@ -1,6 +1,6 @@
 //! When a head that comes piece by piece is worth a parse.
 
-/// Where the lines of a head end, as its bytes come. A head ends with an empty line behind another line.
+/// Where the lines of a head end, as its bytes come. A head ends with an empty line after another line.
 #[derive(Clone, Copy)]
 pub(crate) struct Watch {
     /// A line that is not empty has begun.

@@ -26,7 +26,7 @@ segments_end rest segment behind n at within is left none =
     let whole : n ≡ length rest = omega (arith, within, length-drop n rest, ap length left, none) in
     one_part is_slash rest (sym at ∙ whole) ∙ ap (λ piece. piece ∷ []) (sym (is ∙ take_all n rest (omega (arith, whole))))
 
--- a segment with more behind it
+-- a segment with more after it
 pub segments_more : (rest segment behind : List ℕ) (n : ℕ)
     → n ≡ position_or_len is_slash rest → segment ≡ take n rest → behind ≡ drop n rest → 0 < length behind
     → segments rest ≡ segment ∷ segments (take (length behind - 1) (drop 1 behind))
@@ -149,7 +149,7 @@ behind_is front text None lacks = sym (behind_none front text (λ rest is. lacks
 behind_is front text (Some x) strips =
     ap (λ rest. Some rest) strips.2 ∙ sym (behind_some front (drop strips.0 text)) ∙ sym (ap (behind front) strips.1.1)
 
--- what follows a front, put behind it, is the text
+-- what follows a front, put after it, is the text
 pub behind_some_is : (front text rest : List ℕ) → behind front text ≡ Some rest → text ≡ front ++ rest
 behind_some_is [] text rest e = cc e
 behind_some_is (b ∷ front) [] rest e = absurd (cc e)

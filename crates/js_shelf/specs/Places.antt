@@ -8,7 +8,7 @@ use Rattle.js_shelf.specs.Paths.{is_segment, is_slash}
 abbrev pub is_step : List ℕ → Bool
 is_step segment = is_segment segment && not (list_any is_slash segment)
 
--- where a path stands below a root: behind a slash, and the root itself where it is empty
+-- where a path stands below a root: after a slash, and the root itself where it is empty
 abbrev pub below_root : List ℕ → List ℕ → List ℕ
 below_root root [] = root
 below_root root (byte ∷ bytes) = root ++ 47 ∷ byte ∷ bytes

@@ -9,7 +9,7 @@ use Rattle.js_ws.specs.declared.hearing.Heard.{Heard}
 use Rattle.js_ws.specs.declared.hearing.Heard.TheVariants as heard
 use Rattle.js_ws.specs.declared.outbox.Outbox.{Outbox}
 
--- the arrival that the seat at a place sends behind these
+-- the arrival that the seat at a place sends after these
 abbrev pub next_arrival : ℕ → List Arrival → What → Arrival
 next_arrival place sent w = record { seat = place; number = length sent + 1; what = w }
 
@@ -21,7 +21,7 @@ in_hand place sent (Some w) = next_arrival place sent w ∷ []
 abbrev pub sent_or_held : Outbox → List Arrival
 sent_or_held o = sent_by o.seat ++ in_hand o.seat.place (sent_by o.seat) o.hand
 
--- what was heard is one arrival behind these, where it is something that a seat sends, and none otherwise
+-- what was heard is one arrival after these, where it is something that a seat sends, and none otherwise
 abbrev pub arrivals_of : ℕ → List Arrival → Heard → List Arrival
 arrivals_of place sent (heard.Said w) = next_arrival place sent w ∷ []
 arrivals_of place sent heard.Other = []

@@ -62,7 +62,7 @@ module _ {S : Type 0} where
   Wrote contents old new bytes =
       Appends (contents old.stream) (contents new.stream) (old.output ++ bytes) × (new.output ≡ []) × (new.conn ≡ old.conn)
 
-  -- the frames of these entries went to the stream behind what waited; where there are none, nothing was done
+  -- the frames of these entries went to the stream after what waited; where there are none, nothing was done
   abbrev pub SentAll : (S → Option (List ℕ)) → Names → List ℕ → ℕ → Socket S → Socket S → List Entry → Type 0
   SentAll contents names date n old new [] = new ≡ old
   SentAll contents names date n old new (e ∷ es) = Wrote contents old new (frames_of names date n (e ∷ es))

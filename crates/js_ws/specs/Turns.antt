@@ -26,7 +26,7 @@ use Rattle.js_ws.specs.declared.names.Names.{Names}
 use Rattle.js_ws.specs.declared.outbox.Outbox.{Outbox}
 use Rattle.js_ws.specs.declared.wire.Wire.{Wire}
 
--- what was heard, if a message was read, is one arrival behind these or none
+-- what was heard, if a message was read, is one arrival after these or none
 abbrev pub came_of : ℕ → List Arrival → Option Heard → List Arrival
 came_of place sent None = []
 came_of place sent (Some heard) = arrivals_of place sent heard
@@ -88,7 +88,7 @@ module _ {W : Type 0} where
       pub mid : Wire W
       pub hand : Option What
       pub hears : Listens remaining old.wire mid old.outbox.hand hand heard
-      -- A message that was read is one arrival exactly where it is a text that is a message, and a `Leave` comes behind it where it
+      -- A message that was read is one arrival exactly where it is a text that is a message, and a `Leave` comes after it where it
       -- is due. With what was sent and in hand before, these are what is sent and in hand now.
       pub came : List Arrival
       pub comes : came ≡ came_of old.outbox.seat.place (sent_or_held old.outbox) heard
@@ -107,7 +107,7 @@ module _ {W : Type 0} where
       pub joined : new.feed.joined ≡ (old.feed.joined || has_joined old.outbox.seat.place old.feed.join got)
       pub ended : new.feed.ended ≡ (old.feed.ended || has_last got)
       pub join : new.feed.join ≡ old.feed.join
-      -- Without a fault of the stream their frames went to it, behind what waited.
+      -- Without a fault of the stream their frames went to it, after what waited.
       pub sent : new.wire.failed ≡ false → SentAll contents old.wire.names date old.wire.sent mid.socket new.wire.socket front
       pub ends : Tells contents → new.wire.failed ≡ false
           → EndsIn (contents new.wire.socket.stream) (frames_of old.wire.names date old.wire.sent front)

@@ -63,7 +63,7 @@ impl Place {
         }
     }
 
-    /// Puts those of the connection behind the held ones.
+    /// Puts those of the connection after the held ones.
     #[tactic(auto, using(crate::proofs::Parts::part_more, crate::proofs::Parts::joined_more, crate::proofs::Parts::last_more, crate::proofs::Parts::busy_more))]
     fn take_all(mut self, given: Vec<Entry>, held: &mut Vec<Entry>) -> Place
         requires room { vec_len held.old + vec_len given ≤ vec_capacity held.old }

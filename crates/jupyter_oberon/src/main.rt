@@ -27,7 +27,7 @@ fn serve_command(port: &str, root: String) -> Command {
     }
 }
 
-/// The arguments behind the program's name.
+/// The arguments after the program's name.
 fn asked(rt: &HostRuntime) -> io::Result<Command> {
     let mut arguments = env::args(rt)?;
     let _program = arguments.next();

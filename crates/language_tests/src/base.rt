@@ -1,3 +1,5 @@
+//! Lists, boxes and texts.
+
 use ob_base::{Boxed, Items, Text};
 use std::test::Fail;
 

@@ -1,3 +1,5 @@
+//! Readers of In and writers of Out.
+
 use ob_inout::{Answer, LineBuffer, put_char, put_int, put_line_end, put_string};
 use std::alloc::{AllocError, Global};
 use std::test::Fail;

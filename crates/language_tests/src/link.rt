@@ -1,3 +1,5 @@
+//! Links between modules of a session.
+
 use ob_base::{Items, Text};
 use ob_link::{CommandName, KeyedImport, LinkFault, Looked, Modules, Ready, SessionModule};
 use ob_mean::TypedModule;
@@ -123,7 +125,7 @@ fn two_apart(alloc: Global) -> Result<Modules, AllocError> {
     Ok(modules)
 }
 
-// The same behind another import.
+// The same after another import.
 #[test]
 fn keys_link_behind_an_import(rt: HostRuntime) -> Result<(), Fail> {
     let modules = two_apart(rt.alloc())?;

@@ -1,3 +1,5 @@
+//! Texts and their trees.
+
 use ob_base::{Code, Refused};
 use ob_parse::parse_text;
 use ob_tree::tree::{Cell, Module, Statement};

@@ -1,9 +1,11 @@
+//! Texts and their tokens.
+
 use ob_base::{Code, Refused};
 use ob_scan::{Kind, Symbol, Token, same_symbol, scan};
 use std::alloc::{AllocError, Global};
 use std::test::Fail;
 
-// A name, string or number as it is, and a reserved word or sign by its name behind '!'.
+// A name, string or number as it is, and a reserved word or sign by its name after '!'.
 fn show(alloc: Global, token: &Token, shown: &mut Vec<u8>) -> Result<(), AllocError> {
     match &token.kind {
         Kind::Ident(name) => shown.extend_from_slice(name.as_slice())?,

@@ -1,3 +1,5 @@
+//! Types and the texts of interfaces.
+
 use ob_base::{Items, Shared, SharedItems, Text};
 use ob_types::{
     Basic, Constant, Exported, Field, Formal, FormalKind, Interface, ObType, Object, RecordName,

@@ -1,3 +1,5 @@
+//! Code that somebody made, and whether it is valid.
+
 use ob_base::Items;
 use ob_code::instr::{
     CodeModule, Entries, Entry, Extent, Instr, Length, Line, LinkedModule, NameKind, Procedure,
@@ -171,7 +173,7 @@ fn elements(rt: HostRuntime) -> Result<(), Fail> {
     Ok(())
 }
 
-// A call with this many operands and names before it and behind it
+// A call with this many operands and names before it and after it
 fn calling(
     alloc: Global,
     callee: Callee,

@@ -1,3 +1,5 @@
+//! Lists with several owners.
+
 ghost use Rattle.std.specs.Prelude.{◌≡◌, IfOk};
 
 use crate::items::Items;

@@ -350,7 +350,7 @@ with_object (object.TypeName t) f = f
 with_object (object.Variable t) f = record { variables = f.variables ++ shape_of t ∷ []; procedures = f.procedures }
 with_object (object.Procedure s) f = record { variables = f.variables; procedures = f.procedures ++ heading_of s ∷ [] }
 
--- the first word of a line, and the name behind it
+-- the first word of a line, and the name after it
 word_name : (a : Around) (name : List ℕ) → IsWord name → (f : Face) → read (name_text name ++ codes " ") (Name a, f) ≡ (Type' (a ∷ []), f)
 word_name a name h f = seq (name_text name) (codes " ") (at (Name a) f) (at (Name a) f) (at (Type' (a ∷ [])) f) (past_name a (name_text name) (name_without 32 refl name h) f) refl
 

@@ -1,4 +1,4 @@
--- Names behind expressions and statements are words.
+-- Names after expressions and statements are words.
 use Rattle.std.proofs.Common.{ℕ, zero, suc, true, false, List, [], ◌∷◌, Some, None}
 use Rattle.ob_scan.specs.declared.token.Kind.TheVariants as kinds
 use Rattle.ob_scan.specs.declared.token.Symbol.{Symbol}

@@ -1,4 +1,4 @@
--- What stands behind a phrase stood among its tokens: names of tokens are words, and so are those behind a phrase.
+-- What stands after a phrase stood among its tokens: names of tokens are words, and so are those after a phrase.
 use Rattle.std.proofs.Common.{◌≡◌, ℕ, List, [], ◌∷◌, Option, Some, None, inl, inr, sym, subst}
 use Rattle.ob_scan.specs.declared.class.Class.{Class}
 use Rattle.ob_scan.specs.declared.class.Class.TheVariants as classes

@@ -1,6 +1,6 @@
 -- To be believed.
 -- Procedures (Wirth, The Programming Language Oberon, Oberon-07), with those in them. They are numbered as their ends follow each
--- other: a procedure comes behind those in it. The number says how many more constructs may nest.
+-- other: a procedure comes after those in it. The number says how many more constructs may nest.
 use Rattle.std.specs.Prelude.{ℕ, zero, suc, ◌+◌, sum, List, [], ◌∷◌, ◌++◌, length, map, Option, Some, None, nat_le, if◌then◌else◌}
 use Rattle.ob_scope.specs.declared.rule.RuleCode.TheVariants as code
 use Rattle.ob_tree.specs.declared.tree.Declarations.{out-Declarations}
@@ -42,7 +42,7 @@ counted (suc n) p = sum (map (counted n) (procedures_in p)) + 1
 abbrev pub nested : ℕ → Procedure → ℕ
 nested n p = sum (map (counted n) (procedures_in p))
 
--- ---- the variables of a procedure, behind so many parameters
+-- ---- the variables of a procedure, after so many parameters
 
 abbrev pub own_shape : ℕ → Entry → List Shape
 own_shape parameters (entry.Variable t (standing.Local i)) = if nat_le parameters i then shape_of t ∷ [] else []
@@ -79,14 +79,14 @@ typed_procedure f s body returned = record {
   result = returned;
 }
 
--- its body and its result, in the scope behind its declarations
+-- its body and its result, in the scope after its declarations
 unfoldable pub body_of : Modules → ℕ → Signature → Checking → Procedure → Rule Checking
 body_of ms n f c p =
     Then (body_at ms c.0 n c.2 (out-Procedure p).body) (λ b.
     Then (result_at ms c.0 n f.result b.1 (out-Procedure p).returned) (λ r.
     Given (left c.0, c.1 ++ typed_procedure f c.0 b.0 r.0 ∷ [], r.1)))
 
--- the procedures in it, behind its own declarations
+-- the procedures in it, after its own declarations
 unfoldable pub inside_of : Modules → ℕ → (Checking → Procedure → Rule Checking) → Entered → List TypedProcedure → Variables → Procedure → Rule Checking
 inside_of ms n inner e done variables p =
     Then (declarations_rule ms n e.scope (out-Procedure p).declarations) (λ s.

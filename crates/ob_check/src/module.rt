@@ -73,7 +73,7 @@ fn own_variable(
     }
 }
 
-/// The other variables, behind these.
+/// The other variables, after these.
 fn own_variables(
     alloc: Global,
     made: &mut Made,
@@ -98,7 +98,7 @@ fn declared_variables(alloc: Global, declared: &[Declared]) -> Result<Variables,
     own_variables(alloc, &mut made, exported, declared)
 }
 
-/// The import of a loaded module, with its key, behind these.
+/// The import of a loaded module, with its key, after these.
 fn with_key(
     alloc: Global,
     so_far: Items<Imported>,
@@ -172,7 +172,7 @@ fn checked_of(
     Ok(Checked::new(tree, interface, imported))
 }
 
-/// The body of a module, behind its procedures.
+/// The body of a module, after its procedures.
 #[tactic(auto, unfolding(crate::specs::Modules::body_rule))]
 fn with_body(
     alloc: Global,
@@ -226,7 +226,7 @@ fn with_procedures(
     with_body(alloc, imports, scope, done, variables, tree)
 }
 
-/// What stands behind the declarations of a module.
+/// What stands after the declarations of a module.
 #[tactic(auto, unfolding(crate::specs::Modules::checked_rule))]
 fn behind_declarations(
     alloc: Global,

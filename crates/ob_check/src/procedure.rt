@@ -58,7 +58,7 @@ fn all_counted(levels: u32, list: &[Procedure]) -> Option<usize>
     Some(total)
 }
 
-/// The number of a procedure, behind so many and those in it.
+/// The number of a procedure, after so many and those in it.
 fn number_of(levels: u32, before: usize, p: &Procedure) -> Result<usize, AllocError>
     ensures { IfOk result (λ n. n ≡ before + spec.nested levels p.now) }
 {
@@ -94,7 +94,7 @@ fn own_shape(
     }
 }
 
-/// The variables of a procedure, behind so many parameters.
+/// The variables of a procedure, after so many parameters.
 fn own_shapes(
     alloc: Global,
     made: &mut Made,
@@ -110,7 +110,7 @@ fn own_shapes(
     Ok(so_far)
 }
 
-/// What stands behind RETURN, in a function alone.
+/// What stands after RETURN, in a function alone.
 #[tactic(auto, unfolding(crate::specs::Procedures::result_at))]
 fn returned(
     site: Site<'_>,
@@ -155,7 +155,7 @@ fn typed_procedure(
     })
 }
 
-/// The body and the result of a procedure, in the scope behind its declarations.
+/// The body and the result of a procedure, in the scope after its declarations.
 #[tactic(auto, unfolding(crate::specs::Procedures::body_of))]
 fn body_of(
     alloc: Global,
@@ -250,7 +250,7 @@ fn procedure(
     procedure_of(alloc, imports, inside, scope, done, variables, p)
 }
 
-/// The procedures of a module or of a procedure, behind its other declarations.
+/// The procedures of a module or of a procedure, after its other declarations.
 #[cycle(procedures)]
 pub fn procedures(
     alloc: Global,

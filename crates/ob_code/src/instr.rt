@@ -1,3 +1,5 @@
+//! The instructions of the machine, and what they name.
+
 use ob_base::{Items, Text};
 use ob_mean::{Adjustment, Callee, Operator, Relation, TrapKind, UnaryOperator};
 
@@ -47,7 +49,7 @@ pub enum Target {
 
 /// One instruction. Operands are numbers of 32 bits. A place is an operand too: the number of its cell in an object that the
 /// instruction names, and which tests it. A jump says how many instructions it passes. Only `EnterBack` and `TakeLine` lead
-/// back, behind a turn.
+/// back, after a turn.
 #[derive(Drop)]
 pub enum Instr {
     Push(i32),

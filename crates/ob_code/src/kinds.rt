@@ -11,7 +11,7 @@ pub enum Kind {
     /// It is from 0 on, and at most so much: the number of a cell in any object that has more cells.
     UpTo(usize),
     /// The number of a name that stands for an array, the cells of an element, and so much: it is from 0 on, and at most so
-    /// much behind where the array's last element begins.
+    /// much after where the array's last element begins.
     Inside(usize, usize, usize),
     /// No run comes here: it is the number of an element of an array that has none.
     Absent,

@@ -22,7 +22,7 @@ fn module_named<'a>(loaded: &'a [LoadedModule], name: &Text) -> Option<&'a Loade
     None
 }
 
-// What is known of a loaded module, behind these.
+// What is known of a loaded module, after these.
 fn with_face(
     alloc: Global,
     so_far: Vec<Face>,

@@ -132,7 +132,7 @@ new_procedure ms n number s p =
     Then (heading_rule ms n s (out-Procedure p).formals) (λ h.
     Given (entered_by s (out-Procedure p).name.name.name (has_mark (out-Procedure p).name) number h))
 
--- Its name is declared behind its heading, and so it is visible in its own declarations and body.
+-- Its name is declared after its heading, and so it is visible in its own declarations and body.
 unfoldable pub procedure_rule : Modules → ℕ → ℕ → Scope → Procedure → Rule Entered
 procedure_rule ms n number s p =
     Needs (is_new (find s.block (out-Procedure p).name.name.name)) code.DeclaredTwice (new_procedure ms n number s p)

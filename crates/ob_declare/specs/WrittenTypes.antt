@@ -140,7 +140,7 @@ record_of name fields = Record (roll-RecordType (record { name = name; fields = 
 abbrev pub max_records : ℕ
 max_records = 4294967295
 
--- a record, behind so many words RECORD
+-- a record, after so many words RECORD
 unfoldable pub record_rule : (ℕ → TypeExpr → Rule Written) → RecordName → ℕ → List TypedNames → Rule Written
 record_rule inner naming k fields =
     Then (through (next_fields inner) (no_fields (k + 1)) fields) (λ fs.

@@ -36,7 +36,7 @@ pub struct Heading {
     pub block: Block,
 }
 
-/// A procedure that was entered: the scope inside, behind its parameters, and its signature.
+/// A procedure that was entered: the scope inside, after its parameters, and its signature.
 #[derive(Drop)]
 pub struct Entered {
     pub scope: Scope,
@@ -55,7 +55,7 @@ fn open_of(alloc: Global, element: ObType, span: Span) -> Result<ObType, Rejecte
     Ok(of)
 }
 
-/// The type of a formal parameter behind these. `levels` says how many more constructs may nest.
+/// The type of a formal parameter after these. `levels` says how many more constructs may nest.
 #[cycle(formal)]
 #[tactic(auto, unfolding(crate::specs::Headings::formal_at, crate::specs::Headings::formal_rule))]
 fn formal_type(site: Site<'_>, parameters: &Block, of: &FormalType) -> Result<ObType, Rejected>
@@ -229,7 +229,7 @@ fn basic_of(of: &ObType, span: Span) -> Result<Basic, Rejected>
     }
 }
 
-/// The type of the result behind these parameters, if there is one.
+/// The type of the result after these parameters, if there is one.
 #[tactic(auto, unfolding(crate::specs::Headings::result_rule))]
 fn result_type(
     modules: &Imports,

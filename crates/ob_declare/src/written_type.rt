@@ -138,7 +138,7 @@ fn type_named(modules: &Imports, scope: &Scope, name: &Qualident) -> Result<ObTy
     qualified(modules, scope.seen(first), scope.outer(first), name)
 }
 
-/// The type that a name stands for in a heading, behind these parameters. The codes are those of any name of a type.
+/// The type that a name stands for in a heading, after these parameters. The codes are those of any name of a type.
 #[tactic(auto, unfolding(crate::specs::WrittenTypes::type_named))]
 pub(crate) fn type_in_heading(
     modules: &Imports,
@@ -330,7 +330,7 @@ fn cells_with(taken: u32, count: usize, of: &ObType) -> Option<u32>
     Some(total as u32)
 }
 
-/// A type as it is written, behind so many words RECORD of its declaration.
+/// A type as it is written, after so many words RECORD of its declaration.
 #[cycle(written)]
 #[tactic(auto, unfolding(crate::specs::WrittenTypes::type_at, crate::specs::WrittenTypes::type_rule))]
 pub fn written_type(
@@ -385,7 +385,7 @@ pub fn written_type(
     }
 }
 
-/// A record, behind so many words RECORD.
+/// A record, after so many words RECORD.
 #[cycle(written)]
 #[tactic(auto, unfolding(crate::specs::WrittenTypes::record_rule))]
 fn record_type(

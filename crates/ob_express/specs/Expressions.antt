@@ -99,14 +99,14 @@ module _ (inner : Variables → Expr → Rule Typed) (s : Scope) where
       Then (written_at ms s d) (λ w. through (selected inner s) (w.0, designator.Whole w.1, vs) w.2)
 
 -- Functions that are declared before any module, of one value and of two. Their actual parameters are judged from left to
--- right, and their number behind them.
+-- right, and their number after them.
 module _ (inner : Variables → Expr → Rule Typed) where
-  -- behind two values nothing may stand
+  -- after two values nothing may stand
   unfoldable pub two_taken : Function → ℕ → Operand → Typed → List Expr → Rule Typed
   two_taken f line v w [] = Then (two_of f line v w.0) (λ x. Given (x, w.1))
   two_taken f line v w (c ∷ cs) = Breaks code.Parameters
 
-  -- behind the first value, which may be written as a variable alone, a shift takes another
+  -- after the first value, which may be written as a variable alone, a shift takes another
   unfoldable pub one_taken : Function → ℕ → Bool → Typed → List Expr → Rule Typed
   one_taken f line alone v [] = Then (there (one_of f line alone v.0) code.Parameters) (λ x. Given (x, v.1))
   one_taken f line alone v (b ∷ bs) =
@@ -167,7 +167,7 @@ module _ (inner : Variables → Expr → Rule Typed) (deeper : Variables → Fac
   unfoldable pub factor_rule : Variables → Factor → Rule Typed
   factor_rule vs f = factor_layer vs (out-Factor f)
 
-  -- one factor more: what stands before the operator is judged before what stands behind it
+  -- one factor more: what stands before the operator is judged before what stands after it
   unfoldable pub next_factor : Joining → NextFactor → Rule Joining
   next_factor v x =
       Needs (may_join (mul_joining (out-NextFactor x).operator) v.0) code.Types (

@@ -447,7 +447,7 @@ fn predeclared_call(
     }
 }
 
-/// A call of a function that is declared before any module, behind its first actual parameter.
+/// A call of a function that is declared before any module, after its first actual parameter.
 #[cycle(expression)]
 #[tactic(auto, unfolding(crate::specs::Expressions::one_taken, crate::specs::Expressions::two_taken))]
 fn one_taken(

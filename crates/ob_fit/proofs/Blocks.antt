@@ -271,7 +271,7 @@ module _ (ms : Modules) (names : Names) (base : ℕ) where
       lower : (k : ℕ) → length (p.formals ++ f ∷ []) ≤ k → length p.block < k
       lower k l = let b = length_more p.formals f in let c = g.0 in omega arith
 
-  -- what is seen in a heading behind these parameters
+  -- what is seen in a heading after these parameters
   heading_solid : (s : Scope) (p : Parameters) → EachEntry SolidEntry s.block → EachBlock SolidEntry s.around → ParametersFit ms names base p → SeenSolid (in_heading s p.block)
   unfolding in_heading
   heading_solid s p here round g =

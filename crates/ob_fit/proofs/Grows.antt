@@ -1,4 +1,4 @@
--- The variables of a module only grow: each rule adds strings of few cells behind those that there are.
+-- The variables of a module only grow: each rule adds strings of few cells after those that there are.
 use Rattle.std.proofs.Common.{◌≡◌, ℕ, zero, suc, ◌+◌, ◌++◌, length, nat_le, Bool, true, List, [], ◌∷◌, Option, Some, None, is_some, refl, sym, ap, ◌∙◌, subst}
 use Rattle.ob_tree.specs.declared.tree.Branch.{Branch, out-Branch}
 use Rattle.ob_tree.specs.declared.tree.Case.{Case, out-Case}

@@ -141,7 +141,7 @@ module _ (ms : Modules) (loaded : EachSolid ms) (names : Names) (base : ℕ) whe
   has_result s n (Some b) vs None q h = absurd h
   has_result s n (Some b) vs (Some r) q h = subst (λ x. is_there x.0 ≡ true) h.2 refl
 
-  -- a body, in the scope behind the declarations and the procedures in it
+  -- a body, in the scope after the declarations and the procedures in it
   body_fits : (n : ℕ) (f : Signature) (os : List Shape) (c : Checking) (p : Procedure) (d : Checking) → gives (body_of ms n f c p) d → StartsWith names.variables d.2 → ScopeFits ms (within names (parameters_of f.formals) os) c.0 → own_shapes (length f.formals) c.0.block ≡ os → ShapesFit os → EachMeets names c.1 → EachMeets names d.1 × (d.0 ≡ left c.0)
   unfolding body_of
   body_fits n f os c p d h t scope o few m =

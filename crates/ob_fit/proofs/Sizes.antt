@@ -29,7 +29,7 @@ use Rattle.ob_check.specs.Shapes.{shape_of, shapes_of}
 use Rattle.ob_fit.specs.Fitting.{variable_shape, variable_shapes, face_of_loaded, with_face, face_named, faces_of}
 use Rattle.ob_fit.specs.Solid.{EachSolid}
 use Rattle.ob_fit.proofs.Rules.{if_some, there_is}
-use Rattle.ob_fit.proofs.Solid.{record_zero, array_zero}
+use Rattle.ob_mean.proofs.Zeros.{array_zero, record_zero}
 
 -- ---- types
 

@@ -25,9 +25,8 @@ use Rattle.ob_types.specs.declared.structure.ObType.TheBlock as block
 use Rattle.ob_types.specs.declared.structure.ObType.TheBlock.{Row_of-Field, end_of-Field, more_of-Field, items-the_row-Field, items_shown-the_row-Field-1}
 use Rattle.ob_types.specs.declared.structure.RecordName.{RecordName}
 use Rattle.ob_types.specs.declared.structure.RecordType.{RecordType, RecordType', out-RecordType, roll-RecordType, out-roll-RecordType}
-use Rattle.ob_mean.specs.declared.shape.Shape.{Shape, Row_of-Shape, end_of-Shape, more_of-Shape, items-the_row-Shape, items_hidden-the_row-Shape-1}
-use Rattle.ob_mean.specs.declared.shape.Shape.TheVariants as shape
-use Rattle.ob_mean.specs.Shapes.{zero_of, zeros_in, zeros, at_least_one}
+use Rattle.ob_mean.specs.Shapes.{zero_of, zeros, at_least_one}
+use Rattle.ob_mean.proofs.Zeros.{array_zero, record_zero}
 use Rattle.ob_mean.specs.Values.{Value, size, row}
 use Rattle.ob_scope.specs.declared.block.Entry.{Entry}
 use Rattle.ob_scope.specs.declared.block.Entry.TheVariants as entry
@@ -59,21 +58,6 @@ use Rattle.ob_fit.proofs.Suiting.{never, nothing, some_same, array_forms, seen_i
 row_cells : (n : ℕ) (v : Value) → 0 < n → 0 < size v → 0 < size (row n v)
 row_cells zero v h g = absurd (omega arith)
 row_cells (suc n) v h g = omega arith
-
-row_zeros : (k : _) (fields : Row_of-Shape k) → zeros_in fields ≡ zeros (items-the_row-Shape k fields)
-row_zeros k end_of-Shape = refl
-row_zeros k (more_of-Shape s rest) = ap (λ l. Rattle.ob_mean.specs.Values.Beside (zero_of s) l) (row_zeros _ rest)
-
-abbrev fields_in : Shape → (k : _) × Row_of-Shape k
-fields_in (shape.Record' k fields) = (_, fields)
-fields_in _ = (_, end_of-Shape)
-
-pub record_zero : (ss : List Shape) → zero_of (shape.Record ss) ≡ at_least_one (zeros ss)
-record_zero ss = ap at_least_one (row_zeros (fields_in (shape.Record ss)).0 (fields_in (shape.Record ss)).1 ∙ ap zeros (items_hidden-the_row-Shape-1 ss))
-
-pub array_zero : (n : ℕ) (s : Shape) → zero_of (shape.Array n s) ≡ row n (zero_of s)
-unfolding Rattle.ob_mean.specs.declared.shape.Shape.TheBlock.hidden-the_row-Shape-0 denote.Hole.Carrier.hidden
-array_zero n s = refl
 
 mutual
   pub solid_cells : (t : ObType) → IsSolid t → 0 < size (zero_of (shape_of t))

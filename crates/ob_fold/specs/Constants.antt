@@ -47,7 +47,7 @@ SelectorLayer = Selector-F Factor Selector AddedTerm Designator Expr NextFactor 
 
 -- ---- names
 
--- what is imported under a name, with selectors behind it: no part of a variable is constant
+-- what is imported under a name, with selectors after it: no part of a variable is constant
 unfoldable pub imported : Object → List Selector → Rule Folded
 imported (object.Constant c) [] = Given (folded_of c)
 imported (object.Constant c) (x ∷ xs) = Breaks code.Types
@@ -55,7 +55,7 @@ imported (object.Variable t) xs = Breaks code.NotConstant
 imported (object.TypeName t) xs = Breaks code.Types
 imported (object.Procedure s) xs = Breaks code.Types
 
--- the first selector behind the name of a loaded module, and those behind it
+-- the first selector after the name of a loaded module, and those after it
 abbrev pub member_layer : Modules → ℕ → SelectorLayer → List Selector → Rule Folded
 member_layer ms place (Selector-F.Field f) xs = Then (there (exported_at ms place f.name) code.NotExported) (λ o. imported o xs)
 member_layer ms place (Selector-F.Index indexes) xs = Breaks code.Types
@@ -87,7 +87,7 @@ output_layer (Selector-F.Index indexes) = Breaks code.Types
 unfoldable pub output_member : Selector → Rule Folded
 output_member x = output_layer (out-Selector x)
 
--- a declared name with selectors behind it
+-- a declared name with selectors after it
 unfoldable pub named : Modules → Entry → List Selector → Rule Folded
 named ms (entry.Constant c) [] = Given (folded_of c)
 named ms (entry.Variable t standing) selectors = Breaks code.NotConstant
@@ -143,14 +143,14 @@ abbrev pub function_of : Modules → Scope → Designator → Rule Function
 function_of ms s d =
     function_found ms (seen s (out-Designator d).name.name) (out-Designator d).selectors (outer s (out-Designator d).name.name)
 
--- the actual parameters of a function are judged from left to right, and their number behind them
+-- the actual parameters of a function are judged from left to right, and their number after them
 module _ (inner : Expr → Rule Folded) where
-  -- behind two values nothing may stand
+  -- after two values nothing may stand
   unfoldable pub two_called : Function → Folded → Folded → List Expr → Rule Folded
   two_called f v w [] = there (two_of f v w) code.Parameters
   two_called f v w (c ∷ cs) = Breaks code.Parameters
 
-  -- behind the first value a shift takes another
+  -- after the first value a shift takes another
   unfoldable pub one_called : Function → Folded → List Expr → Rule Folded
   one_called f v [] = there (one_of f v) code.Parameters
   one_called f v (b ∷ bs) = Needs (is_shift f) code.Parameters (Then (inner b) (λ w. two_called f v w bs))
@@ -180,7 +180,7 @@ module _ (inner : Expr → Rule Folded) (deeper : Factor → Rule Folded) (ms : 
   unfoldable pub factor_rule : Factor → Rule Folded
   factor_rule f = factor_layer (out-Factor f)
 
-  -- one factor more: what stands before the operator is judged before what stands behind it
+  -- one factor more: what stands before the operator is judged before what stands after it
   unfoldable pub next_factor : Folded → NextFactor → Rule Folded
   next_factor v x =
       Needs (multiplies (out-NextFactor x).operator v) code.Types (

@@ -29,7 +29,7 @@ use ob_tree::tree::{
 use ob_types::{Constant, Object};
 use std::alloc::Global;
 
-/// What is imported under a name, with selectors behind it.
+/// What is imported under a name, with selectors after it.
 #[tactic(auto, unfolding(crate::specs::Constants::imported))]
 fn imported(
     alloc: Global,
@@ -49,7 +49,7 @@ fn imported(
     }
 }
 
-/// The first selector behind the name of a loaded module, and those behind it.
+/// The first selector after the name of a loaded module, and those after it.
 #[tactic(auto, unfolding(crate::specs::Constants::member))]
 fn member(
     alloc: Global,
@@ -80,7 +80,7 @@ fn no_input(name: InputName) -> RuleCode
     }
 }
 
-/// The selector behind the name of the module In.
+/// The selector after the name of the module In.
 #[tactic(auto, unfolding(crate::specs::Constants::input_member))]
 fn input_member(selector: &Selector, span: Span) -> Result<Folded, Rejected>
     ensures { Judges (spec.input_member selector.now) result }
@@ -103,7 +103,7 @@ fn no_output(name: OutputName) -> RuleCode
     }
 }
 
-/// The selector behind the name of the module Out.
+/// The selector after the name of the module Out.
 #[tactic(auto, unfolding(crate::specs::Constants::output_member))]
 fn output_member(selector: &Selector, span: Span) -> Result<Folded, Rejected>
     ensures { Judges (spec.output_member selector.now) result }
@@ -117,7 +117,7 @@ fn output_member(selector: &Selector, span: Span) -> Result<Folded, Rejected>
     }
 }
 
-/// A declared name with selectors behind it.
+/// A declared name with selectors after it.
 #[tactic(auto, unfolding(crate::specs::Constants::named))]
 fn named(
     alloc: Global,
@@ -218,7 +218,7 @@ fn entry_called(modules: &Imports, entry: &Entry, selectors: &[Selector]) -> Rul
     }
 }
 
-/// Where a fault of a name with selectors behind it stands: at the name that its module lacks, or else at the first token.
+/// Where a fault of a name with selectors after it stands: at the name that its module lacks, or else at the first token.
 fn place_of(code: RuleCode, selectors: &[Selector], span: Span) -> Span {
     match (code, selectors) {
         (RuleCode::NotExported, [Selector::Field(field), ..]) => field.span,
@@ -426,7 +426,7 @@ fn called(
     }
 }
 
-/// A call of a function, behind its first actual parameter.
+/// A call of a function, after its first actual parameter.
 #[cycle(constant)]
 #[tactic(auto, unfolding(crate::specs::Constants::one_called, crate::specs::Constants::two_called))]
 fn one_called(

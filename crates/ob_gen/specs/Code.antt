@@ -284,12 +284,12 @@ first_code [] rest = rest
 first_code (b ∷ bs) rest =
     b.guard ++ (line 1 0 (instr.SkipIfZero (length b.body + 1)) ∷ (b.body ++ (line 0 0 (instr.Skip (length (first_code bs rest))) ∷ first_code bs rest)))
 
--- the bodies of a loop, each of which leads to the guards behind them all
+-- the bodies of a loop, each of which leads to the guards after them all
 abbrev pub bodies_code : List Guarded → List Line
 bodies_code [] = []
 bodies_code (b ∷ bs) = b.body ++ (line 0 0 (instr.Skip (length (bodies_code bs))) ∷ bodies_code bs)
 
--- the guards, the first of which begins so far behind the first body
+-- the guards, the first of which begins so far after the first body
 abbrev pub guards_code : ℕ → List Guarded → List Line
 guards_code far [] = []
 guards_code far (b ∷ bs) = b.guard ++ (line 1 0 (instr.EnterBack (far + length b.guard)) ∷ guards_code (far + length b.guard - length b.body) bs)

@@ -50,7 +50,7 @@ pub record IsCodeOf (names : Names) (body : List TypedStatement) (result : Optio
   pub all_taken : g.entry.operands + g.entry.names ≡ parameter_count names.parameters
   pub gives : g.entry.is_function ≡ is_there result
 
--- the procedures of a module, and its body behind them
+-- the procedures of a module, and its body after them
 abbrev pub AreCompiled : List Face → TypedModule → List TypedProcedure → List Procedure → Type 0
 AreCompiled faces m [] [] = ⊥
 AreCompiled faces m [] (g ∷ []) = IsCodeOf (names_in faces m) m.body None g

@@ -23,7 +23,7 @@ abbrev pub either_list : Names → ℕ → ℕ → List TypedExpr → List Line
 either_list names h k [] = line h k (instr.Push (pos 0)) ∷ []
 either_list names h k (e ∷ es) = or_code h k (expr_code names h k e) (either_list names h k es)
 
--- ---- pieces of code, behind each of which a jump leads to the end of all
+-- ---- pieces of code, after each of which a jump leads to the end of all
 
 abbrev pub leading : {A : Type 0} → ℕ → ℕ → (A → List Line) → List A → List Line → List Line
 leading h k f [] last = last

@@ -1,4 +1,4 @@
-//! Instructions behind one another, and jumps that are written once it is known how far they lead.
+//! Instructions after one another, and jumps that are written once it is known how far they lead.
 
 ghost use Rattle.std.specs.Prelude.{◌≡◌, ◌+◌, ◌*◌, ◌<◌, ◌≤◌, [], ◌∷◌, ◌++◌, length, slice_set, vec_len, All, OnOk};
 ghost use Rattle.ob_gen.specs.Code as spec;

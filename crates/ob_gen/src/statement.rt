@@ -154,7 +154,7 @@ fn emit_arm(
     Ok(())
 }
 
-// Tests of labels, each of which leads past a jump behind them.
+// Tests of labels, each of which leads past a jump after them.
 fn emit_labels(code: &mut Vec<Line>, labels: &[LabelRange]) -> Result<(), AllocError>
     ensures code { OnOk result (code.new.items ≡ code.old.items ++ spec.labels_code labels.now) }
     ensures grows { OnOk result (vec_len code.old ≤ vec_len code.new) }
@@ -192,7 +192,7 @@ fn emit_loop(
     emit_guards(alloc, code, known, &starts, branches)
 }
 
-// The bodies of a loop, each of which leads to the guards behind them all. It answers where they begin.
+// The bodies of a loop, each of which leads to the guards after them all. It answers where they begin.
 #[cycle(statements)]
 fn emit_bodies(
     alloc: Global,

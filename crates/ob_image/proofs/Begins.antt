@@ -8,7 +8,7 @@ use Rattle.ob_mean.specs.Values.{Value, image, row}
 use Rattle.ob_mean.specs.Shapes.{at_least_one, zero_of, zeros, opening_value, opening_row}
 use Rattle.ob_mean.specs.Texts.{text_row}
 use Rattle.ob_code.specs.Machine.{text_cells}
-use Rattle.ob_table.proofs.Tables.{array_zero, record_zero}
+use Rattle.ob_mean.proofs.Zeros.{array_zero, record_zero}
 use Rattle.ob_gen.proofs.machine.Zeros.{image-text_row, length-text_cells}
 
 -- ---- zeros
@@ -47,7 +47,7 @@ zeros_image xs i x lt e =
 
 -- ---- texts
 
--- the characters of a text, and 0X behind them
+-- the characters of a text, and 0X after them
 pub text_character : (n : ℕ) (cs : List ℕ) (i : ℕ) (z : ℤ) → i < n → i < length cs → get_or (text_cells n cs) i z ≡ pos (get_or cs i 0)
 text_character zero cs i z lt inside = absurd (omega (arith, lt))
 text_character (suc n) [] i z lt inside = absurd (omega (arith, inside))
@@ -79,7 +79,7 @@ opening_image vs i v lt e =
 
 -- ---- steps of a loop
 
--- what is put behind cells that were put behind others
+-- what is put after cells that were put after others
 pub put_more : (old cells new more each all : List ℤ) → cells ≡ old ++ more → new ≡ cells ++ each → all ≡ more ++ each → new ≡ old ++ all
 put_more old cells new more each all a b e = b ∙ ap (λ l. l ++ each) a ∙ append_assoc old more each ∙ ap (λ l. old ++ l) (sym e)
 

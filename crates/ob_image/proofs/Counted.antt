@@ -21,7 +21,7 @@ compiled_cells all (m ∷ ms) [] ls from h = absurd h
 compiled_cells all (m ∷ ms) (k ∷ ks) [] from h = absurd h
 compiled_cells all (m ∷ ms) (k ∷ ks) (l ∷ ls) from h = (h.0.ready.generated.cells, compiled_cells all ms ks ls (from + l.code.cells) h.1)
 
--- and lies one module behind the other
+-- and lies one module after the other
 pub compiled_laid : (all modules : List Module) (known : List Known) (code : Code) (from : ℕ) → AreCompiledFrom all modules known code from → AreLaid from code
 compiled_laid all [] [] [] from h = tt
 compiled_laid all [] [] (l ∷ ls) from h = absurd h

@@ -1,4 +1,4 @@
--- Modules put among others, and laid one behind the other.
+-- Modules put among others, and laid one after the other.
 use Rattle.std.proofs.Common.{◌≡◌, ℕ, zero, suc, ◌+◌, ◌-◌, ◌<◌, ◌≤◌, List, [], ◌∷◌, ◌++◌, length, get_or, take, drop, refl, sym, ap, subst, ◌∙◌, add-one, append-nil, arith}
 use Rattle.std.proofs.Math.ListN.{set}
 use Rattle.std.proofs.lemmas.List.{drop_all, take-append-drop, take_all}
@@ -13,20 +13,20 @@ put_within [] i x h = absurd (omega (arith, h))
 put_within (y ∷ xs) zero x h = refl
 put_within (y ∷ xs) (suc i) x h = ap (λ l. y ∷ l) (put_within xs i x (omega (arith, h)))
 
--- behind the others
+-- after the others
 pub put_behind : {A : Type 0} (xs : List A) (i : ℕ) (x : A) → i ≡ length xs → xs ++ x ∷ [] ≡ put_at xs i x
 put_behind [] i x h = refl
 put_behind (y ∷ xs) zero x h = absurd (omega (arith, h))
 put_behind (y ∷ xs) (suc i) x h = ap (λ l. y ∷ l) (put_behind xs i x (omega (arith, h)))
 
--- ---- modules laid one behind the other
+-- ---- modules laid one after the other
 
 laid_length : (from : ℕ) (code : Code) (i : ℕ) → length (laid from (take i code) ++ drop i code) ≡ length code
 laid_length from code zero = refl
 laid_length from [] (suc i) = refl
 laid_length from (l ∷ ls) (suc i) = ap suc (laid_length (from + l.code.cells) ls i)
 
--- those behind are as they were
+-- those after are as they were
 pub laid_next : (from : ℕ) (code : Code) (i : ℕ) (d : LinkedModule) → get_or (laid from (take i code) ++ drop i code) i d ≡ get_or code i d
 laid_next from code zero d = refl
 laid_next from [] (suc i) d = refl

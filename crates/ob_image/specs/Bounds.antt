@@ -4,7 +4,7 @@ use Rattle.ob_mean.specs.Programs.{opening_store}
 use Rattle.ob_mean.specs.Values.{before, item, size}
 use Rattle.ob_session.specs.Session.{Module, program_of}
 
--- the first cell of the module of this number in the store of the modules, and the first behind its own
+-- the first cell of the module of this number in the store of the modules, and the first after its own
 abbrev pub AreBounds : List Module → ℕ → ℕ → ℕ → Type 0
 AreBounds modules i from behind =
     let store = opening_store (program_of modules) in

@@ -1,4 +1,4 @@
-//! The modules of an image one behind the other.
+//! The modules of an image one after the other.
 
 ghost use Rattle.std.specs.Prelude.{◌≡◌, ◌<◌, ◌≤◌, ◌^◌, length, take, vec_capacity};
 ghost use Rattle.ob_code.specs.Linked.{all_cells, AreLaid};
@@ -6,7 +6,7 @@ ghost use Rattle.ob_linked.specs.Compiled as spec;
 
 use ob_code::instr::LinkedModule;
 
-/// Puts something in the place of that number, or behind the others, for which there is room. It takes no memory.
+/// Puts something in the place of that number, or after the others, for which there is room. It takes no memory.
 #[tactic(auto, using(crate::proofs::Laid::put_within, crate::proofs::Laid::put_behind))]
 pub fn put_at<T: Drop>(items: &mut Vec<T>, number: usize, item: T)
     requires there { number ≤ length items.old.items }
@@ -23,7 +23,7 @@ pub fn put_at<T: Drop>(items: &mut Vec<T>, number: usize, item: T)
     }
 }
 
-// The first cell behind the modules before the one of this number, where these lie one behind the other.
+// The first cell after the modules before the one of this number, where these lie one after the other.
 fn cells_before(code: &[LinkedModule], number: usize) -> usize
     requires there { number ≤ length code.now }
     requires laid { AreLaid 0 (take number code.now) }
@@ -37,7 +37,7 @@ fn cells_before(code: &[LinkedModule], number: usize) -> usize
     last.cells + last.code.cells
 }
 
-/// Lays the modules' cells one behind the other, from 0 on, where those before the one of this number lie so. Nothing else of them
+/// Lays the modules' cells one after the other, from 0 on, where those before the one of this number lie so. Nothing else of them
 /// changes, and it takes no memory.
 pub fn lay(code: &mut Vec<LinkedModule>, number: usize)
     requires there { number ≤ length code.old.items }

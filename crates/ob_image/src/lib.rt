@@ -1,4 +1,4 @@
-//! What the image of a session is made of: the cells that its variables begin with, the code of its modules one behind the other,
+//! What the image of a session is made of: the cells that its variables begin with, the code of its modules one after the other,
 //! what is known of them, and where each module's cells lie.
 #![tactic(auto)]
 

@@ -8,7 +8,7 @@ ghost use Rattle.ob_session.specs.Session.{Module};
 
 use ob_code::instr::LinkedModule;
 
-// As many cells as the modules have before the one of this number, where they lie one behind the other.
+// As many cells as the modules have before the one of this number, where they lie one after the other.
 #[tactic(auto, using(crate::proofs::Counted::cells_before, crate::proofs::Counted::cells_beyond))]
 fn first_cell(code: &[LinkedModule], cells: usize, number: usize) -> usize
     requires { cells ≡ all_cells code.now }
@@ -20,7 +20,7 @@ fn first_cell(code: &[LinkedModule], cells: usize, number: usize) -> usize
     cells
 }
 
-/// The first cell of the module of this number and the first behind its own, whatever the modules are of which this is the code,
+/// The first cell of the module of this number and the first after its own, whatever the modules are of which this is the code,
 /// with as many cells in all. Where there is no such module, both are the number of all cells.
 #[tactic(auto, using(crate::proofs::Counted::bounds_beyond))]
 pub fn bounds(code: &[LinkedModule], cells: usize, number: usize) -> (usize, usize)

@@ -64,7 +64,7 @@ fn push_cell(cells: &mut Vec<i32>, number: i32) -> Result<(), AllocError>
     Ok(())
 }
 
-// The character of this number in a text, or 0X behind its end.
+// The character of this number in a text, or 0X after its end.
 #[tactic(auto, using(crate::proofs::Begins::text_character, crate::proofs::Begins::text_zero))]
 fn text_cell(text: &[u8], number: usize) -> i32
     ensures { (n : ℕ) (z : ℤ) → number < n → slice_index_or (text_cells n text.now) number z ≡ result }
@@ -96,11 +96,11 @@ fn push_variable(cells: &mut Vec<i32>, variable: &ModuleVariable) -> Result<(), 
     }
 }
 
-/// Puts the cells that a module's variables begin with behind others: 0 in each, and the characters of strings.
+/// Puts the cells that a module's variables begin with after others: 0 in each, and the characters of strings.
 ///
 /// # Errors
 ///
-/// Out of memory; some of them may then stand behind the others.
+/// Out of memory; some of them may then stand after the others.
 #[tactic(auto, using(crate::proofs::Begins::opening_image))]
 pub fn push_opening(cells: &mut Vec<i32>, variables: &[ModuleVariable]) -> Result<(), AllocError>
     ensures { OnOk result (cells.new.items ≡ cells.old.items ++ image (opening_row variables.now)) }

@@ -16,14 +16,14 @@ fresh = record { input = opened; word = [] }
 abbrev pub failed : Buffer → Buffer
 failed b = record { input = given None b.input; word = b.word }
 
--- behind the blanks
+-- after the blanks
 abbrev pub skipped : Buffer → Buffer
 skipped b = record { input = record { done = b.input.done; left = after_blanks b.input.left }; word = b.word }
 
 abbrev pub is_some_left : Buffer → Bool
 is_some_left b = nat_lt 0 (length b.input.left)
 
--- behind that many characters
+-- after that many characters
 abbrev pub advanced : ℕ → Buffer → Buffer
 advanced used b = record { input = record { done = b.input.done; left = drop used b.input.left }; word = b.word }
 

@@ -33,7 +33,7 @@ opened = record { done = true; left = [] }
 
 -- ---- what stands at the front of the buffer, of which the first is no blank (but for a character)
 
--- what is read, and the characters behind it
+-- what is read, and the characters after it
 pub record Front (A : Type 0) : Type 0 where
   pub value : A
   pub rest : List ℕ

@@ -1,3 +1,5 @@
+//! Answers of the readers of In.
+
 /// What a reader of In answers.
 #[derive(Clone, Copy, Debug, PartialEq, Eq)]
 pub enum Answer<T> {

@@ -75,7 +75,7 @@ impl LineBuffer {
         self.word_end = 0;
     }
 
-    /// A line, which stands behind what is left. It is the only call that takes memory, and after its refusal the
+    /// A line, which stands after what is left. It is the only call that takes memory, and after its refusal the
     /// buffer is unchanged.
     pub fn push_line(&mut self, text: &str) -> Result<(), AllocError>
         ensures ok { OnOk result (self.new ≡ record { input = spec.given (Some text.now) self.old.input; word = [] }) }
@@ -214,7 +214,7 @@ impl LineBuffer {
         Answer::Value(())
     }
 
-    // The characters that are left behind the blanks.
+    // The characters that are left after the blanks.
     fn behind_blanks(&self) -> &[u8]
         ensures { result.now ≡ spec.after_blanks self.now.input.left }
     {

@@ -1,3 +1,5 @@
+//! Writers of Out.
+
 ghost use Rattle.std.specs.Prelude.{◌≡◌, ◌+◌, ◌≤◌, ◌++◌, length, replicate, string_bytes, IsOk, OnErr, OnOk};
 ghost use Rattle.std.specs.String.{string_capacity, string_len};
 ghost use Rattle.ob_inout.specs.Writing as spec;

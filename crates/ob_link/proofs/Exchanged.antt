@@ -15,7 +15,7 @@ none_module = None
 
 -- ---- one name at the head
 
--- a look-up by name goes on behind a module of another name
+-- a look-up by name goes on after a module of another name
 no_found : (x : Module) (xs : List Module) (q : List ℕ) → find_module (x ∷ xs) q ≡ None → (bytes_eq (name_of x) q ≡ false) × (find_module xs q ≡ None)
 no_found x xs q e =
     elim (cases_Bool (bytes_eq (name_of x) q)) as (λ _. (bytes_eq (name_of x) q ≡ false) × (find_module xs q ≡ None)) [

@@ -42,7 +42,7 @@ looked_there ms c m place number procedure fault command p n q links k =
 
 -- ---- all of them
 
--- what commands come to behind some that can run
+-- what commands come to after some that can run
 abbrev pub ready_behind : List Command → Ready → Ready
 ready_behind cs (Runs ds) = Runs (cs ++ ds)
 ready_behind cs (Faulty fault) = Faulty fault

@@ -29,7 +29,7 @@ at_number F d ms k m e = get_or_from_slice_get (map F ms) k (F m) d (slice_get-m
 pub at_place : {A : Type 0} (F : Module → A) (d : A) (ms : List Module) (q : List ℕ) (m : Module) → find_module ms q ≡ Some m → slice_index_or (map F ms) (place_of ms q) d ≡ F m
 at_place F d ms q m e = at_number F d ms (place_of ms q) m (found_at ms q m e)
 
--- and behind all of them
+-- and after all of them
 pub at_no_place : {A : Type 0} (F : Module → A) (d : A) (ms : List Module) (q : List ℕ) → find_module ms q ≡ None → slice_index_or (map F ms) (place_of ms q) d ≡ d
 at_no_place F d [] q e = refl
 at_no_place F d (n ∷ ms) q e =

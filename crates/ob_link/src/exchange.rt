@@ -16,7 +16,7 @@ use ob_types::Interface;
 use std::alloc::AllocError;
 
 impl Table {
-    // Loads a module, in the place of the one that has its name, which comes back, or behind the others.
+    // Loads a module, in the place of the one that has its name, which comes back, or after the others.
     fn exchange(&mut self, loaded: SessionModule) -> Result<Option<SessionModule>, AllocError>
         ensures ok { IfOk result (λ back. back ≡ session.find_module self.old loaded.interface.name) }
         ensures new { OnOk result (self.new ≡ session.with_module self.old loaded) }
@@ -72,7 +72,7 @@ fn take_in(
 }
 
 impl Modules {
-    /// Loads a module: it takes the place of the one that has its name, or comes behind the others. What comes back says which
+    /// Loads a module: it takes the place of the one that has its name, or comes after the others. What comes back says which
     /// modules then may run, by their numbers. Where the name is new, and the module and all others link, it looks at the
     /// imports of this module alone.
     ///
@@ -101,7 +101,7 @@ impl Modules {
         Ok(fault.is_none())
     }
 
-    // Loads such a module behind the others.
+    // Loads such a module after the others.
     fn install_linked(&mut self, loaded: SessionModule) -> Result<Vec<bool>, AllocError>
         requires { spec.LinksBehind self.old loaded }
         ensures new { OnOk result (self.new ≡ session.with_module self.old loaded) }

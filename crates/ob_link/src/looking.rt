@@ -41,7 +41,7 @@ fn is_named(exported: &Exported, name: &Text) -> bool
     exported.name.same(name) && is_command(&exported.object)
 }
 
-// The place behind this one, where it is an exported procedure.
+// The place after this one, where it is an exported procedure.
 fn place_behind(object: &Object, place: usize) -> usize
     requires { place < usize.MAX }
     ensures { result ≡ cells.place_behind object.now place }

@@ -1,4 +1,4 @@
--- Code with one more module behind it.
+-- Code with one more module after it.
 use Rattle.std.proofs.Common.{◌≡◌, ◌⊎◌, ℕ, zero, suc, ◌+◌, ◌<◌, Bool, true, List, [], ◌∷◌, ◌++◌, length, Some, None, refl, sym, ap, ◌∙◌, subst, inl, inr, arith}
 use Rattle.std.specs.Prelude.{slice_get, slice_index}
 use Rattle.std.proofs.lemmas.Option.{slice_get_within}
@@ -39,7 +39,7 @@ index_at (y ∷ xs) (suc i) x e = index_at xs i x e
 
 -- ---- code
 
--- cells behind those of all others
+-- cells after those of all others
 laid_behind : (from : ℕ) (code : Code) (l : LinkedModule) → AreLaid from code → l.cells ≡ from + all_cells code → AreLaid from (code ++ l ∷ [])
 laid_behind from [] l h e = (omega (arith, e), tt)
 laid_behind from (x ∷ code) l h e = (h.0, laid_behind (from + x.code.cells) code l h.1 (omega (arith, e)))
@@ -80,7 +80,7 @@ linked_behind code l runs others alike linked cells imports = record {
     by home x ok i known e (inr at) =
         subst (λ y. Imports (code ++ l ∷ []) others y i known) at.1 (imports i known (ap (λ (y : LinkedModule). slice_get y.code.imports.items i) at.1 ∙ e))
 
--- the code of a program is that of the program, whatever stands behind it
+-- the code of a program is that of the program, whatever stands after it
 pub program_behind : (program : Program) (code more : Code) (faces : ℕ → List Face) (runs : ℕ → Bool) → IsCodeOfProgram program code faces runs → IsCodeOfProgram program (code ++ more) faces runs
 program_behind program code more faces runs whole i ok =
     let r = whole i ok in

@@ -1,4 +1,4 @@
--- The code of commands, behind that of a session's modules, may run and does what they mean.
+-- The code of commands, after that of a session's modules, may run and does what they mean.
 use Rattle.std.proofs.Common.{◌≡◌, ◌⊎◌, ℕ, zero, suc, ◌+◌, ◌<◌, true, false, List, [], ◌∷◌, ◌++◌, length, Some, None, refl, sym, ap, subst, ◌∙◌, inl, inr, arith, append-nil}
 use Rattle.std.specs.Prelude.{◌||◌, nat_eq, slice_get, slice_index}
 use Rattle.std.proofs.lemmas.Option.{slice_get_within}
@@ -132,7 +132,7 @@ module _ (modules : List Module) (known : List Known) (code : Code) (all : AreCo
     l_there : slice_get longer (length modules) ≡ Some l
     l_there = ap (slice_get longer) (sym count) ∙ last_at code l
 
-    -- the module behind others changes nothing of them
+    -- the module after others changes nothing of them
     alike : (n : ℕ) → n < length code → runs_in modules n ≡ runs_with modules n
     alike n lt = ap (λ b. b || runs_in modules n) (sym other)
       where

@@ -64,7 +64,7 @@ flag_behind [] (suc i) = ap (λ b. b || false) (sym (never_zero i))
 flag_behind (flag ∷ flags) zero = ap (λ b. b || flag) (sym (zero_never (length flags)))
 flag_behind (flag ∷ flags) (suc i) = flag_behind flags i ∙ ap (λ b. b || runs_of flags i) (sym (next_eq i (length flags)))
 
--- and with one more for what stands behind them
+-- and with one more for what stands after them
 pub flags_run_with : (modules : List Module) (flags : List Bool) → length flags ≡ length modules → ((i : ℕ) → runs_of flags i ≡ runs_in modules i) → (i : ℕ) → runs_of (flags ++ true ∷ []) i ≡ runs_with modules i
 flags_run_with modules flags long say i = flag_behind flags i ∙ ap (λ n. nat_eq i n || runs_of flags i) long ∙ ap (λ b. nat_eq i (length modules) || b) (say i)
 

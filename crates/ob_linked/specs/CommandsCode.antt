@@ -1,4 +1,4 @@
--- Commands as code: a module behind those of a session, whose body calls one after the other.
+-- Commands as code: a module after those of a session, whose body calls one after the other.
 use Rattle.std.specs.Prelude.{◌≡◌, ℕ, List, [], ◌∷◌, ◌++◌, length, Bool, true, false, ◌||◌, nat_eq, Some, slice_get}
 use Rattle.ob_mean.specs.declared.expression.Callee.TheVariants.{OfImport}
 use Rattle.ob_mean.specs.declared.statement.Action.TheVariants.{Call}
@@ -53,7 +53,7 @@ calls_body (call ∷ calls) = Simple (Call (OfImport call.0 call.1) 0 []) ∷ ca
 abbrev pub commands_tree : List (ℕ × ℕ) → TypedModule
 commands_tree calls = record { name = []; variables = []; procedures = []; exported = []; body = calls_body calls }
 
--- its code, over what is known of the commands' modules, behind that of the session's
+-- its code, over what is known of the commands' modules, after that of the session's
 pub record IsBehind (code : Code) (homes : List ℕ) (calls : List (ℕ × ℕ)) (faces : List Face) (l : LinkedModule) : Type 0 where
   pub generated : IsGenerated faces (commands_tree calls) l.code
   pub imports : l.imports.items ≡ homes
@@ -67,11 +67,11 @@ EachCommandsForm =
     (modules : List Module) (known : List Known) (code : Code) (cs : List Command) (homes : List ℕ) (calls : List (ℕ × ℕ)) (faces : List Face)
     → AreCompiled modules known code → AreCallable modules known cs homes calls faces → IsWellFormed faces (commands_tree calls)
 
--- modules that may run, and what stands behind them
+-- modules that may run, and what stands after them
 abbrev pub runs_with : List Module → ℕ → Bool
 runs_with modules i = nat_eq i (length modules) || runs_in modules i
 
--- behind the modules' code: all is linked, enough is known of its operands and names where it may run, that of the modules is
+-- after the modules' code: all is linked, enough is known of its operands and names where it may run, that of the modules is
 -- still the program's, and this does what the commands mean
 pub record CommandsMayRun (modules : List Module) (known : List Known) (code : Code) (cs : List Command) (l : LinkedModule) : Type 0 where
   pub linked : IsLinked (code ++ l ∷ []) (runs_with modules)

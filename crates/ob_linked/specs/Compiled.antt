@@ -102,7 +102,7 @@ EachMayRun = (modules : List Module) (known : List Known) (code : Code) → AreC
 
 -- ---- loading a module
 
--- in the place of that number, or behind the others
+-- in the place of that number, or after the others
 abbrev pub put_at : {A : Type 0} → List A → ℕ → A → List A
 put_at [] i x = x ∷ []
 put_at (y ∷ ys) zero x = x ∷ ys

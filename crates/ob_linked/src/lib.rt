@@ -13,7 +13,7 @@ pub fn may_run_law()
     ensures { EachMayRun }
 {}
 
-/// Where a module is loaded, its code in the place of the one before, or behind the others, with the cells laid again one after
+/// Where a module is loaded, its code in the place of the one before, or after the others, with the cells laid again one after
 /// the other, code stays that of the session's modules.
 pub fn loads_law()
     ensures { EachLoads }
@@ -41,7 +41,7 @@ pub fn commands_form_law()
     ensures { EachCommandsForm }
 {}
 
-/// The code of that module, behind that of the session's modules: all are linked as their code knows them, enough is known of its
+/// The code of that module, after that of the session's modules: all are linked as their code knows them, enough is known of its
 /// operands and names, the modules' code stays that of the session's program, and it does what the commands mean.
 pub fn commands_law()
     ensures { EachCommandsMayRun }

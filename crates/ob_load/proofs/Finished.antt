@@ -42,7 +42,7 @@ taken_flags (suc n) [] f k h o = none_left (suc n) f k h o
 taken_flags (suc n) (b ∷ bs) f zero h o = h zero (omega arith)
 taken_flags (suc n) (b ∷ bs) f (suc k) h o = taken_flags n bs (λ j. f (suc j)) k (λ j l. h (suc j) (omega (arith, l))) (λ j l. o (suc j) (omega (arith, l)))
 
--- no module stands behind the last one
+-- no module stands after the last one
 past : (modules : List Module) (k : ℕ) → length modules ≤ k → runs_in modules k ≡ false
 past modules k le = ap (links modules) (slice_get_past modules k le)
 

@@ -84,7 +84,7 @@ module _ (modules : List Module) (store : Value) (task : Task) (lines : List Lin
         omega (arith, few, ap (λ (g : CellMeaning). g.turns) is),
       )
 
-  -- a stretch behind the turns so far
+  -- a stretch after the turns so far
   joined : (u k : ℕ) (shown : List ℕ) (c d : Config) (why : Outcome) → Comes i.code (Going (supply u lines) first) (Going (supply 0 []) (prefixed shown c)) → StandsIn i.code k c d why → Comes i.code (Going (supply (u + k) lines) first) (Standing why (supply 0 []) (prefixed shown d))
   joined u k shown c d why a s =
       follows_on i.code u k lines [] first (prefixed shown c) (Standing why (supply 0 []) (prefixed shown d)) a (run_prefixed i.code shown (supply k []) c why (supply 0 []) d s)

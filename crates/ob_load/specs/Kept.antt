@@ -34,7 +34,7 @@ pub record IsKept (modules : List Module) (known : List Known) (i : ImageState) 
   pub checkable : AreCheckable modules
   pub said : AreSaid modules known
 
--- behind it the code of commands may stand, which has no cells
+-- after it the code of commands may stand, which has no cells
 pub record IsHeld (modules : List Module) (known : List Known) (i : ImageState) : Type 0 where
   pub compiled : AreCompiled modules known (take (length modules) i.code)
   pub runs : (n : ℕ) → n < length modules → runs_of i.may_run n ≡ runs_in modules n

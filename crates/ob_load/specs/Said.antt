@@ -37,11 +37,11 @@ read_parameter var (OtherType s) = parameter.Place s
 pub data Around : Type 0 where
   OfArray : ℕ → Around
   OfOpen : Around
-  -- a field behind those of these shapes
+  -- a field after those of these shapes
   OfField : List Shape → Around
   OfVariable : Around
   OfTypeName : Around
-  -- a formal parameter, VAR or not, behind these
+  -- a formal parameter, VAR or not, after these
   OfFormal : Bool → List Parameter → Around
 
 pub data At : Type 0 where
@@ -49,16 +49,16 @@ pub data At : Type 0 where
   Line : At
   -- in a line, of which the rest says nothing
   Rest : At
-  -- in the first word of a line, and in the name behind it: behind that a type comes, of this
+  -- in the first word of a line, and in the name after it: after that a type comes, of this
   Word : Around → At
   Name : Around → At
   -- in a line of a procedure, before the parenthesis
   Procedure : At
   -- at a formal parameter, or where none comes any more
   Formals : List Parameter → At
-  -- behind a formal parameter
+  -- after a formal parameter
   Formal : List Parameter → At
-  -- behind all of them; whether there is a result
+  -- after all of them; whether there is a result
   Result : List Parameter → Bool → At
   -- at a type
   Type' : List Around → At
@@ -69,12 +69,12 @@ pub data At : Type 0 where
   -- at a field, or where none comes any more, and in the name of one
   Fields : List Shape → List Around → At
   FieldName : List Shape → List Around → At
-  -- behind a field
+  -- after a field
   Field : List Shape → List Around → At
-  -- behind the type of a variable
+  -- after the type of a variable
   Variable : Shape → At
 
--- behind a type that stands in these, of which the innermost comes first
+-- after a type that stands in these, of which the innermost comes first
 abbrev pub behind : Read → List Around → At
 behind t [] = Rest
 behind t (OfArray n ∷ around) = behind (OtherType (shape.Array n (read_shape t))) around

@@ -14,7 +14,7 @@ abbrev pub task_meaning : Program → Task → runs.Piece Done
 task_meaning program (Body home) n w = body_meaning program home n w
 task_meaning program (Commands cs) n w = commands_meaning program cs.items n w
 
--- where its code stands: that of commands behind the modules
+-- where its code stands: that of commands after the modules
 abbrev pub home_of : List Module → Task → ℕ
 home_of modules (Body home) = home
 home_of modules (Commands cs) = length modules

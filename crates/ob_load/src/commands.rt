@@ -189,7 +189,7 @@ fn calls_of(
     })
 }
 
-// The same, and room for one module more behind the others.
+// The same, and room for one module more after the others.
 fn ready(
     modules: &Modules,
     known: &[KnownFaces],

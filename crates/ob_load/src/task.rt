@@ -1,3 +1,5 @@
+//! What a machine runs in a session.
+
 use ob_link::Command;
 
 /// What a machine runs in a session.

@@ -23,7 +23,7 @@ first_of [] enter otherwise n w = otherwise n w
 first_of (b ∷ bs) enter otherwise n w =
     and_then (b.guard n w) (λ v n1 w1. choose v (first_of bs enter otherwise n1 w1) (enter b.body n1 w1))
 
--- IF: the body of the first whose guard holds, else what stands behind ELSE
+-- IF: the body of the first whose guard holds, else what stands after ELSE
 abbrev pub chosen : List Guarded → Piece Done → Piece Done
 chosen bs rest = first_of bs (λ body. body) rest
 

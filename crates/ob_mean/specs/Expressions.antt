@@ -45,12 +45,12 @@ abbrev pub chained : List (ℤ → Piece ℤ) → ℤ → Piece ℤ
 chained [] x n w = Goes x n w
 chained (step ∷ steps) x n w = and_then (step x n w) (λ y n1 w1. chained steps y n1 w1)
 
--- FALSE at the first that is FALSE; what stands behind it isn't evaluated
+-- FALSE at the first that is FALSE; what stands after it isn't evaluated
 abbrev pub every : List (Piece ℤ) → Piece ℤ
 every [] n w = Goes (pos 1) n w
 every (e ∷ es) n w = and_then (e n w) (λ v n1 w1. choose v (Goes (pos 0) n1 w1) (every es n1 w1))
 
--- TRUE at the first that is TRUE; what stands behind it isn't evaluated
+-- TRUE at the first that is TRUE; what stands after it isn't evaluated
 abbrev pub either : List (Piece ℤ) → Piece ℤ
 either [] n w = Goes (pos 0) n w
 either (e ∷ es) n w = and_then (e n w) (λ v n1 w1. choose v (either es n1 w1) (Goes (pos 1) n1 w1))

@@ -50,7 +50,7 @@ procedure_of program home (callee.OfImport i place) = exported_in (slice_get pro
 
 -- ---- calls
 
--- the value behind RETURN, if there is one
+-- the value after RETURN, if there is one
 abbrev pub result_of : Scope → Option TypedExpr → Piece (List ℤ)
 result_of scope None n w = Goes [] n w
 result_of scope (Some e) n w = and_then (value_of scope e n w) (λ v n1 w1. Goes (v ∷ []) n1 w1)

@@ -30,7 +30,7 @@ before_zero (c ∷ cs) = if c == 0 then [] else c ∷ before_zero cs
 abbrev pub text_of : Value → List ℕ
 text_of v = before_zero (characters v)
 
--- an array of so many elements with these characters at its front, and 0X behind them
+-- an array of so many elements with these characters at its front, and 0X after them
 abbrev pub text_row : ℕ → List ℕ → Value
 text_row zero cs = Nothing
 text_row (suc n) [] = Beside (Cell (pos 0)) (text_row n [])

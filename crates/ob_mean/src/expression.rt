@@ -1,3 +1,5 @@
+//! Typed expressions.
+
 use crate::operator::{Operator, Relation, UnaryOperator};
 use ob_base::{Boxed, Items};
 

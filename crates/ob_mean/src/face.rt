@@ -1,3 +1,5 @@
+//! What is known of a module where it is imported.
+
 use crate::module::Parameter;
 use crate::shape::Shape;
 use ob_base::Items;

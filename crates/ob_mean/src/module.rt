@@ -1,3 +1,5 @@
+//! Typed modules and procedures.
+
 use crate::expression::TypedExpr;
 use crate::shape::Shape;
 use crate::statement::TypedStatement;
@@ -20,7 +22,7 @@ pub struct TypedProcedure {
     pub parameters: Items<Parameter>,
     pub variables: Items<Shape>,
     pub body: Items<TypedStatement>,
-    /// What stands behind RETURN.
+    /// What stands after RETURN.
     pub result: Option<TypedExpr>,
 }
 

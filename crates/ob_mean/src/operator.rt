@@ -1,3 +1,5 @@
+//! Operators and relations.
+
 /// A relation of two values.
 #[derive(Clone, Copy, PartialEq, Eq, Debug)]
 pub enum Relation {

@@ -1,3 +1,5 @@
+//! Why a run stands.
+
 /// Why the language cuts a run off.
 #[derive(Clone, Copy, PartialEq, Eq, Debug)]
 pub enum TrapKind {

@@ -1,3 +1,5 @@
+//! Typed statements.
+
 use crate::expression::{Argument, Callee, Designator, TypedExpr, Variable};
 use ob_base::{Items, Text};
 
@@ -74,7 +76,7 @@ pub struct ForHead {
 #[derive(Drop)]
 pub enum TypedStatement {
     Simple(Action),
-    /// The branches, and what stands behind ELSE.
+    /// The branches, and what stands after ELSE.
     If(Items<Branch>, Items<TypedStatement>),
     /// The line of the word CASE, what is looked up, and the arms.
     Case(usize, TypedExpr, Items<CaseArm>),

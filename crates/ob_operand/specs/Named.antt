@@ -17,7 +17,7 @@ use Rattle.ob_operand.specs.declared.names.Target.{Target}
 use Rattle.ob_operand.specs.declared.names.Called.{Called}
 use Rattle.ob_operand.specs.declared.names.Called.TheVariants as called
 
--- A name that is read: a constant, In.Done, or a variable with its type, and the selectors behind it.
+-- A name that is read: a constant, In.Done, or a variable with its type, and the selectors after it.
 pub data Meant : Type 0 where
   Constant : Value → Meant
   InputDone : Meant
@@ -31,7 +31,7 @@ pub data Callable : Type 0 where
   Input : InputName → Callable
   Output : OutputName → Callable
 
--- a variable that may be written, with its type, and the selectors behind it
+-- a variable that may be written, with its type, and the selectors after it
 abbrev pub Writable : Type 0
 Writable = ObType × Numbered × (List Selector)
 

@@ -130,7 +130,7 @@ output_written x = unwritten (has_output (out-Selector x))
 unfoldable pub object_written : Modules → ℕ → Selector → RuleCode
 object_written ms place x = unwritten (has_object ms place (out-Selector x))
 
--- a variable that may be written, whatever the selectors behind it select
+-- a variable that may be written, whatever the selectors after it select
 unfoldable pub entry_written : Modules → Scope → Entry → List Selector → Rule Writable
 entry_written ms s (entry.Variable t v) xs = Needs (is_writable v) code.ReadOnly (Given (t, variable_of s v, xs))
 entry_written ms s (entry.Constant c) xs = Breaks code.ReadOnly
@@ -155,7 +155,7 @@ predeclared_called (predeclared.Function f) [] = Given (meaning.Function f)
 predeclared_called (predeclared.Procedure p) [] = Given (meaning.Proper p)
 predeclared_called p xs = Breaks (absent p)
 
--- what stands behind a procedure is no part of it
+-- what stands after a procedure is no part of it
 abbrev pub whole : Callable → List Selector → Rule Callable
 whole c [] = Given c
 whole c (x ∷ xs) = Breaks code.Types

@@ -117,7 +117,7 @@ fn with_truth(alloc: Global, span: Span, left: Joined, right: TypedExpr) -> Resu
     }
 }
 
-/// One operand more, behind an operator at `span`.
+/// One operand more, after an operator at `span`.
 #[tactic(auto, unfolding(crate::specs::Joining::with_operand))]
 pub fn with_operand(
     alloc: Global,
@@ -200,7 +200,7 @@ pub fn signed(
     }
 }
 
-/// A factor behind `~`.
+/// A factor after `~`.
 #[tactic(auto, unfolding(crate::specs::Joining::negated))]
 pub fn negated(alloc: Global, span: Span, operand: Operand) -> Result<Operand, Rejected>
     ensures { Judges (spec.negated span.line operand) result }

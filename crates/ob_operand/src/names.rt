@@ -24,7 +24,7 @@ pub enum Named<'a> {
     Constant(&'a Constant),
     /// In.Done.
     InputDone,
-    /// A variable, its type, and the selectors behind it.
+    /// A variable, its type, and the selectors after it.
     Variable(&'a ObType, Variable, &'a [Selector]),
 }
 
@@ -33,7 +33,7 @@ pub enum Named<'a> {
 pub struct Target<'a> {
     pub of: &'a ObType,
     pub variable: Variable,
-    /// The selectors behind it.
+    /// The selectors after it.
     pub behind: &'a [Selector],
 }
 
@@ -170,7 +170,7 @@ fn entry_read<'a>(
     }
 }
 
-/// What a name with selectors behind it is, where it is read.
+/// What a name with selectors after it is, where it is read.
 #[tactic(auto, unfolding(crate::specs::Names::read_at))]
 pub fn read<'a>(
     imports: &'a Imports,
@@ -291,7 +291,7 @@ fn entry_written<'a>(
     }
 }
 
-/// The variable that a name with selectors behind it begins with, which may be written.
+/// The variable that a name with selectors after it begins with, which may be written.
 #[tactic(auto, unfolding(crate::specs::Names::written_at))]
 pub fn written<'a>(
     imports: &'a Imports,
@@ -430,7 +430,7 @@ fn entry_called<'a>(
     }
 }
 
-/// What a name with selectors behind it is, where it is called.
+/// What a name with selectors after it is, where it is called.
 #[tactic(auto, unfolding(crate::specs::Names::called_at, crate::specs::Names::name_called))]
 pub fn procedure<'a>(
     imports: &'a Imports,

@@ -267,7 +267,7 @@ pub body_follows : (levels : ℕ) (x : Option Returned) (tokens rest : List Toke
 body_follows levels None tokens rest h e = later_at 8 7 tokens (subst (Later 8) (sym h) e) (omega arith)
 body_follows levels (Some x) tokens rest h e = later_by 7 s.Return x.span tokens h.0 h.1 (omega arith)
 
--- ---- the name behind END
+-- ---- the name after END
 
 abbrev pub Again : List ℕ → Unit {0} → Phrase
 Again name u = p.name_again name

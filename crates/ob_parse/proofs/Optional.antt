@@ -1,4 +1,4 @@
--- What may be absent: a list behind a word, and a list before a closing symbol.
+-- What may be absent: a list after a word, and a list before a closing symbol.
 use Rattle.std.proofs.Common.{inl, inr, List, [], ◌∷◌, Option, Some, None, refl, sym, subst, ◌∙◌}
 use Rattle.ob_scan.specs.declared.token.Span.{Span}
 use Rattle.ob_scan.specs.declared.token.Symbol.{Symbol}

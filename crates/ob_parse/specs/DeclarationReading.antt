@@ -51,11 +51,11 @@ section levels = do
   of ← formal_type levels
   pure (record { by_reference = by_reference; names = names; of = of })
 
--- the type behind a colon, if a colon comes
+-- the type after a colon, if a colon comes
 unfoldable pub result_type : Reader (Option Qualident)
 result_type = eat s.Colon >>= where_some (λ _. qualident)
 
--- what stands behind the opening parenthesis
+-- what stands after the opening parenthesis
 unfoldable pub formals_of : ℕ → Reader Formals
 formals_of levels = do
   sections ← closed_by s.RightParen (separated s.Semicolon (section levels))
@@ -103,7 +103,7 @@ name_again name [] = Err codes.Token
 name_again name (t ∷ ts) = name_by name t.kind ts
 
 module _ (levels : ℕ) (inner : Reader Procedure) where
-  -- what stands behind PROCEDURE, and the semicolon behind it
+  -- what stands after PROCEDURE, and the semicolon after it
   unfoldable pub procedure_part : Reader Procedure
   procedure_part = do
     opens levels

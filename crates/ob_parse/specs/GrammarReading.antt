@@ -16,7 +16,7 @@ use Rattle.ob_parse.specs.StatementReading.{statements}
 use Rattle.ob_parse.specs.DeclarationReading.{declarations, name_again}
 use Rattle.ob_parse.specs.Grammar.{max_nesting}
 
--- the name behind `:=`, if that sign comes
+-- the name after `:=`, if that sign comes
 unfoldable pub own_name : Reader (Option Ident)
 own_name = eat s.Becomes >>= where_some (λ _. ident)
 
@@ -32,7 +32,7 @@ import_list = do
   expect s.Semicolon
   pure imports
 
--- what stands behind MODULE
+-- what stands after MODULE
 unfoldable pub module_of : Reader Module
 module_of = do
   name ← ident
@@ -53,7 +53,7 @@ abbrev pub at_semicolon : List Token → Bool
 at_semicolon [] = false
 at_semicolon (t ∷ ts) = is_semicolon t.kind
 
--- the tokens behind the semicolons that come next
+-- the tokens after the semicolons that come next
 abbrev pub behind_semicolons : List Token → List Token
 behind_semicolons [] = []
 behind_semicolons (t ∷ ts) = if is_semicolon t.kind then behind_semicolons ts else t ∷ ts

@@ -24,7 +24,7 @@ designator levels = expression.designator levels (expression.inner levels)
 abbrev pub actuals : ℕ → Reader (List Expr)
 actuals levels = expression.actuals levels (expression.inner levels)
 
--- what stands behind BY, if BY comes
+-- what stands after BY, if BY comes
 unfoldable pub step : ℕ → Reader (Option Expr)
 step levels = eat s.By >>= where_some (λ _. expression.expr levels)
 

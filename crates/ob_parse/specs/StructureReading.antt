@@ -26,7 +26,7 @@ named = do
   pure (roll-TypeExpr (TypeExpr-F.Named q))
 
 module _ (levels : ℕ) (inner : Reader TypeExpr) where
-  -- what stands behind ARRAY
+  -- what stands after ARRAY
   unfoldable pub array : Span → Reader TypeExpr
   array span = do
     opens levels
@@ -35,7 +35,7 @@ module _ (levels : ℕ) (inner : Reader TypeExpr) where
     element ← inner
     pure (roll-TypeExpr (TypeExpr-F.Array span lengths element))
 
-  -- what stands behind RECORD
+  -- what stands after RECORD
   unfoldable pub record_type : Span → Reader TypeExpr
   record_type span = do
     opens levels

@@ -29,7 +29,7 @@ fn semicolons(parser: &mut Parser<'_>)
     }
 }
 
-/// A command, and the semicolons behind it.
+/// A command, and the semicolons after it.
 #[tactic(auto, unfolding(crate::specs::GrammarReading::command))]
 fn command(parser: &mut Parser<'_>) -> Result<Command, Refused>
     ensures read { Reads (spec.command parser.old.rest.now) result parser.new.rest.now }
@@ -108,7 +108,7 @@ fn whole(parser: &mut Parser<'_>) -> Result<Cell, Refused>
 
 /// The tree of a cell's tokens, by the grammar of Oberon-07 (Wirth, The Programming Language Oberon): a module, or
 /// commands. Refuses with code 5, 6 or 7 where there is none, at the token that can't stand there, at the sign or word
-/// that opens one construct too many, or at the wrong name behind END; and with `Memory`.
+/// that opens one construct too many, or at the wrong name after END; and with `Memory`.
 pub fn parse(alloc: Global, tokens: &[Token]) -> Result<Cell, Refused>
     // What is answered is the tree.
     ensures found { IfOk result (λ c. Derives tokens.now c) }
@@ -125,7 +125,7 @@ pub fn parse(alloc: Global, tokens: &[Token]) -> Result<Cell, Refused>
     whole(&mut parser)
 }
 
-/// The place just behind the last token.
+/// The place just after the last token.
 fn end_of(tokens: &[Token]) -> Span {
     let [.., token] = tokens else {
         return Span {

@@ -91,7 +91,7 @@ fn closed_sections(parser: &mut Parser<'_>, levels: u32) -> Result<Items<FormalS
     Ok(sections)
 }
 
-/// The type behind a colon, if one comes next.
+/// The type after a colon, if one comes next.
 #[tactic(auto, unfolding(crate::specs::DeclarationReading::result_type))]
 fn result_type(parser: &mut Parser<'_>) -> Result<Option<Qualident>, Refused>
     ensures read { Reads (spec.result_type parser.old.rest.now) result parser.new.rest.now }
@@ -103,7 +103,7 @@ fn result_type(parser: &mut Parser<'_>) -> Result<Option<Qualident>, Refused>
     Ok(Some(parser.qualident()?))
 }
 
-/// What stands behind the opening parenthesis of a heading.
+/// What stands after the opening parenthesis of a heading.
 #[tactic(auto, unfolding(crate::specs::DeclarationReading::formals_of))]
 fn formals_of(parser: &mut Parser<'_>, levels: u32) -> Result<Formals, Refused>
     ensures read { Reads (spec.formals_of levels parser.old.rest.now) result parser.new.rest.now }

@@ -14,7 +14,7 @@ use ob_tree::tree::{Ident, Import, Module};
 /// How many constructs nest.
 const MAX_NESTING: u32 = 200;
 
-/// The name behind `:=`, if that sign comes next.
+/// The name after `:=`, if that sign comes next.
 #[tactic(auto, unfolding(crate::specs::GrammarReading::own_name))]
 fn own_name(parser: &mut Parser<'_>) -> Result<Option<Ident>, Refused>
     ensures read { Reads (spec.own_name parser.old.rest.now) result parser.new.rest.now }
@@ -61,7 +61,7 @@ fn next_import(parser: &mut Parser<'_>) -> Result<Option<Import>, Refused>
     Ok(Some(import(parser)?))
 }
 
-/// What stands behind IMPORT.
+/// What stands after IMPORT.
 #[tactic(auto, unfolding(crate::specs::GrammarReading::import_list))]
 fn import_list(parser: &mut Parser<'_>) -> Result<Items<Import>, Refused>
     ensures read { Reads (spec.import_list parser.old.rest.now) result parser.new.rest.now }
@@ -84,7 +84,7 @@ fn imports(parser: &mut Parser<'_>) -> Result<Items<Import>, Refused>
     import_list(parser)
 }
 
-/// What stands behind MODULE.
+/// What stands after MODULE.
 #[tactic(auto, unfolding(crate::specs::GrammarReading::module_of))]
 pub fn module(parser: &mut Parser<'_>) -> Result<Module, Refused>
     ensures read { Reads (spec.module_of parser.old.rest.now) result parser.new.rest.now }

@@ -15,7 +15,7 @@ use ob_parse_expression::Parser;
 use ob_scan::{Kind, Span, Symbol, Token};
 use ob_tree::tree::{Declarations, Ident, Procedure, Statement};
 
-/// The name that stands behind END.
+/// The name that stands after END.
 #[tactic(auto, unfolding(crate::specs::DeclarationReading::name_again))]
 pub fn name_again(parser: &mut Parser<'_>, name: &Ident) -> Result<(), Refused>
     ensures read { Reads (spec.name_again name.now.name parser.old.rest.now) result parser.new.rest.now }
@@ -39,7 +39,7 @@ pub fn name_again(parser: &mut Parser<'_>, name: &Ident) -> Result<(), Refused>
     }
 }
 
-/// The statements behind BEGIN, if it comes next.
+/// The statements after BEGIN, if it comes next.
 #[tactic(auto, unfolding(ob_parse_expression::specs::Reading::optional))]
 pub fn body(parser: &mut Parser<'_>, levels: u32) -> Result<Items<Statement>, Refused>
     ensures read { Reads (optional s.Begin (statements levels) parser.old.rest.now) result parser.new.rest.now }
@@ -97,7 +97,7 @@ fn next_procedure(parser: &mut Parser<'_>, levels: u32) -> Result<Option<Procedu
     Ok(Some(procedure_part(parser, levels, span)?))
 }
 
-/// What stands behind PROCEDURE, whose place is given, up to the semicolon.
+/// What stands after PROCEDURE, whose place is given, up to the semicolon.
 #[cycle(declaration)]
 #[tactic(auto, unfolding(crate::specs::DeclarationReading::procedure_part))]
 fn procedure_part(parser: &mut Parser<'_>, levels: u32, span: Span) -> Result<Procedure, Refused>
@@ -110,7 +110,7 @@ fn procedure_part(parser: &mut Parser<'_>, levels: u32, span: Span) -> Result<Pr
     Ok(procedure)
 }
 
-/// What stands behind PROCEDURE, where `levels` more constructs may nest in it.
+/// What stands after PROCEDURE, where `levels` more constructs may nest in it.
 #[cycle(declaration)]
 #[tactic(auto, unfolding(crate::specs::DeclarationReading::procedure_of))]
 fn procedure(parser: &mut Parser<'_>, levels: u32) -> Result<Procedure, Refused>

@@ -93,7 +93,7 @@ fn assign_or_call(parser: &mut Parser<'_>, levels: u32) -> Result<Statement, Ref
     Ok(Statement::Call(designator, Some(parser.actuals(levels, span)?)))
 }
 
-/// What stands behind IF.
+/// What stands after IF.
 #[cycle(statement)]
 #[tactic(auto, unfolding(crate::specs::StatementReading::if_statement))]
 fn if_statement(parser: &mut Parser<'_>, levels: u32) -> Result<Statement, Refused>
@@ -107,7 +107,7 @@ fn if_statement(parser: &mut Parser<'_>, levels: u32) -> Result<Statement, Refus
     Ok(Statement::If(first, others, otherwise))
 }
 
-/// What stands behind WHILE.
+/// What stands after WHILE.
 #[cycle(statement)]
 #[tactic(auto, unfolding(crate::specs::StatementReading::while_statement))]
 fn while_statement(parser: &mut Parser<'_>, levels: u32) -> Result<Statement, Refused>
@@ -120,7 +120,7 @@ fn while_statement(parser: &mut Parser<'_>, levels: u32) -> Result<Statement, Re
     Ok(Statement::While(first, others))
 }
 
-/// What stands behind REPEAT, whose place is given.
+/// What stands after REPEAT, whose place is given.
 #[cycle(statement)]
 #[tactic(auto, unfolding(crate::specs::StatementReading::repeat_statement))]
 fn repeat_statement(parser: &mut Parser<'_>, levels: u32, span: Span) -> Result<Statement, Refused>
@@ -170,7 +170,7 @@ fn elsif(parser: &mut Parser<'_>, levels: u32, word: Symbol) -> Result<Option<Br
     Ok(Some(branch(parser, levels, word)?))
 }
 
-/// The statements behind ELSE, if it comes next.
+/// The statements after ELSE, if it comes next.
 #[cycle(statement)]
 #[tactic(auto, unfolding(ob_parse_expression::specs::Reading::optional))]
 fn otherwise(parser: &mut Parser<'_>, levels: u32) -> Result<Items<Statement>, Refused>
@@ -183,7 +183,7 @@ fn otherwise(parser: &mut Parser<'_>, levels: u32) -> Result<Items<Statement>, R
     statements(parser, levels, span)
 }
 
-/// What stands behind CASE, whose place is given.
+/// What stands after CASE, whose place is given.
 #[cycle(statement)]
 #[tactic(auto, unfolding(crate::specs::StatementReading::case_statement))]
 fn case_statement(parser: &mut Parser<'_>, levels: u32, span: Span) -> Result<Statement, Refused>
@@ -267,7 +267,7 @@ fn labelled(parser: &mut Parser<'_>, levels: u32) -> Result<Case, Refused>
     Ok(Case { labels, body })
 }
 
-/// What stands behind FOR.
+/// What stands after FOR.
 #[cycle(statement)]
 #[tactic(auto, unfolding(crate::specs::StatementReading::for_statement))]
 fn for_statement(parser: &mut Parser<'_>, levels: u32) -> Result<Statement, Refused>
@@ -300,7 +300,7 @@ fn for_head(parser: &mut Parser<'_>, levels: u32) -> Result<ForHead, Refused>
     })
 }
 
-/// What stands behind BY, if it comes next.
+/// What stands after BY, if it comes next.
 #[tactic(auto, unfolding(crate::specs::StatementReading::step))]
 fn step(parser: &mut Parser<'_>, levels: u32) -> Result<Option<Boxed<Expr>>, Refused>
     ensures read { Reads (spec.step levels parser.old.rest.now) result parser.new.rest.now }

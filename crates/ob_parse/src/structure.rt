@@ -53,7 +53,7 @@ fn named_type(parser: &mut Parser<'_>) -> Result<TypeExpr, Refused>
     Ok(TypeExpr::Named(parser.qualident()?))
 }
 
-/// What stands behind ARRAY, whose place is given.
+/// What stands after ARRAY, whose place is given.
 #[cycle(structure)]
 #[tactic(auto, unfolding(crate::specs::StructureReading::array))]
 fn array_type(parser: &mut Parser<'_>, levels: u32, span: Span) -> Result<TypeExpr, Refused>
@@ -67,7 +67,7 @@ fn array_type(parser: &mut Parser<'_>, levels: u32, span: Span) -> Result<TypeEx
     Ok(TypeExpr::Array(span, lengths, element))
 }
 
-/// What stands behind RECORD, whose place is given.
+/// What stands after RECORD, whose place is given.
 #[cycle(structure)]
 #[tactic(auto, unfolding(crate::specs::StructureReading::record_type))]
 fn record_type(parser: &mut Parser<'_>, levels: u32, span: Span) -> Result<TypeExpr, Refused>

@@ -10,7 +10,7 @@ use ob_scan::scan;
 use ob_tree::tree::Cell;
 use std::alloc::Global;
 
-/// A refusal at the end of the text is placed just behind the last character.
+/// A refusal at the end of the text is placed just after the last character.
 fn placed(refused: Refused, text: &str) -> Refused
     ensures { SameCode refused result }
 {

@@ -94,7 +94,7 @@ module _ (levels : ℕ) (P : Expr → Phrase) (R : Reader Expr) (PF : Factor →
       (λ c tokens rest h. subst (λ es. separated s.Comma P es tokens rest) (sym h.3.3.0) (h.1, h.2, subst (λ z. each next_expr_phrase h.3.0 h.1 z) h.3.3.1 h.3.2))
       exprs_back
 
-  -- ---- actual parameters, behind the parenthesis
+  -- ---- actual parameters, after the parenthesis
 
   abbrev pub behind : List Expr → Phrase
   behind es = opens levels ⨾ listed s.Comma P es ⨾ symbol s.RightParen
@@ -539,7 +539,7 @@ pub exact_designator_in : (levels : ℕ) → Exact (p.designator levels (p.inner
 exact_designator_in n =
     let d = at_depth n in exact_designator n (p.inner n) (r.inner n) (p.inner_factor n) (r.inner_factor n) d.exact_inner d.exact_inner_factor d.starts
 
--- what stands behind an opening parenthesis
+-- what stands after an opening parenthesis
 abbrev pub behind_paren : ℕ → List Expr → Phrase
 behind_paren levels es = opens levels ⨾ listed s.Comma (p.inner levels) es ⨾ symbol s.RightParen
 

@@ -61,7 +61,7 @@ pub front_err : {A : Type 0} (start : List A) (c : Code) (o : Outcome (List A)) 
 front_err start c (Ok p) e = absurd cc
 front_err start c (Err d) e = e
 
--- what was read behind the first item
+-- what was read after the first item
 abbrev pub with_item : {A : Type 0} → A → Outcome (List A) → Outcome (List A)
 with_item x o = and_then o (λ xs. pure (x ∷ xs))
 
@@ -92,12 +92,12 @@ pub loop_done : {A : Type 0} (step : Reader (Option A)) (front : List A) (tokens
 loop_done step front tokens start from rest o l none read is =
     front_ok front rest (many step from) (ap (λ s. with_front s (many step from)) (sym none) ∙ looped_done step front tokens start from rest l (read ∙ ap (λ y. Ok (y, rest)) is))
 
--- the same behind a first item
+-- the same after a first item
 pub loop_done_one : {A : Type 0} (step : Reader (Option A)) (front : List A) (tokens : List Token) (start : List A) (from rest : List Token) (o : Option A) (x : A)
     → Looped step front tokens start from → start ≡ x ∷ [] → step tokens ≡ Ok (o, rest) → o ≡ None → with_item x (many step from) ≡ Ok (front, rest)
 loop_done_one step front tokens start from rest o x l one read is =
     front_one x front rest (many step from) (ap (λ s. with_front s (many step from)) (sym one) ∙ looped_done step front tokens start from rest l (read ∙ ap (λ y. Ok (y, rest)) is))
 
--- a refusal behind a step that read something
+-- a refusal after a step that read something
 pub after_step : {A B : Type 0} (o : Outcome A) (f : A → Reader B) (a : A) (middle rest : List Token) (r : Refused) → o ≡ Ok (a, middle) → Reads (f a middle) (Err r) rest → Reads (and_then o f) (Err r) rest
 after_step o f a middle rest r e h = subst (λ x. Reads (and_then x f) (Err r) rest) (sym e) h

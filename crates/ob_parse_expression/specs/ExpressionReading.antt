@@ -55,7 +55,7 @@ mul_of _ = None
 
 -- ---- productions. Inside one more construct an expression is read by inner, and a factor by inner_factor.
 
--- an expression behind a comma, if a comma comes next
+-- an expression after a comma, if a comma comes next
 unfoldable pub next_expr : Reader Expr → Reader (Option Expr)
 next_expr inner = eat s.Comma >>= where_some (λ _. inner)
 

@@ -99,7 +99,7 @@ abbrev pub where_some : {A B : Type 0} → (A → Reader B) → Option A → Rea
 where_some f None = pure None
 where_some f (Some a) = f a >>= λ b. pure (Some b)
 
--- one more behind a separator, if the separator comes
+-- one more after a separator, if the separator comes
 unfoldable pub next_item : {A : Type 0} → Symbol → Reader A → Reader (Option A)
 next_item separator r = eat separator >>= where_some (λ _. r)
 
@@ -115,7 +115,7 @@ abbrev pub not_there : {A B : Type 0} → Option A → Reader B → (A → Reade
 not_there None none some = none
 not_there (Some a) none some = some a
 
--- what stands behind a word, and nothing where the word doesn't come
+-- what stands after a word, and nothing where the word doesn't come
 unfoldable pub optional : {A : Type 0} → Symbol → Reader (List A) → Reader (List A)
 optional word r = eat word >>= λ found. not_there found (pure []) (λ _. r)
 

@@ -180,7 +180,7 @@ impl Parser<'_> {
         }
     }
 
-    /// What stands behind an opening parenthesis, whose place is given.
+    /// What stands after an opening parenthesis, whose place is given.
     #[cycle(expression)]
     #[tactic(auto, unfolding(crate::specs::ExpressionReading::parens))]
     fn parens(&mut self, levels: u32, span: Span) -> Result<Factor, Refused>
@@ -193,7 +193,7 @@ impl Parser<'_> {
         Ok(Factor::Parens(span, value))
     }
 
-    /// What stands behind `~`, whose place is given.
+    /// What stands after `~`, whose place is given.
     #[cycle(expression)]
     #[tactic(auto, unfolding(crate::specs::ExpressionReading::negated))]
     fn negated(&mut self, levels: u32, span: Span) -> Result<Factor, Refused>
@@ -218,7 +218,7 @@ impl Parser<'_> {
         Ok(Factor::Call(designator, self.actuals(levels, span)?))
     }
 
-    /// The actual parameters behind an opening parenthesis, whose place is given.
+    /// The actual parameters after an opening parenthesis, whose place is given.
     #[cycle(expression)]
     #[tactic(auto, unfolding(crate::specs::ExpressionReading::actuals))]
     pub fn actuals(&mut self, levels: u32, span: Span) -> Result<Items<Expr>, Refused>

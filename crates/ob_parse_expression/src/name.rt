@@ -86,7 +86,7 @@ impl Parser<'_> {
         Ok(Qualident { first, second })
     }
 
-    /// The name behind a period, if one comes next.
+    /// The name after a period, if one comes next.
     #[tactic(auto, unfolding(crate::specs::NameReading::member))]
     fn member(&mut self) -> Result<Option<Ident>, Refused>
         ensures read { Reads (spec.member self.old.rest.now) result self.new.rest.now }
@@ -121,7 +121,7 @@ impl Parser<'_> {
         }
     }
 
-    /// The label behind `..`, if that sign comes next.
+    /// The label after `..`, if that sign comes next.
     #[tactic(auto, unfolding(crate::specs::NameReading::last_label))]
     fn last_label(&mut self) -> Result<Option<Label>, Refused>
         ensures read { Reads (spec.last_label self.old.rest.now) result self.new.rest.now }

@@ -14,7 +14,7 @@ use std::alloc::Global;
 pub struct Parser<'a> {
     pub alloc: Global,
     pub rest: &'a [Token],
-    /// The place just behind the last token of all.
+    /// The place just after the last token of all.
     pub end: Span,
 }
 

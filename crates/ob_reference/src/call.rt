@@ -132,7 +132,7 @@ fn procedure(
     Ok(returned)
 }
 
-/// The value behind RETURN.
+/// The value after RETURN.
 #[cycle(running)]
 fn result_of(
     alloc: Global,

@@ -1,3 +1,5 @@
+//! Runs of the plain evaluator.
+
 ghost use Rattle.std.specs.Prelude.{◌≡◌, None, map, option_to_list, slice_get, IfOk, MatchOption};
 ghost use Rattle.ob_mean.specs.declared.expression.Callee.TheVariants as callees;
 ghost use Rattle.ob_mean.specs.Values as values;

@@ -1,9 +1,8 @@
--- The zero of an array, and rows of characters.
+-- Rows of values, and rows of characters.
 use Rattle.std.proofs.Common.{◌≡◌, ℕ, zero, suc, ◌-◌, ◌<◌, ◌≤◌, pos, arith, length, get_or, take, drop, List, [], ◌∷◌, ap, ◌∙◌}
 use Rattle.std.proofs.lemmas.List.{take_all}
 use Rattle.ob_mean.specs.Values.{Value, Cell, Beside, row}
 use Rattle.ob_mean.specs.Texts.{text_row}
-pub use Rattle.ob_mean.proofs.Zeros.{array_zero, record_zero}
 
 pub row_more : (n : ℕ) (v : Value) → 0 < n → row n v ≡ Beside v (row (n - 1) v)
 row_more zero v h = absurd (omega (arith, h))

@@ -1,4 +1,4 @@
-//! Rows of values: how many, one behind the other, and the characters in them.
+//! Rows of values: how many, one after the other, and the characters in them.
 
 ghost use Rattle.std.specs.Prelude.{◌≡◌, ◌++◌, [], ◌∷◌, IfOk, OnOk, IfSome};
 ghost use Rattle.ob_mean.specs.Values as spec;
@@ -25,7 +25,7 @@ pub fn count(row: &Value) -> Result<usize, NoAnswer>
     }
 }
 
-/// Puts a row behind another.
+/// Puts a row after another.
 pub(crate) fn append(row: &mut Value, more: Value)
     ensures { value_in row.new ≡ spec.append (value_in row.old) (value_in more) }
 {

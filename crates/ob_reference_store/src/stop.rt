@@ -1,3 +1,5 @@
+//! Why a piece of a program gives no value.
+
 ghost use Rattle.std.specs.Prelude.{◌≡◌};
 ghost use Rattle.ob_reference_store.specs.declared.stop.Stop.TheVariants.{Unanswered};
 

@@ -77,7 +77,7 @@ fn at_least_one(alloc: Global, row: Value) -> Result<Value, AllocError>
 
 /// A variable of this shape.
 #[cycle(zero)]
-#[tactic(auto, using(crate::proofs::Zeros::array_zero, crate::proofs::Zeros::record_zero))]
+#[tactic(auto, using(ob_mean::proofs::Zeros::array_zero, ob_mean::proofs::Zeros::record_zero))]
 fn zero_of(alloc: Global, room: u32, shape: &Shape) -> Result<Value, NoAnswer>
     ensures { IfOk result (λ v. value_in v ≡ shapes.zero_of shape.now) }
 {

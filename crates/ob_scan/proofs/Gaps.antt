@@ -18,7 +18,7 @@ some_is x y e = cc
 pub one_comment : (text a b : List ℕ) → Comment text a → Comment text b → a ≡ b
 one_comment text a b g h = some_is a b (sym (comment_end-complete text a g) ∙ comment_end-complete text b h)
 
--- behind a blank or a comment, the gap goes on as the gap from there does
+-- after a blank or a comment, the gap goes on as the gap from there does
 behind_blank : (c : ℕ) (text rest : List ℕ) → is_blank c ≡ true → Gap (c ∷ text) rest → Stays rest → Gap text rest
 behind_blank c text _ is none stays = subst (λ t. Gap t (c ∷ text)) (sym (stays text (blank is none))) none
 behind_blank c text rest is (blank also g) stays = g

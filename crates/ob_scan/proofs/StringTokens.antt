@@ -39,7 +39,7 @@ pub record Part (from front text : List ℕ) : Type 0 where
 pub part_init : (from : List ℕ) → Part from [] from
 part_init from = record { built = λ more rest q. q; only = λ all rest q. (all, refl, q) }
 
--- behind a character, the string goes on as the string from that character does
+-- after a character, the string goes on as the string from that character does
 pub one_char : (c : ℕ) (text after all rest : List ℕ) → next_char text ≡ Some (c, after) → Quoted text all rest → (more : List ℕ) × (all ≡ c ∷ more) × Quoted after more rest
 one_char c _ after _ rest e closed = absurd (not_both (next_char (34 ∷ rest)) c after (quote_ends rest) e)
 one_char c text after _ rest e (char {c = d} {after = other} {chars} f q) =

@@ -19,7 +19,7 @@ use Rattle.ob_scan.specs.Places.{past, start_of_text, span_from}
 use Rattle.ob_scan.specs.Spelling.{symbol_of, front_symbol}
 use Rattle.ob_scan.specs.Tokens.{has, value_of, wrapped, one_period, suffix_of, next_char, begins_quote, class_at}
 
--- what stands in front of a text, and the text behind it
+-- what stands in front of a text, and the text after it
 pub record Front : Type 0 where
   pub kind : Kind
   pub rest : List ℕ
@@ -44,7 +44,7 @@ abbrev pub word_of : List ℕ → Option Front
 word_of text = let run = run_of (has alphabets.Word) text in
     word_as (symbol_of run) run (behind_run (has alphabets.Word) text)
 
--- ---- numbers: by the letter behind the digits, and then not one period
+-- ---- numbers: by the letter after the digits, and then not one period
 
 abbrev pub number_end : Kind → List ℕ → Option Front
 number_end kind rest = if one_period rest then None else Some (record { kind = kind; rest = rest })
@@ -104,7 +104,7 @@ front_as (Some classes.Other) text = sign_of text
 unfoldable pub front_of : List ℕ → Option Front
 front_of text = front_as (class_at text) text
 
--- ---- the text behind blanks and comments, at most that many, up to a comment that does not end
+-- ---- the text after blanks and comments, at most that many, up to a comment that does not end
 
 abbrev pub comment_then : (List ℕ → List ℕ) → List ℕ → Option (List ℕ) → List ℕ
 comment_then others text None = text
@@ -116,7 +116,7 @@ gap_end (suc n) text =
     if begins_blank text then gap_end n (drop 1 text)
     else (if opens text then comment_then (gap_end n) text (comment_end 0 (drop 2 text)) else text)
 
--- ---- all tokens: each behind the longest gap, at most that many
+-- ---- all tokens: each after the longest gap, at most that many
 
 abbrev pub token_then : (Place → List ℕ → Option (List Token)) → Place → List ℕ → Option Front → Option (List Token)
 token_then others p middle None = None

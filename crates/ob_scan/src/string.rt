@@ -23,7 +23,7 @@ fn is_plain(c: u8) -> bool
     }
 }
 
-/// A character of two bytes, the first of which is `c`, and the text behind it.
+/// A character of two bytes, the first of which is `c`, and the text after it.
 fn wide_char(c: u8, text: &[u8]) -> Option<(u8, &[u8])>
     ensures value { MatchOption result (tokens.wide_char c text.now ≡ None) (λ p. tokens.wide_char c text.now ≡ Some (p.0, p.1.now)) }
     ensures shorter { IfSome result (λ p. length p.1.now ≤ length text.now) }
@@ -43,7 +43,7 @@ fn wide_char(c: u8, text: &[u8]) -> Option<(u8, &[u8])>
     }
 }
 
-/// The character at the front, if it may stand in a string, and the text behind it.
+/// The character at the front, if it may stand in a string, and the text after it.
 fn next_char(text: &[u8]) -> Option<(u8, &[u8])>
     ensures value { MatchOption result (tokens.next_char text.now ≡ None) (λ p. tokens.next_char text.now ≡ Some (p.0, p.1.now)) }
     ensures shorter { IfSome result (λ p. length p.1.now < length text.now) }

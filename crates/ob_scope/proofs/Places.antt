@@ -43,7 +43,7 @@ kept : (b : Bool) (o p : Option ℕ) → (b ≡ false → p ≡ o) → cond b (S
 kept true o p h = refl
 kept false o p h = ap (option_map suc) (h refl)
 
--- another name behind them changes no place
+-- another name after them changes no place
 place_other : (ns : List (List ℕ)) (n q : List ℕ) → bytes_eq n q ≡ false → place_in (ns ++ n ∷ []) q ≡ place_in ns q
 place_other [] n q f = ap (λ b. cond b (Some 0) none_ℕ) f
 place_other (m ∷ ns) n q f = ap (λ o. cond (bytes_eq m q) (Some 0) (option_map suc o)) (place_other ns n q f)

@@ -92,11 +92,11 @@ abbrev pub with_entry : Scope → List ℕ → Bool → Entry → Scope
 with_entry s name mark e =
     record s { block = s.block ++ record { name = name; exported = is_empty s.around && mark; entry = e } ∷ [] }
 
--- in the heading of a procedure, behind these parameters: they stand in its own block
+-- in the heading of a procedure, after these parameters: they stand in its own block
 unfoldable pub in_heading : Scope → List Declared → Scope
 in_heading s parameters = record s { block = parameters; around = s.block ∷ s.around }
 
--- inside a procedure of a name, behind its parameters
+-- inside a procedure of a name, after its parameters
 abbrev pub entered : Scope → List ℕ → List Declared → Scope
 entered s name parameters = record s {
   enclosing = name ∷ s.enclosing;
@@ -106,7 +106,7 @@ entered s name parameters = record s {
   cells_taken = 0;
 }
 
--- behind the procedure again
+-- after the procedure again
 abbrev pub left_into : Scope → List (List ℕ) → List (List Declared) → Scope
 left_into s (p ∷ ps) (b ∷ bs) = record s { enclosing = ps; block = b; around = bs }
 left_into s _ _ = s

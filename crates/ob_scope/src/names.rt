@@ -1,3 +1,5 @@
+//! Rows of names, with a map from each to its place.
+
 ghost use Rattle.std.specs.Prelude.{◌≡◌, [], ◌∷◌, ◌++◌, true, false, OnOk, OnErr};
 ghost use Rattle.ob_scope.specs.Names as spec;
 

@@ -132,7 +132,7 @@ impl Scope {
         }
     }
 
-    /// What a name stands for in a heading, behind these parameters.
+    /// What a name stands for in a heading, after these parameters.
     #[tactic(auto, unfolding(crate::specs::Scope::seen, crate::specs::Scope::in_heading))]
     pub fn seen_in_heading<'a>(&'a self, parameters: &'a Block, name: &Text) -> Option<&'a Entry>
         ensures { option_copied result ≡ spec.seen (spec.in_heading self.now parameters.now) name.now }
@@ -199,7 +199,7 @@ impl Scope {
         self.block.declare(alloc, name, exported, entry)
     }
 
-    /// Inside a procedure of this name, behind its parameters. Or lack of memory.
+    /// Inside a procedure of this name, after its parameters. Or lack of memory.
     pub fn enter(self, alloc: Global, name: &Text, parameters: Block) -> Result<Scope, AllocError>
         ensures { IfOk result (λ s. s ≡ spec.entered self name.now parameters) }
     {

@@ -1,3 +1,5 @@
+//! Stacks.
+
 ghost use Rattle.std.specs.Prelude.{◌≡◌, [], ◌∷◌, reverse, length, OnOk, OnErr};
 ghost use Rattle.ob_scope.specs.Stack.{top, below, is_empty};
 

@@ -127,7 +127,7 @@ module _ (ms : List Module) (run : Supply → Run Done) (x : (b : ℕ) → At b 
         last = λ m le no. absurd (no (subst (λ (g : CellMeaning). IsStopped g.outcome) (sym here) (p.kind, refl)));
       }
 
-  -- the line behind is left where it isn't asked for
+  -- the line after is left where it isn't asked for
   as_many : (ls left : List Line) (line : Line) → length (ls ++ line ∷ []) - length (left ++ line ∷ []) ≡ length ls - length (left ++ [])
   as_many ls left line =
       let a = length-append ls (line ∷ []) in

@@ -35,7 +35,7 @@ chosen_good gs rest x r b = first_sound b gs (λ body. body) rest x (λ body y. 
 nothing_good : Good nothing
 nothing_good b w = goes_at b w.written done w refl
 
--- ---- no more turns are left behind a piece than before it
+-- ---- no more turns are left after a piece than before it
 
 fewer_turns : {A : Type 0} (e : Piece A) → Good e → (n : Supply) (w : World) → (left_of (e n w)).turns ≤ n.turns
 fewer_turns e x n w = ((x 0 w).after n.turns n.lines).fewer

@@ -30,7 +30,7 @@ IsOver NeedsLine = ⊥
 
 -- ---- what every run keeps
 
--- after this text was written, with so many turns: more is written behind it, and no more turns are left
+-- after this text was written, with so many turns: more is written after it, and no more turns are left
 pub record After {A : Type 0} (text : List ℕ) (n : ℕ) (run : Run A) : Type 0 where
   pub extends : (rest : List ℕ) × (text ++ rest ≡ (world_of run).written)
   pub fewer : (left_of run).turns ≤ n

@@ -106,7 +106,7 @@ is_command (object.Constant c) = false
 is_command (object.TypeName t) = false
 is_command (object.Variable t) = false
 
--- the place behind this one, where it is an exported procedure
+-- the place after this one, where it is an exported procedure
 abbrev pub place_behind : Object → ℕ → ℕ
 place_behind (object.Procedure s) place = suc place
 place_behind (object.Constant c) place = place

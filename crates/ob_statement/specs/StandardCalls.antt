@@ -87,7 +87,7 @@ unfoldable pub truth_inside : Modules → Scope → ℕ → Variables → Expr �
 truth_inside ms s zero variables e = Breaks code.Size
 truth_inside ms s (suc n) variables e = truth_at ms s n variables e
 
--- actual parameters are judged from left to right, and their number behind them
+-- actual parameters are judged from left to right, and their number after them
 module _ (ms : Modules) (s : Scope) (n : ℕ) where
   -- an actual parameter that is a place, and one that is a value
   unfoldable pub place_at : Variables → Formal → Expr → Rule (Designator × Variables)

@@ -1,6 +1,6 @@
 -- To be believed.
 -- Statements (Wirth, The Programming Language Oberon, Oberon-07): a rule for each, with its typed tree. The number says how many
--- more constructs may nest. The variables of the module so far, with strings behind the declared ones, go through all rules from
+-- more constructs may nest. The variables of the module so far, with strings after the declared ones, go through all rules from
 -- left to right.
 use Rattle.std.specs.Prelude.{ℕ, zero, suc, ℤ, pos, List, [], ◌∷◌, ◌++◌, Bool, true, false, not, Option, Some, None}
 use Rattle.std.specs.Ordering.{int_eq}
@@ -76,7 +76,7 @@ unfoldable pub step_of : Constant → Rule ℤ
 step_of (constant.Integer z) = Needs (not (int_eq z (pos 0))) code.NotConstant (Given z)
 step_of c = Breaks code.Types
 
--- statements, and one more behind them, if it is one
+-- statements, and one more after them, if it is one
 abbrev pub chain : List TypedStatement → Option TypedStatement → List TypedStatement
 chain before None = before
 chain before (Some one) = before ++ one ∷ []

@@ -288,7 +288,7 @@ fn next_range(
     with_range(all, arm, range, label_span(&r.first))
 }
 
-/// The labels of one arm, behind those of the CASE so far.
+/// The labels of one arm, after those of the CASE so far.
 pub fn labels(
     alloc: Global,
     imports: &Imports,

@@ -285,7 +285,7 @@ fn out_string(
     }
 }
 
-/// `Out.Int` behind the number.
+/// `Out.Int` after the number.
 #[tactic(auto, unfolding(crate::specs::StandardCalls::out_width))]
 fn out_width(
     site: Site<'_>,
@@ -352,7 +352,7 @@ pub fn out_call(
     }
 }
 
-/// INC or DEC behind the variable.
+/// INC or DEC after the variable.
 #[tactic(auto, unfolding(crate::specs::StandardCalls::adjusted_by))]
 fn adjusted_by(
     site: Site<'_>,

@@ -21,7 +21,7 @@ pub fn copy_cells(cells: &mut Vec<i32>, a: usize, b: usize, n: usize)
     cells.copy_within(b..b + n, a);
 }
 
-// The character of this number in a text, or 0X behind its end.
+// The character of this number in a text, or 0X after its end.
 #[tactic(auto, using(crate::proofs::Rows::text_cell, crate::proofs::Rows::text_zero))]
 fn text_cell(text: &[u8], i: usize) -> i32
     ensures { (n : ℕ) (z : ℤ) → i < n → slice_index_or (text_cells n text.now) i z ≡ result }
@@ -33,7 +33,7 @@ fn text_cell(text: &[u8], i: usize) -> i32
     }
 }
 
-// A text stands from cell a on, in as many cells as n, with 0X behind it.
+// A text stands from cell a on, in as many cells as n, with 0X after it.
 pub fn put_text(cells: &mut Vec<i32>, a: usize, n: usize, text: &[u8])
     requires { a + n ≤ length cells.old.items }
     ensures { cells.new.items ≡ take a cells.old.items ++ (text_cells n text.now ++ drop (a + length (text_cells n text.now)) cells.old.items) }

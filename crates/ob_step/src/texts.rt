@@ -48,7 +48,7 @@ pub fn store_text(
     Step::Moved
 }
 
-// The character of this number in a row, or 0X behind its end.
+// The character of this number in a row, or 0X after its end.
 fn character_at(row: &[i32], i: usize) -> u8
     ensures { result ≡ character_in row.now i }
 {

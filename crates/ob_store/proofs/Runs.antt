@@ -1,4 +1,4 @@
--- Cells before a run, and what stays of them behind it.
+-- Cells before a run, and what stays of them after it.
 use Rattle.std.proofs.Common.{ℤ, List, [], length, sym, ap, ◌∙◌}
 use Rattle.ob_inout.specs.Reading.{opened}
 use Rattle.ob_mean.specs.Programs.{opening_store, kept_store}

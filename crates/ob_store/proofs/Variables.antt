@@ -1,4 +1,4 @@
--- A row of variables with others in a place, or behind the last: its shape and its cells.
+-- A row of variables with others in a place, or after the last: its shape and its cells.
 use Rattle.std.proofs.Common.{◌≡◌, ℕ, zero, suc, ◌+◌, ◌<◌, ◌≤◌, ℤ, Bool, true, false, List, [], ◌++◌, length, take, drop, nat_lt, if◌then◌else◌, refl, sym, ap, ◌∙◌, arith, append-nil}
 use Rattle.std.proofs.lemmas.List.{take_all, drop_all, take_at}
 use Rattle.std.proofs.lemmas.Bool.Decides.{nat_tests}
@@ -7,7 +7,7 @@ use Rattle.ob_mean.specs.Values.{Value, Cell, Named, Open, Nothing, Beside, coun
 use Rattle.ob_session.specs.Session.{with_variables}
 use Rattle.ob_gen.proofs.machine.Store.{IsRow, length-image, count-shape, size-shape, item-shape, before-shape, shape-append, item_slice, grows}
 
--- ---- behind the last item of a row
+-- ---- after the last item of a row
 
 before-past : (v : Value) (i : ℕ) → IsRow v → count v ≤ i → before v i ≡ size v
 before-past (Cell z) i row le = absurd row

@@ -1,4 +1,4 @@
--- Cells before a run, and what stays of them behind it.
+-- Cells before a run, and what stays of them after it.
 use Rattle.std.specs.Prelude.{◌≡◌, ℤ, List, [], take}
 use Rattle.ob_inout.specs.Reading.{opened}
 use Rattle.ob_mean.specs.Values.{Value, image, size}
@@ -18,7 +18,7 @@ pub record MayBeginWith (modules : List Module) (cells : List ℤ) : Type 0 wher
 abbrev pub EachMayBegin : Type 0
 EachMayBegin = (modules : List Module) (cells : List ℤ) → AreCellsOf modules cells → MayBeginWith modules cells
 
--- ---- behind a run
+-- ---- after a run
 
 -- the cells that stay: the modules', which come first
 abbrev pub kept_cells : List Module → List ℤ → List ℤ

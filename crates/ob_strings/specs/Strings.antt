@@ -1,5 +1,5 @@
 -- To be believed.
--- The variables of a module: the declared ones, and behind them the strings that it passes and compares, each once.
+-- The variables of a module: the declared ones, and after them the strings that it passes and compares, each once.
 use Rattle.std.specs.Prelude.{ℕ, suc, ◌==◌, Bool, false, ◌&&◌, List, [], ◌∷◌, ◌++◌, length, Option, Some, None, option_map, if◌then◌else◌}
 use Rattle.std.specs.Str.{bytes_eq}
 use Rattle.ob_mean.specs.declared.module.ModuleVariable.{ModuleVariable}

@@ -1,4 +1,4 @@
-//! The variables of a module while it is checked: the declared ones, and behind them its strings, each once.
+//! The variables of a module while it is checked: the declared ones, and after them its strings, each once.
 #![tactic(auto)]
 
 mod variables;

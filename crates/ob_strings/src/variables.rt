@@ -17,7 +17,7 @@ struct Written {
     elements: u32,
 }
 
-/// The variables of a module so far: the declared ones, and behind them the strings that it passes and compares. A string has its
+/// The variables of a module so far: the declared ones, and after them the strings that it passes and compares. A string has its
 /// number in a map. Contracts see the list of variables.
 #[derive(Drop)]
 pub struct Variables {

@@ -6,7 +6,7 @@ use Rattle.ob_mean.specs.declared.shape.Shape.{Shape}
 use Rattle.ob_mean.specs.declared.shape.Shape.TheVariants.{Array, Record}
 use Rattle.ob_mean.specs.Values.{Value, Nothing, row, size, before}
 use Rattle.ob_mean.specs.Shapes.{zero_of, zeros, at_least_one}
-pub use Rattle.ob_mean.proofs.Zeros.{array_zero, record_zero}
+use Rattle.ob_mean.proofs.Zeros.{array_zero, record_zero}
 use Rattle.ob_code.specs.declared.instr.Extent.{Extent}
 use Rattle.ob_table.specs.Tables.{cells_in, extents, extent_in, sizes_of, AreBehind}
 

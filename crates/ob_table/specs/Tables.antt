@@ -1,4 +1,4 @@
--- Where things are that stand behind one another, as a compiler keeps it.
+-- Where things are that stand after one another, as a compiler keeps it.
 use Rattle.std.specs.Prelude.{◌≡◌, ℕ, zero, suc, ◌+◌, List, [], ◌∷◌}
 use Rattle.ob_mean.specs.Values.{Value, Cell, Named, Open, Nothing, Beside, size}
 use Rattle.ob_code.specs.declared.instr.Extent.{Extent}
@@ -23,7 +23,7 @@ abbrev pub cells_in : List ℕ → ℕ
 cells_in [] = 0
 cells_in (n ∷ ns) = n + cells_in ns
 
--- they stand behind one another, and there are so many cells
+-- they stand after one another, and there are so many cells
 pub record AreBehind (es : List Extent) (cells : ℕ) : Type 0 where
   pub behind : es ≡ extents 0 (sizes_of es)
   pub total : cells ≡ cells_in (sizes_of es)

@@ -94,7 +94,7 @@ fn fields_before(fields: &[Shape], part: usize) -> Result<usize, AllocError>
     shapes_cells(&fields[..part.min(fields.len())])
 }
 
-/// Things behind one another, each of which has so many cells.
+/// Things after one another, each of which has so many cells.
 #[derive(Drop)]
 pub struct Table {
     extents: Vec<Extent>,
@@ -122,7 +122,7 @@ impl Table {
         }
     }
 
-    /// One more, behind the others.
+    /// One more, after the others.
     pub fn push(&mut self, cells: usize) -> Result<(), AllocError>
         ensures { OnOk result (self.new ≡ self.old ++ cells ∷ []) }
     {
@@ -142,7 +142,7 @@ impl Table {
         self.cells
     }
 
-    /// Where the thing of this number is. One that isn't there has no cells, behind all others.
+    /// Where the thing of this number is. One that isn't there has no cells, after all others.
     pub fn extent(&self, number: usize) -> Extent
         ensures { result ≡ extent_in 0 self.now number }
     {

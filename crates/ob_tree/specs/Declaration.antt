@@ -78,13 +78,13 @@ module _ (levels : ℕ) (inner : Procedure → Phrase) where
       ⨾ optional s.Var (each (variables levels)) (out-Declarations d).variables
       ⨾ each procedure_part (out-Declarations d).procedures
 
-  -- what stands behind PROCEDURE
+  -- what stands after PROCEDURE
   abbrev pub procedure_phrase : Procedure → Phrase
   procedure_phrase p = ident_def (out-Procedure p).name ⨾ maybe (formals levels) (out-Procedure p).formals ⨾ symbol s.Semicolon
       ⨾ declarations_phrase (out-Procedure p).declarations ⨾ optional s.Begin (statements levels) (out-Procedure p).body
       ⨾ maybe (returned levels) (out-Procedure p).returned ⨾ symbol s.End ⨾ name_again (out-Procedure p).name.name.name
 
--- a procedure inside one more construct, from behind its word
+-- a procedure inside one more construct, from after its word
 abbrev pub inner_procedure : ℕ → Procedure → Phrase
 inner_procedure zero p tokens rest = ⊥
 inner_procedure (suc n) p tokens rest = procedure_phrase n (inner_procedure n) p tokens rest

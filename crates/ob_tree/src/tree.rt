@@ -85,7 +85,7 @@ pub struct Simple {
     pub others: Items<AddedTerm>,
 }
 
-/// An operator and the term behind it.
+/// An operator and the term after it.
 #[cycle(expression)]
 #[derive(Drop)]
 pub struct AddedTerm {
@@ -102,7 +102,7 @@ pub struct Term {
     pub others: Items<NextFactor>,
 }
 
-/// An operator and the factor behind it.
+/// An operator and the factor after it.
 #[cycle(expression)]
 #[derive(Drop)]
 pub struct NextFactor {
@@ -151,7 +151,7 @@ pub enum Statement {
     Assign(Designator, Boxed<Expr>),
     /// A procedure, with its actual parameters where parentheses stand.
     Call(Designator, Option<Items<Expr>>),
-    /// The first branch, the others, and what stands behind ELSE (absent: no statement).
+    /// The first branch, the others, and what stands after ELSE (absent: no statement).
     If(Branch, Items<Branch>, Items<Statement>),
     /// The word CASE, what is looked up, and the cases.
     Case(Span, Boxed<Expr>, Items<Case>),
@@ -183,7 +183,7 @@ pub struct ForHead {
     pub variable: Ident,
     pub first: Boxed<Expr>,
     pub last: Boxed<Expr>,
-    /// What stands behind BY.
+    /// What stands after BY.
     pub step: Option<Boxed<Expr>>,
 }
 
@@ -238,7 +238,7 @@ pub struct FormalSection {
     pub of: Boxed<FormalType>,
 }
 
-/// What stands in and behind the parentheses of a procedure's heading.
+/// What stands in and after the parentheses of a procedure's heading.
 #[derive(Drop)]
 pub struct Formals {
     pub sections: Items<FormalSection>,
@@ -274,19 +274,19 @@ pub struct Procedure {
     /// Absent where no parentheses stand.
     pub formals: Option<Boxed<Formals>>,
     pub declarations: Boxed<Declarations>,
-    /// What stands behind BEGIN (absent: no statement).
+    /// What stands after BEGIN (absent: no statement).
     pub body: Items<Statement>,
     pub returned: Option<Returned>,
 }
 
-/// The word RETURN and the value behind it.
+/// The word RETURN and the value after it.
 #[derive(Drop)]
 pub struct Returned {
     pub span: Span,
     pub value: Boxed<Expr>,
 }
 
-/// A module's name, or the name that it has here and, behind `:=`, its own.
+/// A module's name, or the name that it has here and, after `:=`, its own.
 #[derive(Debug, Drop)]
 pub struct Import {
     pub name: Ident,
@@ -298,7 +298,7 @@ pub struct Module {
     pub name: Ident,
     pub imports: Items<Import>,
     pub declarations: Boxed<Declarations>,
-    /// What stands behind BEGIN (absent: no statement).
+    /// What stands after BEGIN (absent: no statement).
     pub body: Items<Statement>,
 }
 

@@ -34,7 +34,7 @@ basic_text basic.Boolean = codes "B"
 basic_text basic.Char = codes "C"
 basic_text basic.Byte = codes "Y"
 
--- the procedures round a declaration, each with a dot behind it
+-- the procedures round a declaration, each with a dot after it
 abbrev pub enclosing_text : List (List ℕ) → List ℕ
 enclosing_text [] = []
 enclosing_text (p ∷ ps) = name_text p ++ codes "." ++ enclosing_text ps

@@ -195,7 +195,7 @@ fn arrive(
     Ok(())
 }
 
-// What an instruction leaves arrives at the places behind it where it leads, and what it finds where it asks again.
+// What an instruction leaves arrives at the places after it where it leads, and what it finds where it asks again.
 fn go_on(
     alloc: Global,
     rows: &mut Vec<Known>,

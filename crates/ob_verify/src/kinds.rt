@@ -133,7 +133,7 @@ fn more(most: usize, more: usize) -> Kind
     }
 }
 
-// So far behind where the last element begins
+// So far after where the last element begins
 #[tactic(auto, using(crate::proofs::Lows::inside_far))]
 fn inside(name: usize, size: usize, most: usize, more: usize) -> Kind
     ensures { result ≡ spec.inside name size (most + more) }

@@ -184,7 +184,7 @@ fn names_arrive(procedure: &Procedure, rows: &[Known], place: usize, names: &[Na
     }
 }
 
-// A place with these names, and this one behind them.
+// A place with these names, and this one after them.
 fn name_arrives(
     procedure: &Procedure,
     rows: &[Known],
@@ -203,7 +203,7 @@ fn name_arrives(
     }
 }
 
-// Whether these are the others, and one behind them.
+// Whether these are the others, and one after them.
 fn is_one_more(all: &[NameKind], others: &[NameKind], name: NameKind) -> bool
     ensures { IsTrue result → all.now ≡ others.now ++ name ∷ [] }
 {

@@ -1,3 +1,5 @@
+//! Linked modules and their variables.
+
 ghost use Rattle.std.specs.Prelude.{◌≡◌, ◌≤◌, length, take, Some, slice_get};
 ghost use Rattle.ob_code.specs.Linked.{all_cells, IsLinked, runs_of};
 ghost use Rattle.ob_code.specs.Kinds.{IsMeasured};
@@ -9,7 +11,7 @@ use ob_step::objects;
 use std::marker::Model;
 
 /// Linked modules, which of them may run, and one row of cells: the variables of the modules, one module after the other,
-/// and behind them those of the calls that are open while a machine runs.
+/// and after them those of the calls that are open while a machine runs.
 #[derive(Drop)]
 pub struct Image {
     pub(crate) modules: Vec<LinkedModule>,

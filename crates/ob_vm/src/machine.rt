@@ -1,3 +1,5 @@
+//! The machine, as its callers see it.
+
 ghost use Rattle.std.specs.Prelude.{◌≡◌, ℕ, ◌+◌, ◌-◌, ◌^◌, ◌≤◌, min, [], length, None, Some, option_copied, slice_get, string_bytes, IfOk, IsOk, OnErr, OnOk};
 ghost use Rattle.ob_inout.specs.Reading.{given, opened};
 ghost use Rattle.ob_code.specs.Linked.{all_cells};
@@ -134,7 +136,7 @@ impl Machine {
     }
 
     /// The line of In that the machine asked for, or none where there is none to be had: a later call of `turns` goes on
-    /// behind it. The image is the one that the machine was started with, as its last call left it. None takes no memory.
+    /// after it. The image is the one that the machine was started with, as its last call left it. None takes no memory.
     ///
     /// # Errors
     ///

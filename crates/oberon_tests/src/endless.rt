@@ -1,4 +1,4 @@
-//! A cell that goes on behind the end of its input.
+//! A cell that goes on after the end of its input.
 
 use crate::replays::assert_leaves_work;
 use crate::sent::Sent::Cell;

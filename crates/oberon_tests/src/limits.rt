@@ -98,7 +98,7 @@ fn cells_of_a_module_and_of_a_procedure(rt: HostRuntime) -> Result<(), Fail> {
     )
 }
 
-/// A line of an empty cell behind blanks, with so many bytes.
+/// A line of an empty cell after blanks, with so many bytes.
 fn line_of(alloc: Global, bytes: usize) -> Result<String, Fail> {
     let line = lines(alloc, &[Cell(0, "m", "")])?;
     let blanks = bytes.saturating_sub(line.len()).saturating_add(1);

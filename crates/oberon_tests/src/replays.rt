@@ -26,7 +26,7 @@ pub fn assert_writes<R: AllocGlobal + Abort>(rt: &R, input: &str, wanted: &str, 
     assert_eq!(rt; replayed.status, status);
 }
 
-/// These lines show just this, and the kernel rests behind them.
+/// These lines show just this, and the kernel rests after them.
 pub fn assert_shows<R: AllocGlobal + Abort>(
     rt: &R,
     sent: &[Sent<'_>],

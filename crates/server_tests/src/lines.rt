@@ -80,7 +80,7 @@ pub fn failed(
     Ok(lines)
 }
 
-/// Texts, one behind another.
+/// Texts, one after another.
 pub fn joined(alloc: Global, parts: &[String]) -> Result<String, AllocError> {
     let mut text = String::new(alloc);
     for part in parts {

@@ -1,3 +1,5 @@
+//! Recorders of notebooks.
+
 use jk_log::{Entry, To, Told};
 use jp_msg::{Channel, Message, Output, read_message};
 use json_form::{Shared, Text};

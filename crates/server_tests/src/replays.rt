@@ -1,3 +1,5 @@
+//! Sessions that are replayed.
+
 use crate::devices::{Limited, Trickle, played};
 use crate::lines::{
     cell_line, ended, failed, first_cell, input_line, input_request, stream, whole_cell,
@@ -91,7 +93,7 @@ fn no_line_to_be_had(rt: HostRuntime) -> Result<(), Fail> {
 
 #[test]
 fn a_loop_without_end(rt: HostRuntime) -> Result<(), Fail> {
-    // More turns than all slices behind the last line have.
+    // More turns than all slices after the last line have.
     let code = String::from_utf8(Vec::from_elem(rt.alloc(), b'.', 1_000_001)?).or(Err("text"))?;
     let line = cell_line(rt.alloc(), "m", code.as_str(), "")?;
     let (end, written) = played::<TestLanguage>(rt.alloc(), line.as_bytes(), 16_384, 0, 0);
@@ -111,7 +113,7 @@ fn refused(alloc: Global, input: &[u8], step: usize) -> Option<(u64, Fault)> {
     }
 }
 
-/// The fault of a line behind an empty one and a slice.
+/// The fault of a line after an empty one and a slice.
 fn third_refused(alloc: Global, line: &[u8]) -> Result<Option<Fault>, Fail> {
     let mut input = Vec::from_slice(alloc, b"\n{\"run\":1}\n")?;
     input.extend_from_slice(line)?;
@@ -196,7 +198,7 @@ fn long_lines_that_are_no_text(rt: HostRuntime) -> Result<(), Fail> {
     let mut line = Vec::from_elem(rt.alloc(), b' ', 1_048_579)?;
     line.push(0xff)?;
     line.push(b'\n')?;
-    // The line's end comes with the piece behind the first 1,048,576 bytes, or is not looked for.
+    // The line's end comes with the piece after the first 1,048,576 bytes, or is not looked for.
     for step in [16_384, 1_048_577, 1_000] {
         assert_eq!(rt;
             refused(rt.alloc(), line.as_slice(), step),

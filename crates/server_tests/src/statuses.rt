@@ -1,3 +1,5 @@
+//! The exit statuses of a replay.
+
 use crate::devices::{Limited, Trickle};
 use crate::lines::cell_line;
 use jk_replay::{End, ReplayFault, ended_status, replay_status, usage_status};

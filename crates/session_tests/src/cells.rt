@@ -1,3 +1,5 @@
+//! Machines of a session, slice by slice.
+
 ghost use Rattle.std.specs.Prelude.{◌≡◌, ◌≤◌, true, false, IfOk};
 ghost use Rattle.jk_language.specs.Runs.{tells_end, tells_line};
 ghost use Rattle.ob_load.specs.MachineState.{state_of};

@@ -12,7 +12,7 @@ use jk_log::Entry;
 use std::alloc::{AllocError, Global};
 
 impl<L: Language> Follower<L> {
-    /// The next entries, at most so many, and the follower behind them.
+    /// The next entries, at most so many, and the follower after them.
     ///
     /// # Errors
     /// Where there is no memory, and where the publisher has ended. What was read stays as it was.

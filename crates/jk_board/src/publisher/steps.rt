@@ -14,7 +14,7 @@ use std::alloc::{AllocError, Global};
 use std::sync::Wait;
 
 impl<L: Language> Publisher<L> {
-    /// Puts the entries behind all that was published.
+    /// Puts the entries after all that was published.
     ///
     /// # Errors
     /// The entries come back where there is no memory. What was published stays as it was.

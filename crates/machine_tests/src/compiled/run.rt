@@ -18,7 +18,7 @@ pub(crate) struct Stood {
     pub left: u64,
 }
 
-/// A slice, whose output stands behind that of the slices before it.
+/// A slice, whose output stands after that of the slices before it.
 fn go_on(
     image: &mut Image,
     machine: &mut Machine,

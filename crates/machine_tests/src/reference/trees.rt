@@ -286,7 +286,7 @@ pub(crate) fn branch(
     })
 }
 
-/// IF with one branch, and what stands behind ELSE.
+/// IF with one branch, and what stands after ELSE.
 pub(crate) fn choice(
     alloc: Global,
     first: Result<Branch, AllocError>,
@@ -402,7 +402,7 @@ pub(crate) fn record(alloc: Global, length: u32) -> Result<ModuleVariable, Alloc
     Ok(ModuleVariable::Declared(Shape::Record(fields)))
 }
 
-/// A string, with 0X behind it.
+/// A string, with 0X after it.
 pub(crate) fn text(alloc: Global, text: &str, length: u32) -> Result<ModuleVariable, AllocError> {
     let text = Text::from_slice(alloc, text.as_bytes())?;
     Ok(ModuleVariable::Text(text, length))

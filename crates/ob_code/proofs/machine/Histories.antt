@@ -414,7 +414,7 @@ module _ (code : Code) (p : List ℕ) (c : Config) where
   returned_prefixed [] = refl
   returned_prefixed (f ∷ fs) = refl
 
-  -- more text behind what was written before
+  -- more text after what was written before
   put_prefixed : (stack : List ℤ) (text : List ℕ) → Turns kind.Output (on (prefixed p c) stack (put (prefixed p c).memory text)) ≡ prefixed_effect p (Turns kind.Output (on c stack (put c.memory text)))
   put_prefixed stack text = ap (λ w. Turns kind.Output (on c stack (record { cells = c.memory.cells; written = w; input = c.memory.input }))) (append_assoc p c.memory.written text)
 

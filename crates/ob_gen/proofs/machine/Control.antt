@@ -85,7 +85,7 @@ module _ (code : Code) (r : Running) (s : Value) where
 
   -- ---- loops
 
-  -- What it means to enter a body, behind which the machine comes to this place, and in the end to that one: without a turn
+  -- What it means to enter a body, after which the machine comes to this place, and in the end to that one: without a turn
   -- the run stands, and with one it goes on there.
   pub record Enters (most again end : ℕ) (enter : Piece Done → Piece Done) : Type 0 where
     pub none : (body : Piece Done) (ls : List InputLine) (w : World) → enter body (supply 0 ls) w ≡ Stands (Stopped BodyEntry) (supply 0 ls) w
@@ -181,7 +181,7 @@ module _ (code : Code) (r : Running) (s : Value) where
   abbrev pub round : Piece Done → Piece ℤ → ℕ → Piece Done
   round body until most n w = and_then (body n w) (λ _ n2 w2. and_then (until n2 w2) (λ v n3 w3. choose v (repeating body until most n3 w3) (Goes done n3 w3)))
 
-  -- behind the test, whose number was turned round: again
+  -- after the test, whose number was turned round: again
   again_runs : (k pc place end most t : ℕ) (ls : List InputLine) (w : World) (body : Piece Done) (until : Piece ℤ) → slice_get (lines_in code r) pc ≡ Some (line 1 0 (EnterBack k)) → pc - k ≡ place → Good most s (supply t ls) w → ((m : ℕ) → most ≡ suc m → (n : Supply) (w : World) → Good m s n w → Reaches code m s AnyDone (here r place [] [] n w) (λ d n' w'. here r end [] [] n' w') (round body until m n w)) → Reaches code most s AnyDone (here r pc (pos 1 ∷ []) [] (supply t ls) w) (λ d n' w'. here r end [] [] n' w') (repeating body until most (supply t ls) w)
   again_runs k pc place end zero zero ls w body until has eb g hr =
       record { there = conf r pc (pos 1 ∷ []) [] w; comes = performs code (supply 0 ls) (conf r pc (pos 1 ∷ []) [] w) (line 1 0 (EnterBack k)) _ has refl; same = refl; kept = Same g.fits }
@@ -207,7 +207,7 @@ module _ (code : Code) (r : Running) (s : Value) where
   until_runs (negsuc v) k pc place end most n w body until has eb ee g hr =
       (g, tt, performs code n (conf r pc (pos 0 ∷ []) [] w) (line 1 0 (EnterBack k)) _ has (ap (λ p. here r p [] [] n w) ee))
 
-  -- the code behind the first entry
+  -- the code after the first entry
   abbrev pub round_code : List Line → List Line → List Line
   round_code bc uc = bc ++ (uc ++ (line 1 0 (Unary Not 0) ∷ (line 1 0 (EnterBack (length bc + length uc + 1)) ∷ [])))
 
@@ -258,7 +258,7 @@ module _ (code : Code) (r : Running) (s : Value) where
   labels_by true l far pc p q v n w e h = subst (λ x. Comes code (here r far (v ∷ []) [] n w) (here r x (v ∷ []) [] n w)) e (stays code (here r far (v ∷ []) [] n w))
   labels_by false l far pc p q v n w e h = h
 
-  -- from the tests of the labels the machine comes behind them, past a jump where there is such a label
+  -- from the tests of the labels the machine comes after them, past a jump where there is such a label
   labels_run : (labels : List LabelRange) (pc p q : ℕ) (v : ℤ) (n : Supply) (w : World) → HasAt (lines_in code r) pc (labels_code labels) → pc + length labels ≡ q → q + 1 ≡ p → Comes code (here r pc (v ∷ []) [] n w) (here r (cond (is_labelled labels v) p q) (v ∷ []) [] n w)
   labels_run [] pc p q v n w has eq ep =
       let e : pc ≡ q = omega (arith, eq) in

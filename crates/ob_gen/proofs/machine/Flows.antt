@@ -41,7 +41,7 @@ module _ (m : CodeModule) (f : Procedure) (lines : List Line) where
   pub height_here : (pc : ℕ) (l : Line) → slice_get lines pc ≡ Some l → at pc ≡ Some (height l.operands l.names)
   height_here pc l e = ap (λ o. height_of o f.entry.is_function pc (length lines)) e
 
-  -- wherever this code stands, and this height is expected behind it, the other is before it, and its lines fit
+  -- wherever this code stands, and this height is expected after it, the other is before it, and its lines fit
   abbrev pub Flows : List Line → Height → Height → Type 0
   Flows c x y = (pc : ℕ) → HasAt lines pc c → at (pc + length c) ≡ Some y → (at pc ≡ Some x) × AllFit pc c
 
@@ -63,7 +63,7 @@ module _ (m : CodeModule) (f : Procedure) (lines : List Line) where
       let here : pc + length (l ∷ []) ≡ pc + 1 = omega arith in
       (height_here pc l has.0 ∙ ap Some same, (fit pc has.0 (subst (λ p. at p ≡ Some y) here e), tt))
 
-  -- a line and code behind it
+  -- a line and code after it
   pub flows_then : (l : Line) (c : List Line) (x y z : Height) → height l.operands l.names ≡ x → ((pc : ℕ) → slice_get lines pc ≡ Some l → at (pc + 1) ≡ Some y → Fits m f lines pc l.operands l.names l.instr) → Flows c y z → Flows (l ∷ c) x z
   flows_then l c x y z same fit h = flows_join (l ∷ []) c x y z (flows_one l x y same fit) h
 
@@ -122,7 +122,7 @@ module _ (m : CodeModule) (f : Procedure) (lines : List Line) where
       let hs = has_back lines pc b.guard _ has in
       (all.0 pc (has_front lines pc b.guard _ has) (height_here (pc + length b.guard) _ hs.0)).0
 
-  -- the bodies begin at base, the guards so far behind
+  -- the bodies begin at base, the guards so far after
   guards_fit : (bs : List Guarded) (far base pc : ℕ) → AllFlow bs → pc ≡ base + far → length (bodies_code bs) ≤ far → HasAt lines base (bodies_code bs) → at (base + length (bodies_code bs)) ≡ Some none → HasAt lines pc (guards_code far bs) → at (pc + length (guards_code far bs)) ≡ Some none → AllFit pc (guards_code far bs)
   guards_fit [] far base pc all same le bodies mid has e = tt
   guards_fit (b ∷ bs) far base pc all same le bodies mid has e =

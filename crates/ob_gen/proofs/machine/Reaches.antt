@@ -81,7 +81,7 @@ lines_in code r = lines_of code r.home r.procedure
 
 -- ---- what a run comes to
 
--- a store of this shape, or with more behind it
+-- a store of this shape, or with more after it
 pub data BeginsWith (s t : Value) : Type 0 where
   Same : t ≡ s → BeginsWith s t
   Longer : (more : Value) → t ≡ append s more → BeginsWith s t

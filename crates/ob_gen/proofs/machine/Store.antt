@@ -328,7 +328,7 @@ before-next Nothing Nothing r = refl
 before-next Nothing (Beside v rest) r = refl
 before-next (Beside u s) t r = omega (arith, before-next s t r)
 
--- a place stays where it is when more comes behind
+-- a place stays where it is when more comes after
 pub get-front : (s t : Value) (p : Place) → Inside s p → get (append s t) p ≡ get s p
 get-front s t Whole lead = absurd lead
 get-front s t (Part Whole i) lead = item-front s t i lead.1

@@ -1,4 +1,4 @@
--- Code that leads from what is known of the operands before it to what is known behind it.
+-- Code that leads from what is known of the operands before it to what is known after it.
 use Rattle.std.proofs.Common.{◌≡◌, ℕ, zero, suc, ◌+◌, ◌-◌, ◌≤◌, List, [], ◌∷◌, ◌++◌, length, Option, Some, None, Bool, true, false, refl, sym, ap, ◌∙◌, subst, arith, length-append}
 use Rattle.std.specs.Prelude.{slice_get, nat_eq, if◌then◌else◌}
 use Rattle.std.proofs.lemmas.Option.{slice_get_past}
@@ -97,7 +97,7 @@ pub rows_front : (rows : Rows) (pc : ℕ) (a b : List Known) → RowsAt rows pc 
 rows_front rows pc [] b h = tt
 rows_front rows pc (k ∷ a) b h = (h.0, rows_front rows (pc + 1) a b h.1)
 
--- behind as many rows as there are lines
+-- after as many rows as there are lines
 pub rows_back : (rows : Rows) (pc n : ℕ) (a b : List Known) → length a ≡ n → RowsAt rows pc (a ++ b) → RowsAt rows (pc + n) b
 rows_back rows pc n [] b e h = let same : pc ≡ pc + n = omega (arith, e) in subst (λ p. RowsAt rows p b) same h
 rows_back rows pc n (k ∷ a) b e h =
@@ -147,7 +147,7 @@ module _ (m : CodeModule) (f : Procedure) where
       subst (λ o. Arrives (known_of o (rows pc) f.entry.is_function pc (length lines)) k) (sym e)
       (subst (λ r. CoverKnown r k) (sym same) (cover_known k))
 
-  -- wherever this code stands, with these rows, and the place behind it takes in y, the place before it takes in x, and each
+  -- wherever this code stands, with these rows, and the place after it takes in y, the place before it takes in x, and each
   -- line keeps its row
   abbrev pub With : List Known → List Line → Known → Known → Type 0
   With ks c x y = (rows : Rows) (pc : ℕ) → HasAt lines pc c → RowsAt rows pc ks → Arrives (At rows (pc + length c)) y → Arrives (At rows pc) x × AllKeep rows pc c
@@ -170,7 +170,7 @@ module _ (m : CodeModule) (f : Procedure) where
         (ra.0, all_joined rows pc a b ra.1 rb.1),
   )
 
-  -- less is known before it, or more is asked behind it
+  -- less is known before it, or more is asked after it
   pub tells_more : (c : List Line) (x y z : Known) → CoverKnown z y → Tells c x y → Tells c x z
   tells_more c x y z covers t = (t.0, t.1, λ rows pc has at end. t.2 rows pc has at (arrives_at (At rows (pc + length c)) z y covers end))
 
@@ -263,7 +263,7 @@ module _ (m : CodeModule) (f : Procedure) where
       let rs = rows_back rows pc (length b.guard) all.0.0 _ all.0.1 at in
       (all.0.2 rows pc (has_front lines pc b.guard _ has) (rows_front rows pc all.0.0 _ at) (here rows (pc + length b.guard) _ number hs.0 rs.0)).0
 
-  -- the bodies begin at base, the guards so far behind
+  -- the bodies begin at base, the guards so far after
   guards_keep : (bs : List Guarded) (all : AllTell bs) (far base : ℕ) (rows : Rows) (pc : ℕ) → pc ≡ base + far → length (bodies_code bs) ≤ far → HasAt lines base (bodies_code bs) → RowsAt rows base (body_rows bs all) → Arrives (At rows (base + length (bodies_code bs))) nothing → HasAt lines pc (guards_code far bs) → RowsAt rows pc (guard_rows bs all) → Arrives (At rows (pc + length (guards_code far bs))) nothing → AllKeep rows pc (guards_code far bs)
   guards_keep [] all far base rows pc same le bodies below mid has at e = tt
   guards_keep (b ∷ bs) all far base rows pc same le bodies below mid has at e =

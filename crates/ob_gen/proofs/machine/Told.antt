@@ -225,7 +225,7 @@ over_drop : (n : ℕ) (ks : Kinds) → drop n (over n ks) ≡ ks
 over_drop zero ks = refl
 over_drop (suc n) ks = over_drop n ks
 
--- behind what is passed: so many numbers, and these names
+-- after what is passed: so many numbers, and these names
 abbrev given : ℕ → NameKinds → Known → Known
 given n ns x = record { operands = over n x.operands; names = x.names ++ ns }
 
@@ -359,7 +359,7 @@ module _ (names : Names) (m : CodeModule) (f : Procedure) (known : IsNamed names
   abbrev Leads : List Line → Known → Known → Type 0
   Leads c x y = Tells m f c x y
 
-  -- a line, and the same behind code
+  -- a line, and the same after code
   abbrev LineKeeps : Instr → Known → Known → Type 0
   LineKeeps i x y = (rows : Rows) (pc : ℕ) → Arrives (known_at f rows (pc + 1)) y → Keeps m f rows pc x i
 
