@@ -307,7 +307,13 @@ fn new_type(
     let mut so_far = so_far;
     let name = &d.name.name.name;
     let naming = so_far.naming(alloc, name.as_slice())?;
-    let written = written_type(alloc, modules, &so_far, &naming, nesting, 0, d.of.get())?;
+    let site = Site {
+        alloc,
+        imports: modules,
+        scope: &so_far,
+        levels: nesting,
+    };
+    let written = written_type(site, &naming, 0, d.of.get())?;
     let mark = d.name.mark.is_some();
     so_far.declare(alloc, name, mark, Entry::TypeName(written.of))?;
     Ok(so_far)
@@ -506,7 +512,13 @@ fn typed_variables(
 {
     let list = x.names.as_slice();
     let naming = so_far.naming(alloc, first_name(list))?;
-    let written = written_type(alloc, modules, &so_far, &naming, nesting, 0, x.of.get())?;
+    let site = Site {
+        alloc,
+        imports: modules,
+        scope: &so_far,
+        levels: nesting,
+    };
+    let written = written_type(site, &naming, 0, x.of.get())?;
     variables(alloc, &written.of, so_far, list)
 }
 

@@ -178,22 +178,14 @@ fn length_of(constant: &Constant, span: Span) -> Result<u32, Rejected>
 }
 
 #[tactic(auto, unfolding(crate::specs::WrittenTypes::inner_constant))]
-fn inner_constant(
-    alloc: Global,
-    modules: &Imports,
-    scope: &Scope,
-    nesting: u32,
-    e: &Expr,
-) -> Result<Constant, Rejected>
-    ensures { Judges (spec.inner_constant modules.now scope.now nesting e.now) result }
+fn inner_constant(site: Site<'_>, e: &Expr) -> Result<Constant, Rejected>
+    ensures { Judges (spec.inner_constant site.entry.imports.now site.entry.scope.now site.entry.levels e.now) result }
 {
-    let inside = open(nesting, e.first_token())?;
+    let inside = open(site.levels, e.first_token())?;
     constant(
         Site {
-            alloc,
-            imports: modules,
-            scope,
             levels: inside,
+            ..site
         },
         e,
     )
@@ -201,35 +193,22 @@ fn inner_constant(
 
 /// One length more.
 #[tactic(auto, unfolding(crate::specs::WrittenTypes::next_length))]
-fn next_length(
-    alloc: Global,
-    modules: &Imports,
-    scope: &Scope,
-    nesting: u32,
-    so_far: Items<u32>,
-    e: &Expr,
-) -> Result<Items<u32>, Rejected>
-    ensures { Judges (spec.next_length (spec.inner_constant modules.now scope.now nesting) so_far e.now) result }
+fn next_length(site: Site<'_>, so_far: Items<u32>, e: &Expr) -> Result<Items<u32>, Rejected>
+    ensures { Judges (spec.next_length (spec.inner_constant site.entry.imports.now site.entry.scope.now site.entry.levels) so_far e.now) result }
 {
     let mut so_far = so_far;
-    let value = inner_constant(alloc, modules, scope, nesting, e)?;
+    let value = inner_constant(site, e)?;
     let length = length_of(&value, e.first_token())?;
     so_far.push(length)?;
     Ok(so_far)
 }
 
-fn lengths_of(
-    alloc: Global,
-    modules: &Imports,
-    scope: &Scope,
-    nesting: u32,
-    list: &[Expr],
-) -> Result<Items<u32>, Rejected>
-    ensures { Judges (through (spec.next_length (spec.inner_constant modules.now scope.now nesting)) [] list.now) result }
+fn lengths_of(site: Site<'_>, list: &[Expr]) -> Result<Items<u32>, Rejected>
+    ensures { Judges (through (spec.next_length (spec.inner_constant site.entry.imports.now site.entry.scope.now site.entry.levels)) [] list.now) result }
 {
-    let mut so_far = Items::new(alloc);
+    let mut so_far = Items::new(site.alloc);
     for e in list {
-        so_far = next_length(alloc, modules, scope, nesting, so_far, e)?;
+        so_far = next_length(site, so_far, e)?;
     }
     Ok(so_far)
 }
@@ -334,34 +313,22 @@ fn cells_with(taken: u32, count: usize, of: &ObType) -> Option<u32>
 #[cycle(written)]
 #[tactic(auto, unfolding(crate::specs::WrittenTypes::type_at, crate::specs::WrittenTypes::type_rule))]
 pub fn written_type(
-    alloc: Global,
-    modules: &Imports,
-    scope: &Scope,
+    site: Site<'_>,
     naming: &RecordName,
-    nesting: u32,
     records: u32,
     t: &TypeExpr,
 ) -> Result<Written, Rejected>
-    ensures { Judges (spec.type_at modules.now scope.now naming.now nesting records t.now) result }
+    ensures { Judges (spec.type_at site.entry.imports.now site.entry.scope.now naming.now site.entry.levels records t.now) result }
 {
     match t {
         TypeExpr::Named(name) => {
-            let of = type_named(modules, scope, name)?;
+            let of = type_named(site.imports, site.scope, name)?;
             Ok(Written { of, records })
         }
         TypeExpr::Array(span, lengths, element) => {
-            let lengths = lengths_of(alloc, modules, scope, nesting, lengths.as_slice())?;
-            let element = inner_type(
-                alloc,
-                modules,
-                scope,
-                naming,
-                nesting,
-                records,
-                *span,
-                element.get(),
-            )?;
-            let of = arrays_of(alloc, element.of, lengths.as_slice(), *span)?;
+            let lengths = lengths_of(site, lengths.as_slice())?;
+            let element = inner_type(site, naming, records, *span, element.get())?;
+            let of = arrays_of(site.alloc, element.of, lengths.as_slice(), *span)?;
             Ok(Written {
                 of,
                 records: element.records,
@@ -371,16 +338,7 @@ pub fn written_type(
             if records == u32::MAX {
                 return Err(Rejected::Rule(broken(RuleCode::Size, *span)));
             }
-            record_type(
-                alloc,
-                modules,
-                scope,
-                naming,
-                nesting,
-                records,
-                *span,
-                fields.as_slice(),
-            )
+            record_type(site, naming, records, *span, fields.as_slice())
         }
     }
 }
@@ -389,30 +347,18 @@ pub fn written_type(
 #[cycle(written)]
 #[tactic(auto, unfolding(crate::specs::WrittenTypes::record_rule))]
 fn record_type(
-    alloc: Global,
-    modules: &Imports,
-    scope: &Scope,
+    site: Site<'_>,
     naming: &RecordName,
-    nesting: u32,
     records: u32,
     span: Span,
     list: &[TypedNames],
 ) -> Result<Written, Rejected>
     requires { records < 4294967295 }
-    ensures { Judges (spec.record_rule (spec.inner_type modules.now scope.now naming.now nesting) naming.now records list.now) result }
+    ensures { Judges (spec.record_rule (spec.inner_type site.entry.imports.now site.entry.scope.now naming.now site.entry.levels) naming.now records list.now) result }
 {
-    let all = all_fields(
-        alloc,
-        modules,
-        scope,
-        naming,
-        nesting,
-        records + 1,
-        span,
-        list,
-    )?;
-    let name = Shared::new(alloc, numbered(alloc, naming, records)?)?;
-    let fields = SharedItems::new(alloc, all.fields)?;
+    let all = all_fields(site, naming, records + 1, span, list)?;
+    let name = Shared::new(site.alloc, numbered(site.alloc, naming, records)?)?;
+    let fields = SharedItems::new(site.alloc, all.fields)?;
     Ok(Written {
         of: ObType::Record(RecordType { name, fields }),
         records: all.records,
@@ -421,25 +367,22 @@ fn record_type(
 
 #[cycle(written)]
 fn all_fields(
-    alloc: Global,
-    modules: &Imports,
-    scope: &Scope,
+    site: Site<'_>,
     naming: &RecordName,
-    nesting: u32,
     records: u32,
     span: Span,
     list: &[TypedNames],
 ) -> Result<Fields, Rejected>
-    ensures { Judges (through (spec.next_fields (spec.inner_type modules.now scope.now naming.now nesting)) (spec.no_fields records) list.now) result }
+    ensures { Judges (through (spec.next_fields (spec.inner_type site.entry.imports.now site.entry.scope.now naming.now site.entry.levels)) (spec.no_fields records) list.now) result }
 {
     let mut so_far = Fields {
-        names: Names::new(alloc),
-        fields: Items::new(alloc),
+        names: Names::new(site.alloc),
+        fields: Items::new(site.alloc),
         cells: 0,
         records,
     };
     for x in list {
-        so_far = next_fields(alloc, modules, scope, naming, nesting, so_far, x, span)?;
+        so_far = next_fields(site, naming, so_far, x, span)?;
     }
     Ok(so_far)
 }
@@ -448,32 +391,20 @@ fn all_fields(
 #[cycle(written)]
 #[tactic(auto, unfolding(crate::specs::WrittenTypes::next_fields))]
 fn next_fields(
-    alloc: Global,
-    modules: &Imports,
-    scope: &Scope,
+    site: Site<'_>,
     naming: &RecordName,
-    nesting: u32,
     so_far: Fields,
     x: &TypedNames,
     span: Span,
 ) -> Result<Fields, Rejected>
-    ensures { Judges (spec.next_fields (spec.inner_type modules.now scope.now naming.now nesting) so_far x.now) result }
+    ensures { Judges (spec.next_fields (spec.inner_type site.entry.imports.now site.entry.scope.now naming.now site.entry.levels) so_far x.now) result }
 {
     let list = x.names.as_slice();
-    let names = field_names(alloc, so_far.names, list)?;
-    let written = inner_type(
-        alloc,
-        modules,
-        scope,
-        naming,
-        nesting,
-        so_far.records,
-        span,
-        x.of.get(),
-    )?;
+    let names = field_names(site.alloc, so_far.names, list)?;
+    let written = inner_type(site, naming, so_far.records, span, x.of.get())?;
     match cells_with(so_far.cells, list.len(), &written.of) {
         Some(cells) => {
-            let fields = push_fields(alloc, so_far.fields, list, &written.of)?;
+            let fields = push_fields(site.alloc, so_far.fields, list, &written.of)?;
             Ok(Fields {
                 names,
                 fields,
@@ -489,17 +420,18 @@ fn next_fields(
 #[cycle(written)]
 #[tactic(auto, unfolding(crate::specs::WrittenTypes::inner_type, crate::specs::WrittenTypes::type_at))]
 fn inner_type(
-    alloc: Global,
-    modules: &Imports,
-    scope: &Scope,
+    site: Site<'_>,
     naming: &RecordName,
-    nesting: u32,
     records: u32,
     span: Span,
     t: &TypeExpr,
 ) -> Result<Written, Rejected>
-    ensures { Judges (spec.inner_type modules.now scope.now naming.now nesting records t.now) result }
+    ensures { Judges (spec.inner_type site.entry.imports.now site.entry.scope.now naming.now site.entry.levels records t.now) result }
 {
-    let inside = open(nesting, span)?;
-    written_type(alloc, modules, scope, naming, inside, records, t)
+    let inside = open(site.levels, span)?;
+    let inside = Site {
+        levels: inside,
+        ..site
+    };
+    written_type(inside, naming, records, t)
 }

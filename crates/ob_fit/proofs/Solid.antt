@@ -25,6 +25,7 @@ use Rattle.ob_types.specs.declared.structure.ObType.TheBlock as block
 use Rattle.ob_types.specs.declared.structure.ObType.TheBlock.{Row_of-Field, end_of-Field, more_of-Field, items-the_row-Field, items_shown-the_row-Field-1}
 use Rattle.ob_types.specs.declared.structure.RecordName.{RecordName}
 use Rattle.ob_types.specs.declared.structure.RecordType.{RecordType, RecordType', out-RecordType, roll-RecordType, out-roll-RecordType}
+use Rattle.ob_mean.specs.declared.shape.Shape.{Shape}
 use Rattle.ob_mean.specs.Shapes.{zero_of, zeros, at_least_one}
 use Rattle.ob_mean.proofs.Zeros.{array_zero, record_zero}
 use Rattle.ob_mean.specs.Values.{Value, size, row}
