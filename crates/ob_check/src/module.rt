@@ -212,17 +212,9 @@ fn with_procedures(
 ) -> Result<Checked, Rejected>
     ensures { Judges (spec.procedures_rule imports.now scope variables tree.now) result }
 {
-    let none = Items::new(alloc);
+    let so_far = (scope, Items::new(alloc), variables);
     let list = tree.declarations.get().procedures.as_slice();
-    let (scope, done, variables) = procedures(
-        alloc,
-        imports,
-        MAX_NESTING,
-        scope,
-        none,
-        variables,
-        list,
-    )?;
+    let (scope, done, variables) = procedures(alloc, imports, MAX_NESTING, so_far, list)?;
     with_body(alloc, imports, scope, done, variables, tree)
 }
 

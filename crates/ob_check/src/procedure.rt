@@ -21,6 +21,9 @@ use ob_tree::tree::{Procedure, Returned};
 use ob_types::{Basic, Signature};
 use std::alloc::{AllocError, Global};
 
+/// The scope, the procedures that ended so far, and the variables of the module so far.
+pub type Checking = (Scope, Items<TypedProcedure>, Variables);
+
 /// One less, if there is one.
 fn one_less(levels: u32) -> Option<u32>
     ensures some { IfSome result (λ n. levels ≡ suc n) }
@@ -162,14 +165,12 @@ fn body_of(
     imports: &Imports,
     levels: u32,
     signature: &Signature,
-    scope: Scope,
-    done: Items<TypedProcedure>,
-    variables: Variables,
+    so_far: Checking,
     p: &Procedure,
-) -> Result<(Scope, Items<TypedProcedure>, Variables), Rejected>
-    ensures { Judges (spec.body_of imports.now levels signature.now (scope, done, variables) p.now) result }
+) -> Result<Checking, Rejected>
+    ensures { Judges (spec.body_of imports.now levels signature.now so_far p.now) result }
 {
-    let mut done = done;
+    let (scope, mut done, variables) = so_far;
     let span = p.name.name.span;
     let list = p.body.as_slice();
     let site = Site {
@@ -188,6 +189,7 @@ fn body_of(
 }
 
 /// A procedure that was entered: its declarations, the procedures in it, its body.
+/// `before` has the procedures that ended so far, and the variables of the module so far.
 #[cycle(procedures)]
 #[tactic(auto, unfolding(crate::specs::Procedures::inside_of))]
 fn inside_of(
@@ -195,22 +197,19 @@ fn inside_of(
     imports: &Imports,
     levels: u32,
     entered: Entered,
-    done: Items<TypedProcedure>,
-    variables: Variables,
+    before: (Items<TypedProcedure>, Variables),
     p: &Procedure,
-) -> Result<(Scope, Items<TypedProcedure>, Variables), Rejected>
-    ensures { Judges (spec.inside_of imports.now levels (spec.procedure_at imports.now levels) entered done variables p.now) result }
+) -> Result<Checking, Rejected>
+    ensures { Judges (spec.inside_of imports.now levels (spec.procedure_at imports.now levels) entered before.0 before.1 p.now) result }
 {
     let declarations = p.declarations.get();
     let Entered { scope, signature } = entered;
     let scope = declare_all(alloc, imports, levels, scope, declarations)?;
+    let (done, variables) = before;
+    let so_far = (scope, done, variables);
     let list = declarations.procedures.as_slice();
-    let (scope, done, variables) = procedures(
-        alloc, imports, levels, scope, done, variables, list,
-    )?;
-    body_of(
-        alloc, imports, levels, &signature, scope, done, variables, p,
-    )
+    let so_far = procedures(alloc, imports, levels, so_far, list)?;
+    body_of(alloc, imports, levels, &signature, so_far, p)
 }
 
 /// A procedure, inside its construct.
@@ -220,16 +219,15 @@ fn procedure_of(
     alloc: Global,
     imports: &Imports,
     levels: u32,
-    scope: Scope,
-    done: Items<TypedProcedure>,
-    variables: Variables,
+    so_far: Checking,
     p: &Procedure,
-) -> Result<(Scope, Items<TypedProcedure>, Variables), Rejected>
-    ensures { Judges (spec.procedure_of imports.now levels (spec.procedure_at imports.now levels) (scope, done, variables) p.now) result }
+) -> Result<Checking, Rejected>
+    ensures { Judges (spec.procedure_of imports.now levels (spec.procedure_at imports.now levels) so_far p.now) result }
 {
+    let (scope, done, variables) = so_far;
     let number = number_of(levels, done.len(), p)?;
     let entered = enter_procedure(alloc, imports, levels, number, scope, p)?;
-    inside_of(alloc, imports, levels, entered, done, variables, p)
+    inside_of(alloc, imports, levels, entered, (done, variables), p)
 }
 
 /// One procedure more.
@@ -239,15 +237,13 @@ fn procedure(
     alloc: Global,
     imports: &Imports,
     levels: u32,
-    scope: Scope,
-    done: Items<TypedProcedure>,
-    variables: Variables,
+    so_far: Checking,
     p: &Procedure,
-) -> Result<(Scope, Items<TypedProcedure>, Variables), Rejected>
-    ensures { Judges (spec.procedure_at imports.now levels (scope, done, variables) p.now) result }
+) -> Result<Checking, Rejected>
+    ensures { Judges (spec.procedure_at imports.now levels so_far p.now) result }
 {
     let inside = open(levels, p.name.name.span)?;
-    procedure_of(alloc, imports, inside, scope, done, variables, p)
+    procedure_of(alloc, imports, inside, so_far, p)
 }
 
 /// The procedures of a module or of a procedure, after its other declarations.
@@ -256,21 +252,14 @@ pub fn procedures(
     alloc: Global,
     imports: &Imports,
     levels: u32,
-    scope: Scope,
-    done: Items<TypedProcedure>,
-    variables: Variables,
+    so_far: Checking,
     list: &[Procedure],
-) -> Result<(Scope, Items<TypedProcedure>, Variables), Rejected>
-    ensures { Judges (through (spec.procedure_at imports.now levels) (scope, done, variables) list.now) result }
+) -> Result<Checking, Rejected>
+    ensures { Judges (through (spec.procedure_at imports.now levels) so_far list.now) result }
 {
-    let mut scope = scope;
-    let mut done = done;
-    let mut variables = variables;
+    let mut so_far = so_far;
     for p in list {
-        let (next, more, longer) = procedure(alloc, imports, levels, scope, done, variables, p)?;
-        scope = next;
-        done = more;
-        variables = longer;
+        so_far = procedure(alloc, imports, levels, so_far, p)?;
     }
-    Ok((scope, done, variables))
+    Ok(so_far)
 }

@@ -32,7 +32,7 @@ use ob_tree::tree::{
     AddedTerm, Designator as Written, Expr, Factor, NextFactor, Related, Selector, Sign, Simple,
     Term,
 };
-use ob_types::{Basic, Formal, FormalKind, ObType};
+use ob_types::{Basic, Formal, FormalKind, ObType, Signature};
 
 fn designator_in(f: &Factor) -> Option<&Written>
     ensures { option_copied result ≡ spec.designator_in (out-Factor f.now) }
@@ -384,15 +384,9 @@ fn call(
     ensures { Judges (spec.call_at site.entry.imports.now site.entry.scope.now site.entry.levels (callable function.entry) span.line variables actuals.now) result }
 {
     match function {
-        Called::Procedure(signature, callee) => function_call(
-            site,
-            variables,
-            signature.result,
-            callee,
-            signature.formals.as_slice(),
-            span,
-            actuals,
-        ),
+        Called::Procedure(signature, callee) => {
+            function_call(site, variables, signature, callee, span, actuals)
+        }
         Called::Function(function) => { predeclared_call(site, variables, function, span, actuals) }
         Called::Proper(_) | Called::Input(_) | Called::Output(_) => {
             Err(Rejected::Rule(broken(RuleCode::Parameters, span)))
@@ -405,17 +399,17 @@ fn call(
 fn function_call(
     site: Site<'_>,
     variables: Variables,
-    result_type: Option<Basic>,
+    signature: &Signature,
     callee: Callee,
-    formals: &[Formal],
     span: Span,
     actuals: &[Expr],
 ) -> Result<(Operand, Variables), Rejected>
-    ensures { Judges (spec.function_at site.entry.imports.now site.entry.scope.now site.entry.levels result_type callee formals.now span.line variables actuals.now) result }
+    ensures { Judges (spec.function_at site.entry.imports.now site.entry.scope.now site.entry.levels signature.now.result callee signature.now.formals span.line variables actuals.now) result }
 {
-    match result_type {
+    match signature.result {
         None => Err(Rejected::Rule(broken(RuleCode::Parameters, span))),
         Some(basic) => {
+            let formals = signature.formals.as_slice();
             let (passed, variables) = all_passed(site, formals, span, variables, actuals)?;
             let value = TypedExpr::Function(callee, span.line, passed);
             Ok((Operand::Value(basic, value), variables))
@@ -442,7 +436,7 @@ fn predeclared_call(
             if !takes(function, alone, &value) {
                 return Err(Rejected::Rule(broken(RuleCode::Parameters, one.first_token())));
             }
-            one_taken(site, variables, function, alone, value, span, behind)
+            one_taken(site, function, alone, (value, variables), span, behind)
         }
     }
 }
@@ -452,15 +446,15 @@ fn predeclared_call(
 #[tactic(auto, unfolding(crate::specs::Expressions::one_taken, crate::specs::Expressions::two_taken))]
 fn one_taken(
     site: Site<'_>,
-    variables: Variables,
     function: Function,
     alone: bool,
-    left: Operand,
+    first: (Operand, Variables),
     span: Span,
     actuals: &[Expr],
 ) -> Result<(Operand, Variables), Rejected>
-    ensures { Judges (spec.one_taken_at site.entry.imports.now site.entry.scope.now site.entry.levels function span.line alone (left, variables) actuals.now) result }
+    ensures { Judges (spec.one_taken_at site.entry.imports.now site.entry.scope.now site.entry.levels function span.line alone first actuals.now) result }
 {
+    let (left, variables) = first;
     match actuals {
         [] => {
             let value = one_of(site.alloc, function, span, alone, left)?;

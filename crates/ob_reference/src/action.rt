@@ -9,7 +9,8 @@ ghost use Rattle.ob_reference_store.specs.States.{Follows, scope_in, supply_in, 
 
 use crate::call::{call, passed};
 use crate::expression::{place, value};
-use ob_mean::{Action, Adjustment, InputCall, Loaded, Outcome, OutputCall, TrapKind};
+use crate::site::Site;
+use ob_mean::{Action, Adjustment, InputCall, Outcome, OutputCall, TrapKind};
 use ob_reference_store::input::{read_into, reopen};
 use ob_reference_store::state::{At, State};
 use ob_reference_store::stop::Stop;
@@ -50,72 +51,59 @@ fn store_text(
 
 /// A statement that has no others in it.
 #[cycle(running)]
-pub(crate) fn action(
-    alloc: Global,
-    program: &[Loaded],
-    at: At,
-    room: u32,
-    state: &mut State,
-    one: &Action,
-) -> Result<(), Stop>
-    ensures { Follows (λ _. done) result state.new (spec.action_meaning (scope_in program.now at) one.now (supply_in state.old) (world_in state.old)) }
+pub(crate) fn action(site: Site<'_>, room: u32, state: &mut State, one: &Action) -> Result<(), Stop>
+    ensures { Follows (λ _. done) result state.new (spec.action_meaning (scope_in site.entry.program.now site.entry.at) one.now (supply_in state.old) (world_in state.old)) }
 {
     if room == 0 {
         return Err(Stop::Unanswered);
     }
     match one {
         Action::Assign(d, e) => {
-            let path = place(alloc, program, at, room - 1, state, d)?;
-            let number = value(alloc, program, at, room - 1, state, e)?;
+            let path = place(site, room - 1, state, d)?;
+            let number = value(site, room - 1, state, e)?;
             store_at(state, &path, cell(number));
             Ok(())
         }
         Action::Copy(d, e) => {
-            let target = place(alloc, program, at, room - 1, state, d)?;
-            let source = place(alloc, program, at, room - 1, state, e)?;
-            let copied = copy_at(alloc, &state.store, &source)?;
+            let target = place(site, room - 1, state, d)?;
+            let source = place(site, room - 1, state, e)?;
+            let copied = copy_at(site.alloc, &state.store, &source)?;
             store_at(state, &target, copied);
             Ok(())
         }
         Action::AssignText(d, line, text) => {
-            let path = place(alloc, program, at, room - 1, state, d)?;
-            store_text(alloc, at, state, &path, *line, text.as_slice())
+            let path = place(site, room - 1, state, d)?;
+            store_text(site.alloc, site.at, state, &path, *line, text.as_slice())
         }
         Action::Adjust(adjustment, d, e) => {
-            let path = place(alloc, program, at, room - 1, state, d)?;
-            let number = value(alloc, program, at, room - 1, state, e)?;
+            let path = place(site, room - 1, state, d)?;
+            let number = value(site, room - 1, state, e)?;
             let now = number_at(&state.store, &path);
             store_at(state, &path, cell(adjusted(*adjustment, now, number)));
             Ok(())
         }
         Action::Assert(line, e) => {
-            let holds = value(alloc, program, at, room - 1, state, e)?;
+            let holds = value(site, room - 1, state, e)?;
             if holds == 0 {
-                return Err(Stop::Stands(Outcome::Trapped(TrapKind::Assertion, at.home, *line)));
+                let trap = Outcome::Trapped(TrapKind::Assertion, site.at.home, *line);
+                return Err(Stop::Stands(trap));
             }
             Ok(())
         }
         Action::Call(callee, line, arguments) => {
-            let row = passed(alloc, program, at, room - 1, state, arguments.as_slice())?;
-            call(alloc, program, at, room - 1, state, *callee, row, *line)?;
+            let row = passed(site, room - 1, state, arguments.as_slice())?;
+            call(site, room - 1, state, *callee, row, *line)?;
             Ok(())
         }
-        Action::Input(call) => input(alloc, program, at, room - 1, state, call),
-        Action::Output(call) => output(alloc, program, at, room - 1, state, call),
+        Action::Input(call) => input(site, room - 1, state, call),
+        Action::Output(call) => output(site, room - 1, state, call),
     }
 }
 
 /// A call of In.
 #[cycle(running)]
-fn input(
-    alloc: Global,
-    program: &[Loaded],
-    at: At,
-    room: u32,
-    state: &mut State,
-    call: &InputCall,
-) -> Result<(), Stop>
-    ensures { Follows (λ _. done) result state.new (spec.input_meaning (scope_in program.now at) call.now (supply_in state.old) (world_in state.old)) }
+fn input(site: Site<'_>, room: u32, state: &mut State, call: &InputCall) -> Result<(), Stop>
+    ensures { Follows (λ _. done) result state.new (spec.input_meaning (scope_in site.entry.program.now site.entry.at) call.now (supply_in state.old) (world_in state.old)) }
 {
     if room == 0 {
         return Err(Stop::Unanswered);
@@ -123,23 +111,16 @@ fn input(
     match call {
         InputCall::Open => reopen(state),
         InputCall::Read(reader, d) => {
-            let path = place(alloc, program, at, room - 1, state, d)?;
-            read_into(alloc, state, *reader, &path)
+            let path = place(site, room - 1, state, d)?;
+            read_into(site.alloc, state, *reader, &path)
         }
     }
 }
 
 /// A call of Out.
 #[cycle(running)]
-fn output(
-    alloc: Global,
-    program: &[Loaded],
-    at: At,
-    room: u32,
-    state: &mut State,
-    call: &OutputCall,
-) -> Result<(), Stop>
-    ensures { Follows (λ _. done) result state.new (spec.output_meaning (scope_in program.now at) call.now (supply_in state.old) (world_in state.old)) }
+fn output(site: Site<'_>, room: u32, state: &mut State, call: &OutputCall) -> Result<(), Stop>
+    ensures { Follows (λ _. done) result state.new (spec.output_meaning (scope_in site.entry.program.now site.entry.at) call.now (supply_in state.old) (world_in state.old)) }
 {
     if room == 0 {
         return Err(Stop::Unanswered);
@@ -147,16 +128,16 @@ fn output(
     match call {
         OutputCall::Open => write_nothing(state),
         OutputCall::Char(e) => {
-            let number = value(alloc, program, at, room - 1, state, e)?;
+            let number = value(site, room - 1, state, e)?;
             write_char(state, number)
         }
         OutputCall::String(d) => {
-            let path = place(alloc, program, at, room - 1, state, d)?;
-            write_text(alloc, state, &path)
+            let path = place(site, room - 1, state, d)?;
+            write_text(site.alloc, state, &path)
         }
         OutputCall::Int(e, width) => {
-            let number = value(alloc, program, at, room - 1, state, e)?;
-            let width = value(alloc, program, at, room - 1, state, width)?;
+            let number = value(site, room - 1, state, e)?;
+            let width = value(site, room - 1, state, width)?;
             write_int(state, number, width)
         }
         OutputCall::Ln => write_end(state),

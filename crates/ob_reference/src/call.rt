@@ -8,8 +8,9 @@ ghost use Rattle.ob_reference.specs.Lists.{called};
 ghost use Rattle.ob_reference_store.specs.States.{Follows, scope_in, supply_in, world_in};
 
 use crate::expression::{place, value};
+use crate::site::Site;
 use crate::statement::statements;
-use ob_mean::{Argument, Callee, Loaded, Outcome, TrapKind, TurnKind, TypedExpr, TypedProcedure};
+use ob_mean::{Argument, Callee, Outcome, TrapKind, TurnKind, TypedExpr, TypedProcedure};
 use ob_reference_store::frame::{enter, home_of, leave, procedure_of};
 use ob_reference_store::row::count;
 use ob_reference_store::state::{At, State, take_turn};
@@ -17,34 +18,26 @@ use ob_reference_store::stop::Stop;
 use ob_reference_store::value::Value;
 use ob_reference_store::variable::count_at;
 use ob_reference_store::zero::{beside, cell};
-use std::alloc::Global;
 
 /// What is passed to one parameter.
 #[cycle(running)]
-fn argument(
-    alloc: Global,
-    program: &[Loaded],
-    at: At,
-    room: u32,
-    state: &mut State,
-    a: &Argument,
-) -> Result<Value, Stop>
-    ensures { Follows value_in result state.new (spec.argument_of (scope_in program.now at) a.now (supply_in state.old) (world_in state.old)) }
+fn argument(site: Site<'_>, room: u32, state: &mut State, a: &Argument) -> Result<Value, Stop>
+    ensures { Follows value_in result state.new (spec.argument_of (scope_in site.entry.program.now site.entry.at) a.now (supply_in state.old) (world_in state.old)) }
 {
     if room == 0 {
         return Err(Stop::Unanswered);
     }
     match a {
         Argument::Value(e) => {
-            let number = value(alloc, program, at, room - 1, state, e)?;
+            let number = value(site, room - 1, state, e)?;
             Ok(cell(number))
         }
         Argument::Place(d) => {
-            let path = place(alloc, program, at, room - 1, state, d)?;
+            let path = place(site, room - 1, state, d)?;
             Ok(Value::Named(path))
         }
         Argument::Open(d) => {
-            let path = place(alloc, program, at, room - 1, state, d)?;
+            let path = place(site, room - 1, state, d)?;
             let length = count_at(&state.store, &path)?;
             Ok(Value::Open(path, length))
         }
@@ -54,14 +47,12 @@ fn argument(
 /// What is passed.
 #[cycle(running)]
 pub(crate) fn passed(
-    alloc: Global,
-    program: &[Loaded],
-    at: At,
+    site: Site<'_>,
     room: u32,
     state: &mut State,
     arguments: &[Argument],
 ) -> Result<Value, Stop>
-    ensures { Follows value_in result state.new (spec.passed (map (spec.argument_of (scope_in program.now at)) arguments.now) (supply_in state.old) (world_in state.old)) }
+    ensures { Follows value_in result state.new (spec.passed (map (spec.argument_of (scope_in site.entry.program.now site.entry.at)) arguments.now) (supply_in state.old) (world_in state.old)) }
 {
     if room == 0 {
         return Err(Stop::Unanswered);
@@ -69,9 +60,9 @@ pub(crate) fn passed(
     match arguments {
         [] => Ok(Value::Nothing),
         [first, others @ ..] => {
-            let one = argument(alloc, program, at, room - 1, state, first)?;
-            let rest = passed(alloc, program, at, room - 1, state, others)?;
-            Ok(beside(alloc, one, rest)?)
+            let one = argument(site, room - 1, state, first)?;
+            let rest = passed(site, room - 1, state, others)?;
+            Ok(beside(site.alloc, one, rest)?)
         }
     }
 }
@@ -80,31 +71,29 @@ pub(crate) fn passed(
 #[cycle(running)]
 #[tactic(auto, using(crate::proofs::Calls::call_none, crate::proofs::Calls::call_waits, crate::proofs::Calls::call_missing, crate::proofs::Calls::call_found))]
 pub(crate) fn call(
-    alloc: Global,
-    program: &[Loaded],
-    at: At,
+    site: Site<'_>,
     room: u32,
     state: &mut State,
     callee: Callee,
     passed: Value,
     line: usize,
 ) -> Result<Option<i32>, Stop>
-    ensures { Follows option_to_list result state.new (programs.call_at program.now at.depth at.home callee (value_in passed) line (supply_in state.old) (world_in state.old)) }
+    ensures { Follows option_to_list result state.new (programs.call_at site.entry.program.now site.entry.at.depth site.entry.at.home callee (value_in passed) line (supply_in state.old) (world_in state.old)) }
 {
     if room == 0 {
         return Err(Stop::Unanswered);
     }
-    if at.depth == 0 {
-        return Err(Stop::Stands(Outcome::Trapped(TrapKind::CallDepth, at.home, line)));
+    if site.at.depth == 0 {
+        return Err(Stop::Stands(Outcome::Trapped(TrapKind::CallDepth, site.at.home, line)));
     }
     take_turn(state, TurnKind::ProcedureCall)?;
-    let inner = At {
-        home: home_of(program, at.home, callee),
+    let at = At {
+        home: home_of(site.program, site.at.home, callee),
         frame: count(&state.store)?,
-        depth: at.depth - 1,
+        depth: site.at.depth - 1,
     };
-    match procedure_of(program, at.home, callee) {
-        Some(f) => procedure(alloc, program, inner, room - 1, state, f, passed),
+    match procedure_of(site.program, site.at.home, callee) {
+        Some(f) => procedure(Site { at, ..site }, room - 1, state, f, passed),
         None => Ok(None),
     }
 }
@@ -112,37 +101,33 @@ pub(crate) fn call(
 /// A procedure, whose variables go when it returns.
 #[cycle(running)]
 fn procedure(
-    alloc: Global,
-    program: &[Loaded],
-    at: At,
+    site: Site<'_>,
     room: u32,
     state: &mut State,
     f: &TypedProcedure,
     passed: Value,
 ) -> Result<Option<i32>, Stop>
-    ensures { Follows option_to_list result state.new (programs.procedure_meaning (scope_in program.now at) f.now (value_in passed) (supply_in state.old) (world_in state.old)) }
+    ensures { Follows option_to_list result state.new (programs.procedure_meaning (scope_in site.entry.program.now site.entry.at) f.now (value_in passed) (supply_in state.old) (world_in state.old)) }
 {
     if room == 0 {
         return Err(Stop::Unanswered);
     }
-    enter(alloc, room, state, passed, f)?;
-    statements(alloc, program, at, room - 1, state, f.body.as_slice())?;
-    let returned = result_of(alloc, program, at, room - 1, state, &f.result)?;
-    leave(state, at.frame);
+    enter(site.alloc, room, state, passed, f)?;
+    statements(site, room - 1, state, f.body.as_slice())?;
+    let returned = result_of(site, room - 1, state, &f.result)?;
+    leave(state, site.at.frame);
     Ok(returned)
 }
 
 /// The value after RETURN.
 #[cycle(running)]
 fn result_of(
-    alloc: Global,
-    program: &[Loaded],
-    at: At,
+    site: Site<'_>,
     room: u32,
     state: &mut State,
     returned: &Option<TypedExpr>,
 ) -> Result<Option<i32>, Stop>
-    ensures { Follows option_to_list result state.new (programs.result_of (scope_in program.now at) returned.now (supply_in state.old) (world_in state.old)) }
+    ensures { Follows option_to_list result state.new (programs.result_of (scope_in site.entry.program.now site.entry.at) returned.now (supply_in state.old) (world_in state.old)) }
 {
     if room == 0 {
         return Err(Stop::Unanswered);
@@ -150,7 +135,7 @@ fn result_of(
     match returned {
         None => Ok(None),
         Some(e) => {
-            let number = value(alloc, program, at, room - 1, state, e)?;
+            let number = value(site, room - 1, state, e)?;
             Ok(Some(number))
         }
     }
@@ -169,21 +154,19 @@ fn only(given: Option<i32>) -> i32
 /// The value of a function.
 #[cycle(running)]
 pub(crate) fn function(
-    alloc: Global,
-    program: &[Loaded],
-    at: At,
+    site: Site<'_>,
     room: u32,
     state: &mut State,
     callee: Callee,
     line: usize,
     arguments: &[Argument],
 ) -> Result<i32, Stop>
-    ensures { Follows (λ v. v) result state.new (called (scope_in program.now at) callee line arguments.now (supply_in state.old) (world_in state.old)) }
+    ensures { Follows (λ v. v) result state.new (called (scope_in site.entry.program.now site.entry.at) callee line arguments.now (supply_in state.old) (world_in state.old)) }
 {
     if room == 0 {
         return Err(Stop::Unanswered);
     }
-    let row = passed(alloc, program, at, room - 1, state, arguments)?;
-    let given = call(alloc, program, at, room - 1, state, callee, row, line)?;
+    let row = passed(site, room - 1, state, arguments)?;
+    let given = call(site, room - 1, state, callee, row, line)?;
     Ok(only(given))
 }

@@ -11,27 +11,24 @@ ghost use Rattle.ob_reference_store.specs.States.{Follows, scope_in, supply_in, 
 ghost use Rattle.ob_reference.specs.Lists.{operation_pieces, value_pieces};
 
 use crate::call::function;
+use crate::site::Site;
 use ob_mean::{
-    Designator, Loaded, Operation, Outcome, TrapKind, TypedExpr, apply, apply_one, texts_relate,
-    truth,
+    Designator, Operation, Outcome, TrapKind, TypedExpr, apply, apply_one, texts_relate, truth,
 };
 use ob_reference_store::state::{At, State};
 use ob_reference_store::stop::{NoAnswer, Stop};
 use ob_reference_store::variable::{count_at, number_at, text_at, variable_path};
-use std::alloc::Global;
 
 /// The value of an expression.
 #[cycle(running)]
 #[tactic(auto, using(crate::proofs::Trees::unary_is, crate::proofs::Trees::chain_is, crate::proofs::Trees::every_is, crate::proofs::Trees::either_is, crate::proofs::Trees::function_is))]
 pub(crate) fn value(
-    alloc: Global,
-    program: &[Loaded],
-    at: At,
+    site: Site<'_>,
     room: u32,
     state: &mut State,
     e: &TypedExpr,
 ) -> Result<i32, Stop>
-    ensures { Follows (λ v. v) result state.new (spec.value_of (scope_in program.now at) e.now (supply_in state.old) (world_in state.old)) }
+    ensures { Follows (λ v. v) result state.new (spec.value_of (scope_in site.entry.program.now site.entry.at) e.now (supply_in state.old) (world_in state.old)) }
 {
     if room == 0 {
         return Err(Stop::Unanswered);
@@ -39,43 +36,34 @@ pub(crate) fn value(
     match e {
         TypedExpr::Constant(number) => Ok(*number),
         TypedExpr::Read(d) => {
-            let path = place(alloc, program, at, room - 1, state, d)?;
+            let path = place(site, room - 1, state, d)?;
             Ok(number_at(&state.store, &path))
         }
         TypedExpr::InputDone => Ok(truth(state.input.is_done())),
         TypedExpr::Unary(operator, line, operand) => {
-            let x = value(alloc, program, at, room - 1, state, operand.get())?;
-            finish(at.home, *line, apply_one(*operator, x))
+            let x = value(site, room - 1, state, operand.get())?;
+            finish(site.at.home, *line, apply_one(*operator, x))
         }
         TypedExpr::Chain(first, others) => {
-            let x = value(alloc, program, at, room - 1, state, first.get())?;
-            chain(alloc, program, at, room - 1, state, x, others.as_slice())
+            let x = value(site, room - 1, state, first.get())?;
+            chain(site, room - 1, state, x, others.as_slice())
         }
-        TypedExpr::Every(all) => every(alloc, program, at, room - 1, state, all.as_slice()),
-        TypedExpr::Either(all) => either(alloc, program, at, room - 1, state, all.as_slice()),
+        TypedExpr::Every(all) => every(site, room - 1, state, all.as_slice()),
+        TypedExpr::Either(all) => either(site, room - 1, state, all.as_slice()),
         TypedExpr::Texts(relation, first, second) => {
-            let first = place(alloc, program, at, room - 1, state, first)?;
-            let second = place(alloc, program, at, room - 1, state, second)?;
-            let one = text_at(alloc, &state.store, &first)?;
-            let other = text_at(alloc, &state.store, &second)?;
+            let first = place(site, room - 1, state, first)?;
+            let second = place(site, room - 1, state, second)?;
+            let one = text_at(site.alloc, &state.store, &first)?;
+            let other = text_at(site.alloc, &state.store, &second)?;
             Ok(truth(texts_relate(*relation, &one, &other)))
         }
         TypedExpr::Length(d) => {
-            let path = place(alloc, program, at, room - 1, state, d)?;
+            let path = place(site, room - 1, state, d)?;
             let count = count_at(&state.store, &path)?;
             Ok(length(count)?)
         }
         TypedExpr::Function(callee, line, arguments) => {
-            function(
-                alloc,
-                program,
-                at,
-                room - 1,
-                state,
-                *callee,
-                *line,
-                arguments.as_slice(),
-            )
+            function(site, room - 1, state, *callee, *line, arguments.as_slice())
         }
     }
 }
@@ -103,15 +91,13 @@ fn length(count: usize) -> Result<i32, NoAnswer>
 #[cycle(running)]
 #[tactic(auto, using(crate::proofs::Trees::chain_gives))]
 fn chain(
-    alloc: Global,
-    program: &[Loaded],
-    at: At,
+    site: Site<'_>,
     room: u32,
     state: &mut State,
     first: i32,
     others: &[Operation],
 ) -> Result<i32, Stop>
-    ensures { Follows (λ v. v) result state.new (spec.chained (operation_pieces (scope_in program.now at) others.now) first (supply_in state.old) (world_in state.old)) }
+    ensures { Follows (λ v. v) result state.new (spec.chained (operation_pieces (scope_in site.entry.program.now site.entry.at) others.now) first (supply_in state.old) (world_in state.old)) }
 {
     if room == 0 {
         return Err(Stop::Unanswered);
@@ -119,10 +105,12 @@ fn chain(
     match others {
         [] => Ok(first),
         [operation, rest @ ..] => {
-            let second = value(alloc, program, at, room - 1, state, &operation.operand)?;
+            let second = value(site, room - 1, state, &operation.operand)?;
             match apply(operation.operator, first, second) {
-                Ok(number) => chain(alloc, program, at, room - 1, state, number, rest),
-                Err(kind) => { Err(Stop::Stands(Outcome::Trapped(kind, at.home, operation.line))) }
+                Ok(number) => chain(site, room - 1, state, number, rest),
+                Err(kind) => {
+                    Err(Stop::Stands(Outcome::Trapped(kind, site.at.home, operation.line)))
+                }
             }
         }
     }
@@ -130,15 +118,8 @@ fn chain(
 
 /// Whether each holds.
 #[cycle(running)]
-fn every(
-    alloc: Global,
-    program: &[Loaded],
-    at: At,
-    room: u32,
-    state: &mut State,
-    all: &[TypedExpr],
-) -> Result<i32, Stop>
-    ensures { Follows (λ v. v) result state.new (spec.every (value_pieces (scope_in program.now at) all.now) (supply_in state.old) (world_in state.old)) }
+fn every(site: Site<'_>, room: u32, state: &mut State, all: &[TypedExpr]) -> Result<i32, Stop>
+    ensures { Follows (λ v. v) result state.new (spec.every (value_pieces (scope_in site.entry.program.now site.entry.at) all.now) (supply_in state.old) (world_in state.old)) }
 {
     if room == 0 {
         return Err(Stop::Unanswered);
@@ -146,11 +127,11 @@ fn every(
     match all {
         [] => Ok(1),
         [first, rest @ ..] => {
-            let holds = value(alloc, program, at, room - 1, state, first)?;
+            let holds = value(site, room - 1, state, first)?;
             if holds == 0 {
                 Ok(0)
             } else {
-                every(alloc, program, at, room - 1, state, rest)
+                every(site, room - 1, state, rest)
             }
         }
     }
@@ -158,15 +139,8 @@ fn every(
 
 /// Whether one of them holds.
 #[cycle(running)]
-fn either(
-    alloc: Global,
-    program: &[Loaded],
-    at: At,
-    room: u32,
-    state: &mut State,
-    all: &[TypedExpr],
-) -> Result<i32, Stop>
-    ensures { Follows (λ v. v) result state.new (spec.either (value_pieces (scope_in program.now at) all.now) (supply_in state.old) (world_in state.old)) }
+fn either(site: Site<'_>, room: u32, state: &mut State, all: &[TypedExpr]) -> Result<i32, Stop>
+    ensures { Follows (λ v. v) result state.new (spec.either (value_pieces (scope_in site.entry.program.now site.entry.at) all.now) (supply_in state.old) (world_in state.old)) }
 {
     if room == 0 {
         return Err(Stop::Unanswered);
@@ -174,9 +148,9 @@ fn either(
     match all {
         [] => Ok(0),
         [first, rest @ ..] => {
-            let holds = value(alloc, program, at, room - 1, state, first)?;
+            let holds = value(site, room - 1, state, first)?;
             if holds == 0 {
-                either(alloc, program, at, room - 1, state, rest)
+                either(site, room - 1, state, rest)
             } else {
                 Ok(1)
             }
@@ -215,29 +189,27 @@ fn part(whole: Vec<usize>, number: usize) -> Result<Vec<usize>, NoAnswer>
 #[cycle(running)]
 #[tactic(auto, using(crate::proofs::Trees::element_is, crate::proofs::Trees::field_is))]
 pub(crate) fn place(
-    alloc: Global,
-    program: &[Loaded],
-    at: At,
+    site: Site<'_>,
     room: u32,
     state: &mut State,
     d: &Designator,
 ) -> Result<Vec<usize>, Stop>
-    ensures { Follows (λ path. place_of path.items) result state.new (spec.place_of (scope_in program.now at) d.now (supply_in state.old) (world_in state.old)) }
+    ensures { Follows (λ path. place_of path.items) result state.new (spec.place_of (scope_in site.entry.program.now site.entry.at) d.now (supply_in state.old) (world_in state.old)) }
 {
     if room == 0 {
         return Err(Stop::Unanswered);
     }
     match d {
         Designator::Whole(variable) => {
-            Ok(variable_path(alloc, program, at, &state.store, *variable)?)
+            Ok(variable_path(site.alloc, site.program, site.at, &state.store, *variable)?)
         }
         Designator::Element(array, line, index) => {
-            let array = place(alloc, program, at, room - 1, state, array.get())?;
-            let index = value(alloc, program, at, room - 1, state, index.get())?;
-            element(at, state, array, index, *line)
+            let array = place(site, room - 1, state, array.get())?;
+            let index = value(site, room - 1, state, index.get())?;
+            element(site.at, state, array, index, *line)
         }
         Designator::Field(record, number) => {
-            let whole = place(alloc, program, at, room - 1, state, record.get())?;
+            let whole = place(site, room - 1, state, record.get())?;
             Ok(part(whole, *number)?)
         }
     }

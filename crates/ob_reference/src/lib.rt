@@ -6,6 +6,7 @@ mod call;
 mod expression;
 mod reference;
 mod repetition;
+mod site;
 mod statement;
 
 pub use reference::{Command, Ran, Reference};

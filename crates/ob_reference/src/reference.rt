@@ -10,6 +10,7 @@ ghost use Rattle.ob_reference.specs.Answers.{Says, command_in};
 ghost use Rattle.ob_reference_store.specs.States.{Follows, line_in, supply_in, world_in};
 
 use crate::call::call;
+use crate::site::Site;
 use crate::statement::statements;
 use ob_inout::LineBuffer;
 use ob_mean::{Callee, Loaded, Outcome, TypedStatement};
@@ -139,7 +140,8 @@ fn run_command(
         depth: MAX_DEPTH,
     };
     let callee = Callee::OfModule(command.procedure);
-    call(alloc, program, at, ROOM, state, callee, Value::Nothing, 0)
+    let site = Site { alloc, program, at };
+    call(site, ROOM, state, callee, Value::Nothing, 0)
 }
 
 /// Commands, one after the other.
@@ -186,9 +188,14 @@ impl Reference {
             frame,
             depth: MAX_DEPTH,
         };
+        let site = Site {
+            alloc: self.alloc,
+            program: &self.program,
+            at,
+        };
         match body_of(&self.program, home) {
             Some(body) => {
-                let gone = statements(self.alloc, &self.program, at, ROOM, &mut state, body);
+                let gone = statements(site, ROOM, &mut state, body);
                 answer(state, gone)
             }
             None => answer(state, Ok(())),

@@ -17,13 +17,13 @@ ghost use Rattle.ob_reference_store.specs.States.{Follows, scope_in, supply_in, 
 
 use crate::action::adjusted;
 use crate::expression::value;
+use crate::site::Site;
 use crate::statement::{first_branch, statements};
-use ob_mean::{Adjustment, Branch, ForHead, Loaded, Outcome, TurnKind, TypedExpr, TypedStatement};
-use ob_reference_store::state::{At, State, take_turn};
+use ob_mean::{Adjustment, Branch, ForHead, Outcome, TurnKind, TypedExpr, TypedStatement};
+use ob_reference_store::state::{State, take_turn};
 use ob_reference_store::stop::Stop;
 use ob_reference_store::variable::{number_at, store_at, variable_path};
 use ob_reference_store::zero::cell;
-use std::alloc::Global;
 
 /// A loop has entered its body as often as turns were left when it began.
 fn stopped(state: &mut State) -> Stop
@@ -37,25 +37,23 @@ fn stopped(state: &mut State) -> Stop
 /// WHILE.
 #[cycle(running)]
 pub(crate) fn while_loop(
-    alloc: Global,
-    program: &[Loaded],
-    at: At,
+    site: Site<'_>,
     room: u32,
     state: &mut State,
     branches: &[Branch],
 ) -> Result<(), Stop>
-    ensures { Follows (λ _. runs.done) result state.new (looping (branch_pieces (scope_in program.now at) branches.now) (supply_in state.old).turns (supply_in state.old) (world_in state.old)) }
+    ensures { Follows (λ _. runs.done) result state.new (looping (branch_pieces (scope_in site.entry.program.now site.entry.at) branches.now) (supply_in state.old).turns (supply_in state.old) (world_in state.old)) }
 {
     if room == 0 {
         return Err(Stop::Unanswered);
     }
     let most = state.turns;
     for _ in 0..most {
-        if !while_round(alloc, program, at, room - 1, state, branches)? {
+        if !while_round(site, room - 1, state, branches)? {
             return Ok(());
         }
     }
-    match first_branch(alloc, program, at, room - 1, state, branches)? {
+    match first_branch(site, room - 1, state, branches)? {
         None => Ok(()),
         Some(_) => Err(stopped(state)),
     }
@@ -64,23 +62,21 @@ pub(crate) fn while_loop(
 /// A round of WHILE: whether a guard holds.
 #[cycle(running)]
 fn while_round(
-    alloc: Global,
-    program: &[Loaded],
-    at: At,
+    site: Site<'_>,
     room: u32,
     state: &mut State,
     branches: &[Branch],
 ) -> Result<bool, Stop>
-    ensures { Round (looping (branch_pieces (scope_in program.now at) branches.now)) (supply_in state.old) (world_in state.old) result state.new }
+    ensures { Round (looping (branch_pieces (scope_in site.entry.program.now site.entry.at) branches.now)) (supply_in state.old) (world_in state.old) result state.new }
 {
     if room == 0 {
         return Err(Stop::Unanswered);
     }
-    match first_branch(alloc, program, at, room - 1, state, branches)? {
+    match first_branch(site, room - 1, state, branches)? {
         None => Ok(false),
         Some(body) => {
             take_turn(state, TurnKind::BodyEntry)?;
-            statements(alloc, program, at, room - 1, state, body)?;
+            statements(site, room - 1, state, body)?;
             Ok(true)
         }
     }
@@ -89,22 +85,20 @@ fn while_round(
 /// REPEAT.
 #[cycle(running)]
 pub(crate) fn repeat_loop(
-    alloc: Global,
-    program: &[Loaded],
-    at: At,
+    site: Site<'_>,
     room: u32,
     state: &mut State,
     body: &[TypedStatement],
     until: &TypedExpr,
 ) -> Result<(), Stop>
-    ensures { Follows (λ _. runs.done) result state.new (repeating (spec.list_meaning (scope_in program.now at) body.now) (value_of (scope_in program.now at) until.now) (supply_in state.old).turns (supply_in state.old) (world_in state.old)) }
+    ensures { Follows (λ _. runs.done) result state.new (repeating (spec.list_meaning (scope_in site.entry.program.now site.entry.at) body.now) (value_of (scope_in site.entry.program.now site.entry.at) until.now) (supply_in state.old).turns (supply_in state.old) (world_in state.old)) }
 {
     if room == 0 {
         return Err(Stop::Unanswered);
     }
     let most = state.turns;
     for _ in 0..most {
-        if !repeat_round(alloc, program, at, room - 1, state, body, until)? {
+        if !repeat_round(site, room - 1, state, body, until)? {
             return Ok(());
         }
     }
@@ -114,22 +108,20 @@ pub(crate) fn repeat_loop(
 /// A round of REPEAT: whether there is another.
 #[cycle(running)]
 fn repeat_round(
-    alloc: Global,
-    program: &[Loaded],
-    at: At,
+    site: Site<'_>,
     room: u32,
     state: &mut State,
     body: &[TypedStatement],
     until: &TypedExpr,
 ) -> Result<bool, Stop>
-    ensures { Round (repeating (spec.list_meaning (scope_in program.now at) body.now) (value_of (scope_in program.now at) until.now)) (supply_in state.old) (world_in state.old) result state.new }
+    ensures { Round (repeating (spec.list_meaning (scope_in site.entry.program.now site.entry.at) body.now) (value_of (scope_in site.entry.program.now site.entry.at) until.now)) (supply_in state.old) (world_in state.old) result state.new }
 {
     if room == 0 {
         return Err(Stop::Unanswered);
     }
     take_turn(state, TurnKind::BodyEntry)?;
-    statements(alloc, program, at, room - 1, state, body)?;
-    let holds = value(alloc, program, at, room - 1, state, until)?;
+    statements(site, room - 1, state, body)?;
+    let holds = value(site, room - 1, state, until)?;
     Ok(holds == 0)
 }
 
@@ -156,49 +148,51 @@ fn step_on(state: &mut State, path: &[usize], step: i32)
 /// FOR.
 #[cycle(running)]
 pub(crate) fn for_loop(
-    alloc: Global,
-    program: &[Loaded],
-    at: At,
+    site: Site<'_>,
     room: u32,
     state: &mut State,
     head: &ForHead,
     body: &[TypedStatement],
 ) -> Result<(), Stop>
-    ensures { Follows (λ _. runs.done) result state.new (spec.for_loop (scope_in program.now at) head.now (variable_place (scope_in program.now at) head.now.variable (world_in state.old).store) (spec.list_meaning (scope_in program.now at) body.now) (supply_in state.old) (world_in state.old)) }
+    ensures { Follows (λ _. runs.done) result state.new (spec.for_loop (scope_in site.entry.program.now site.entry.at) head.now (variable_place (scope_in site.entry.program.now site.entry.at) head.now.variable (world_in state.old).store) (spec.list_meaning (scope_in site.entry.program.now site.entry.at) body.now) (supply_in state.old) (world_in state.old)) }
 {
     if room == 0 {
         return Err(Stop::Unanswered);
     }
-    let path = variable_path(alloc, program, at, &state.store, head.variable)?;
-    let first = value(alloc, program, at, room - 1, state, &head.first)?;
+    let path = variable_path(
+        site.alloc,
+        site.program,
+        site.at,
+        &state.store,
+        head.variable,
+    )?;
+    let first = value(site, room - 1, state, &head.first)?;
     store_at(state, &path, cell(first));
-    for_rounds(alloc, program, at, room - 1, state, head, &path, body)
+    for_rounds(site, room - 1, state, head, &path, body)
 }
 
 /// The rounds of FOR, once its variable is set.
 #[cycle(running)]
 fn for_rounds(
-    alloc: Global,
-    program: &[Loaded],
-    at: At,
+    site: Site<'_>,
     room: u32,
     state: &mut State,
     head: &ForHead,
     path: &[usize],
     body: &[TypedStatement],
 ) -> Result<(), Stop>
-    ensures { Follows (λ _. runs.done) result state.new (looping (for_pieces (scope_in program.now at) head.now (place_of path.now) body.now) (supply_in state.old).turns (supply_in state.old) (world_in state.old)) }
+    ensures { Follows (λ _. runs.done) result state.new (looping (for_pieces (scope_in site.entry.program.now site.entry.at) head.now (place_of path.now) body.now) (supply_in state.old).turns (supply_in state.old) (world_in state.old)) }
 {
     if room == 0 {
         return Err(Stop::Unanswered);
     }
     let most = state.turns;
     for _ in 0..most {
-        if !for_round(alloc, program, at, room - 1, state, head, path, body)? {
+        if !for_round(site, room - 1, state, head, path, body)? {
             return Ok(());
         }
     }
-    if for_test(alloc, program, at, room - 1, state, head, path)? {
+    if for_test(site, room - 1, state, head, path)? {
         Err(stopped(state))
     } else {
         Ok(())
@@ -208,25 +202,23 @@ fn for_rounds(
 /// A round of FOR: whether its variable was not past the last value.
 #[cycle(running)]
 fn for_round(
-    alloc: Global,
-    program: &[Loaded],
-    at: At,
+    site: Site<'_>,
     room: u32,
     state: &mut State,
     head: &ForHead,
     path: &[usize],
     body: &[TypedStatement],
 ) -> Result<bool, Stop>
-    ensures { Round (looping (for_pieces (scope_in program.now at) head.now (place_of path.now) body.now)) (supply_in state.old) (world_in state.old) result state.new }
+    ensures { Round (looping (for_pieces (scope_in site.entry.program.now site.entry.at) head.now (place_of path.now) body.now)) (supply_in state.old) (world_in state.old) result state.new }
 {
     if room == 0 {
         return Err(Stop::Unanswered);
     }
-    if !for_test(alloc, program, at, room - 1, state, head, path)? {
+    if !for_test(site, room - 1, state, head, path)? {
         return Ok(false);
     }
     take_turn(state, TurnKind::BodyEntry)?;
-    statements(alloc, program, at, room - 1, state, body)?;
+    statements(site, room - 1, state, body)?;
     step_on(state, path, head.step);
     Ok(true)
 }
@@ -234,20 +226,18 @@ fn for_round(
 /// The test of FOR.
 #[cycle(running)]
 fn for_test(
-    alloc: Global,
-    program: &[Loaded],
-    at: At,
+    site: Site<'_>,
     room: u32,
     state: &mut State,
     head: &ForHead,
     path: &[usize],
 ) -> Result<bool, Stop>
-    ensures { Follows truth result state.new (spec.for_guard (scope_in program.now at) head.now (place_of path.now) (supply_in state.old) (world_in state.old)) }
+    ensures { Follows truth result state.new (spec.for_guard (scope_in site.entry.program.now site.entry.at) head.now (place_of path.now) (supply_in state.old) (world_in state.old)) }
 {
     if room == 0 {
         return Err(Stop::Unanswered);
     }
     let now = number_at(&state.store, path);
-    let last = value(alloc, program, at, room - 1, state, &head.last)?;
+    let last = value(site, room - 1, state, &head.last)?;
     Ok(not_past(head.step, now, last))
 }

@@ -10,10 +10,10 @@ ghost use Rattle.ob_reference_store.specs.States.{Follows, scope_in, supply_in, 
 use crate::action::action;
 use crate::expression::value;
 use crate::repetition::{for_loop, repeat_loop, while_loop};
-use ob_mean::{Branch, CaseArm, LabelRange, Loaded, Outcome, TrapKind, TypedStatement};
-use ob_reference_store::state::{At, State};
+use crate::site::Site;
+use ob_mean::{Branch, CaseArm, LabelRange, Outcome, TrapKind, TypedStatement};
+use ob_reference_store::state::State;
 use ob_reference_store::stop::Stop;
-use std::alloc::Global;
 
 /// Whether a label is among these.
 fn is_labelled(labels: &[LabelRange], label: i32) -> bool
@@ -46,18 +46,16 @@ fn arm_for(arms: &[CaseArm], label: i32) -> Option<&[TypedStatement]>
 /// The statements of the first branch whose guard holds.
 #[cycle(running)]
 pub(crate) fn first_branch<'a>(
-    alloc: Global,
-    program: &[Loaded],
-    at: At,
+    site: Site<'_>,
     room: u32,
     state: &mut State,
     branches: &'a [Branch],
 ) -> Result<Option<&'a [TypedStatement]>, Stop>
     ensures { MatchResult result
         (λ found. MatchOption found
-        (PassesAll (scope_in program.now at) branches.now (supply_in state.old) (world_in state.old) state.new)
-        (λ body. EntersFirst (scope_in program.now at) branches.now (supply_in state.old) (world_in state.old) body.now state.new))
-        (λ e. BranchStops (scope_in program.now at) branches.now (supply_in state.old) (world_in state.old) e state.new) }
+        (PassesAll (scope_in site.entry.program.now site.entry.at) branches.now (supply_in state.old) (world_in state.old) state.new)
+        (λ body. EntersFirst (scope_in site.entry.program.now site.entry.at) branches.now (supply_in state.old) (world_in state.old) body.now state.new))
+        (λ e. BranchStops (scope_in site.entry.program.now site.entry.at) branches.now (supply_in state.old) (world_in state.old) e state.new) }
 {
     if room == 0 {
         return Err(Stop::Unanswered);
@@ -65,9 +63,9 @@ pub(crate) fn first_branch<'a>(
     match branches {
         [] => Ok(None),
         [branch, others @ ..] => {
-            let holds = value(alloc, program, at, room - 1, state, &branch.guard)?;
+            let holds = value(site, room - 1, state, &branch.guard)?;
             if holds == 0 {
-                match first_branch(alloc, program, at, room - 1, state, others)? {
+                match first_branch(site, room - 1, state, others)? {
                     Some(body) => Ok(Some(body)),
                     None => Ok(None),
                 }
@@ -81,20 +79,18 @@ pub(crate) fn first_branch<'a>(
 /// Statements that follow each other.
 #[cycle(running)]
 pub(crate) fn statements(
-    alloc: Global,
-    program: &[Loaded],
-    at: At,
+    site: Site<'_>,
     room: u32,
     state: &mut State,
     all: &[TypedStatement],
 ) -> Result<(), Stop>
-    ensures { Follows (λ _. done) result state.new (spec.list_meaning (scope_in program.now at) all.now (supply_in state.old) (world_in state.old)) }
+    ensures { Follows (λ _. done) result state.new (spec.list_meaning (scope_in site.entry.program.now site.entry.at) all.now (supply_in state.old) (world_in state.old)) }
 {
     if room == 0 {
         return Err(Stop::Unanswered);
     }
     for s in all {
-        statement(alloc, program, at, room - 1, state, s)?;
+        statement(site, room - 1, state, s)?;
     }
     Ok(())
 }
@@ -102,42 +98,35 @@ pub(crate) fn statements(
 /// A statement.
 #[cycle(running)]
 #[tactic(auto, using(crate::proofs::Sequences::if_is, crate::proofs::Sequences::case_is, crate::proofs::Sequences::while_is, crate::proofs::Sequences::repeat_is, crate::proofs::Sequences::for_is))]
-fn statement(
-    alloc: Global,
-    program: &[Loaded],
-    at: At,
-    room: u32,
-    state: &mut State,
-    s: &TypedStatement,
-) -> Result<(), Stop>
-    ensures { Follows (λ _. done) result state.new (spec.stat_meaning (scope_in program.now at) s.now (supply_in state.old) (world_in state.old)) }
+fn statement(site: Site<'_>, room: u32, state: &mut State, s: &TypedStatement) -> Result<(), Stop>
+    ensures { Follows (λ _. done) result state.new (spec.stat_meaning (scope_in site.entry.program.now site.entry.at) s.now (supply_in state.old) (world_in state.old)) }
 {
     if room == 0 {
         return Err(Stop::Unanswered);
     }
     match s {
-        TypedStatement::Simple(one) => action(alloc, program, at, room - 1, state, one),
+        TypedStatement::Simple(one) => action(site, room - 1, state, one),
         TypedStatement::If(branches, rest) => {
-            match first_branch(alloc, program, at, room - 1, state, branches.as_slice())? {
-                Some(body) => statements(alloc, program, at, room - 1, state, body),
-                None => statements(alloc, program, at, room - 1, state, rest.as_slice()),
+            match first_branch(site, room - 1, state, branches.as_slice())? {
+                Some(body) => statements(site, room - 1, state, body),
+                None => statements(site, room - 1, state, rest.as_slice()),
             }
         }
         TypedStatement::Case(line, e, arms) => {
-            let label = value(alloc, program, at, room - 1, state, e)?;
+            let label = value(site, room - 1, state, e)?;
             match arm_for(arms.as_slice(), label) {
-                Some(body) => statements(alloc, program, at, room - 1, state, body),
-                None => Err(Stop::Stands(Outcome::Trapped(TrapKind::Label, at.home, *line))),
+                Some(body) => statements(site, room - 1, state, body),
+                None => Err(Stop::Stands(Outcome::Trapped(TrapKind::Label, site.at.home, *line))),
             }
         }
         TypedStatement::While(branches) => {
-            while_loop(alloc, program, at, room - 1, state, branches.as_slice())
+            while_loop(site, room - 1, state, branches.as_slice())
         }
         TypedStatement::Repeat(body, until) => {
-            repeat_loop(alloc, program, at, room - 1, state, body.as_slice(), until)
+            repeat_loop(site, room - 1, state, body.as_slice(), until)
         }
         TypedStatement::For(head, body) => {
-            for_loop(alloc, program, at, room - 1, state, head, body.as_slice())
+            for_loop(site, room - 1, state, head, body.as_slice())
         }
     }
 }

@@ -18,6 +18,9 @@ use ob_tree::tree::{Ident, Label, LabelRange, Qualident};
 use ob_types::{Basic, Constant, Object};
 use std::alloc::Global;
 
+/// All labels of a CASE so far, and those of one arm among them.
+pub type Labelling = (Labels, Items<TypedRange>);
+
 /// The constant that a name alone stands for.
 #[tactic(auto, unfolding(crate::specs::Labels::own_constant))]
 fn own_constant(
@@ -250,16 +253,10 @@ fn range(
 }
 
 #[tactic(auto, unfolding(crate::specs::Labels::with_range))]
-fn with_range(
-    all: Labels,
-    arm: Items<TypedRange>,
-    range: TypedRange,
-    span: Span,
-) -> Result<(Labels, Items<TypedRange>), Rejected>
-    ensures { Judges (spec.with_range (all, arm) range) result }
+fn with_range(before: Labelling, range: TypedRange, span: Span) -> Result<Labelling, Rejected>
+    ensures { Judges (spec.with_range before range) result }
 {
-    let mut all = all;
-    let mut arm = arm;
+    let (mut all, mut arm) = before;
     if range.first > range.last {
         return Err(Rejected::Rule(broken(RuleCode::Label, span)));
     }
@@ -278,14 +275,13 @@ fn next_range(
     imports: &Imports,
     scope: &Scope,
     character: bool,
-    all: Labels,
-    arm: Items<TypedRange>,
+    before: Labelling,
     r: &LabelRange,
-) -> Result<(Labels, Items<TypedRange>), Rejected>
-    ensures { Judges (spec.next_range imports.now scope.now character (all, arm) r.now) result }
+) -> Result<Labelling, Rejected>
+    ensures { Judges (spec.next_range imports.now scope.now character before r.now) result }
 {
     let range = range(alloc, imports, scope, character, r)?;
-    with_range(all, arm, range, label_span(&r.first))
+    with_range(before, range, label_span(&r.first))
 }
 
 /// The labels of one arm, after those of the CASE so far.
@@ -296,15 +292,12 @@ pub fn labels(
     character: bool,
     all: Labels,
     list: &[LabelRange],
-) -> Result<(Labels, Items<TypedRange>), Rejected>
+) -> Result<Labelling, Rejected>
     ensures { Judges (through (spec.next_range imports.now scope.now character) (all, []) list.now) result }
 {
-    let mut so_far = all;
-    let mut arm = Items::new(alloc);
+    let mut so_far = (all, Items::new(alloc));
     for r in list {
-        let (more, longer) = next_range(alloc, imports, scope, character, so_far, arm, r)?;
-        so_far = more;
-        arm = longer;
+        so_far = next_range(alloc, imports, scope, character, so_far, r)?;
     }
-    Ok((so_far, arm))
+    Ok(so_far)
 }

@@ -9,13 +9,11 @@ ghost use Rattle.ob_statement.specs.Statements as spec;
 use crate::assignment::assignment;
 use crate::call::call;
 use crate::for_head::for_head;
-use crate::label::{is_character, labels};
+use crate::label::{Labelling, is_character, labels};
 use crate::labels::Labels;
 use ob_base::Items;
 use ob_express::{basic_value, guard};
-use ob_mean::{
-    Branch as TypedBranch, CaseArm, LabelRange as TypedRange, TypedExpr, TypedStatement,
-};
+use ob_mean::{Branch as TypedBranch, CaseArm, TypedExpr, TypedStatement};
 use ob_scan::Span;
 use ob_scope::Site;
 use ob_scope::rejected::{Rejected, broken, open};
@@ -23,6 +21,9 @@ use ob_scope::rule::RuleCode;
 use ob_strings::Variables;
 use ob_tree::tree::{Branch, Case, Expr, ForHead, LabelRange, Statement};
 use ob_types::Basic;
+
+/// All labels of a CASE so far, its arms, and the variables of the module.
+type Arms = (Labels, Items<CaseArm>, Variables);
 
 /// Statements that need not be there.
 #[cycle(statement)]
@@ -135,15 +136,15 @@ fn while_statement(
 #[tactic(auto, unfolding(crate::specs::Statements::arm_of))]
 fn arm_of(
     site: Site<'_>,
-    all: Labels,
-    labels: Items<TypedRange>,
+    labelling: Labelling,
     arms: Items<CaseArm>,
     variables: Variables,
     body: &[Statement],
     span: Span,
-) -> Result<(Labels, Items<CaseArm>, Variables), Rejected>
-    ensures { Judges (spec.arm_of site.entry.imports.now site.entry.scope.now site.entry.levels (spec.statements_at site.entry.imports.now site.entry.scope.now site.entry.levels) (all, labels) arms variables body.now) result }
+) -> Result<Arms, Rejected>
+    ensures { Judges (spec.arm_of site.entry.imports.now site.entry.scope.now site.entry.levels (spec.statements_at site.entry.imports.now site.entry.scope.now site.entry.levels) labelling arms variables body.now) result }
 {
+    let (all, labels) = labelling;
     let mut arms = arms;
     let (body, variables) = statements(site, variables, body, span)?;
     arms.push(CaseArm { labels, body })?;
@@ -156,20 +157,19 @@ fn arm_of(
 fn case_of(
     site: Site<'_>,
     character: bool,
-    all: Labels,
-    arms: Items<CaseArm>,
-    variables: Variables,
+    before: Arms,
     list: &[LabelRange],
     body: &[Statement],
     span: Span,
-) -> Result<(Labels, Items<CaseArm>, Variables), Rejected>
-    ensures { Judges (spec.case_of site.entry.imports.now site.entry.scope.now site.entry.levels (spec.statements_at site.entry.imports.now site.entry.scope.now site.entry.levels) character (all, arms, variables) list.now body.now) result }
+) -> Result<Arms, Rejected>
+    ensures { Judges (spec.case_of site.entry.imports.now site.entry.scope.now site.entry.levels (spec.statements_at site.entry.imports.now site.entry.scope.now site.entry.levels) character before list.now body.now) result }
 {
     match list {
-        [] => Ok((all, arms, variables)),
+        [] => Ok(before),
         [_, ..] => {
-            let (all, own) = labels(site.alloc, site.imports, site.scope, character, all, list)?;
-            arm_of(site, all, own, arms, variables, body, span)
+            let (all, arms, variables) = before;
+            let labelling = labels(site.alloc, site.imports, site.scope, character, all, list)?;
+            arm_of(site, labelling, arms, variables, body, span)
         }
     }
 }
@@ -179,20 +179,16 @@ fn case_of(
 fn next_case(
     site: Site<'_>,
     character: bool,
-    all: Labels,
-    arms: Items<CaseArm>,
-    variables: Variables,
+    before: Arms,
     x: &Case,
     span: Span,
-) -> Result<(Labels, Items<CaseArm>, Variables), Rejected>
-    ensures { Judges (spec.next_case site.entry.imports.now site.entry.scope.now site.entry.levels (spec.statements_at site.entry.imports.now site.entry.scope.now site.entry.levels) character (all, arms, variables) x.now) result }
+) -> Result<Arms, Rejected>
+    ensures { Judges (spec.next_case site.entry.imports.now site.entry.scope.now site.entry.levels (spec.statements_at site.entry.imports.now site.entry.scope.now site.entry.levels) character before x.now) result }
 {
     case_of(
         site,
         character,
-        all,
-        arms,
-        variables,
+        before,
         x.labels.as_slice(),
         x.body.as_slice(),
         span,
@@ -206,19 +202,14 @@ fn all_cases(
     variables: Variables,
     cases: &[Case],
     span: Span,
-) -> Result<(Labels, Items<CaseArm>, Variables), Rejected>
+) -> Result<Arms, Rejected>
     ensures { Judges (through (spec.next_case site.entry.imports.now site.entry.scope.now site.entry.levels (spec.statements_at site.entry.imports.now site.entry.scope.now site.entry.levels) character) ([], [], variables) cases.now) result }
 {
-    let mut all = Labels::new(site.alloc);
-    let mut arms = Items::new(site.alloc);
-    let mut so_far = variables;
+    let mut so_far = (Labels::new(site.alloc), Items::new(site.alloc), variables);
     for x in cases {
-        let (longer, more, variables) = next_case(site, character, all, arms, so_far, x, span)?;
-        all = longer;
-        arms = more;
-        so_far = variables;
+        so_far = next_case(site, character, so_far, x, span)?;
     }
-    Ok((all, arms, so_far))
+    Ok(so_far)
 }
 
 /// The arms of a CASE over this value.

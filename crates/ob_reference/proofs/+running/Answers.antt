@@ -17,7 +17,7 @@ use Rattle.ob_reference.proofs.+running.Goals as goal
 
 pub expression::place-returns-in_err-index-in-Element : goal.expression::place-returns-in_err-index-in-Element
 expression::place-returns-in_err-index-in-Element t c =
-    let scope = scope_in c.args.program.now c.args.at in
+    let scope = scope_in c.args.site.program.now c.args.site.at in
     let n = supply_in c.args.state.now in
     let w = world_in c.args.state.now in
     let same : Err c.in_err-index-in-Element.field-0.0 ≡ c.from_residual-in_err-index-in-Element.result = search rules in
@@ -33,7 +33,7 @@ expression::place-returns-in_err-index-in-Element t c =
 
 pub expression::place-returns-in_ok-index-in-Element : goal.expression::place-returns-in_ok-index-in-Element
 expression::place-returns-in_ok-index-in-Element t c =
-    let scope = scope_in c.args.program.now c.args.at in
+    let scope = scope_in c.args.site.program.now c.args.site.at in
     let n = supply_in c.args.state.now in
     let w = world_in c.args.state.now in
     let fits : SFits w32 c.in_ok-index-in-Element.index = search rules in
@@ -43,11 +43,11 @@ expression::place-returns-in_ok-index-in-Element t c =
     ∙ ap (λ r. and_then r (λ p n1 w1. and_then (value_of scope c.in-Element.index n1 w1) (λ i n2 w2. element scope (index_in i (count (get w2.store p))) p c.in-Element.line n2 w2))) c.in_ok-array-in-Element.ensures
     ∙ ap (λ e. and_then (value_of scope e (supply_in c.place.new.state) (world_in c.place.new.state)) (λ i n2 w2. element scope (index_in i (count (get w2.store (path_place c.in_ok-array-in-Element.array.items)))) (path_place c.in_ok-array-in-Element.array.items) c.in-Element.line n2 w2)) (sym c.get-in-Element.ensures)
     ∙ ap (λ r. and_then r (λ i n2 w2. element scope (index_in i (count (get w2.store (path_place c.in_ok-array-in-Element.array.items)))) (path_place c.in_ok-array-in-Element.array.items) c.in-Element.line n2 w2)) c.in_ok-index-in-Element.ensures)
-    (simp to_z-of_z at (c.element.ensures c.args.program.now))
+    (simp to_z-of_z at (c.element.ensures c.args.site.program.now))
 
 pub expression::value-returns-in_ok-x-in-Unary : goal.expression::value-returns-in_ok-x-in-Unary
 expression::value-returns-in_ok-x-in-Unary t c =
-    let scope = scope_in c.args.program.now c.args.at in
+    let scope = scope_in c.args.site.program.now c.args.site.at in
     let n = supply_in c.args.state.now in
     let w = world_in c.args.state.now in
     let fits : SFits w32 c.in_ok-x-in-Unary.x = search rules in
@@ -59,7 +59,7 @@ expression::value-returns-in_ok-x-in-Unary t c =
 
 pub expression::value-returns-in_ok-x-in-Chain : goal.expression::value-returns-in_ok-x-in-Chain
 expression::value-returns-in_ok-x-in-Chain t c =
-    let scope = scope_in c.args.program.now c.args.at in
+    let scope = scope_in c.args.site.program.now c.args.site.at in
     let n = supply_in c.args.state.now in
     let w = world_in c.args.state.now in
     let fits : SFits w32 c.in_ok-x-in-Chain.x = search rules in
@@ -72,7 +72,7 @@ expression::value-returns-in_ok-x-in-Chain t c =
 
 pub expression::value-returns-in_err-x-in-Unary : goal.expression::value-returns-in_err-x-in-Unary
 expression::value-returns-in_err-x-in-Unary t c =
-    let scope = scope_in c.args.program.now c.args.at in
+    let scope = scope_in c.args.site.program.now c.args.site.at in
     let n = supply_in c.args.state.now in
     let w = world_in c.args.state.now in
     let same : Err c.in_err-x-in-Unary.field-0.0 ≡ c.from_residual-in_err-x-in-Unary.result = search rules in
@@ -86,7 +86,7 @@ expression::value-returns-in_err-x-in-Unary t c =
 
 pub statement::statement-returns-in-None : goal.statement::statement-returns-in-None
 statement::statement-returns-in-None t c =
-    let scope = scope_in c.args.program.now c.args.at in
+    let scope = scope_in c.args.site.program.now c.args.site.at in
     let n = supply_in c.args.state.now in
     let w = world_in c.args.state.now in
     let passes : PassesAll scope c.as_slice.result.now n w c.first_branch.new.state = none_of _ _ _ c.in-None.is c.in_ok-body-in-If.ensures in
@@ -99,7 +99,7 @@ statement::statement-returns-in-None t c =
 
 pub statement::statement-returns-in-Some-arm_for : goal.statement::statement-returns-in-Some-arm_for
 statement::statement-returns-in-Some-arm_for t c =
-    let scope = scope_in c.args.program.now c.args.at in
+    let scope = scope_in c.args.site.program.now c.args.site.at in
     let n = supply_in c.args.state.now in
     let w = world_in c.args.state.now in
     let label = c.in_ok-label-in-Case.label in
@@ -115,7 +115,7 @@ statement::statement-returns-in-Some-arm_for t c =
 
 pub statement::statement-returns-in-None-arm_for : goal.statement::statement-returns-in-None-arm_for
 statement::statement-returns-in-None-arm_for t c =
-    let scope = scope_in c.args.program.now c.args.at in
+    let scope = scope_in c.args.site.program.now c.args.site.at in
     let n = supply_in c.args.state.now in
     let w = world_in c.args.state.now in
     let fits : SFits w32 c.in_ok-label-in-Case.label = search rules in
@@ -128,7 +128,7 @@ statement::statement-returns-in-None-arm_for t c =
 
 pub action::action-returns-in_ok-path-in-AssignText : goal.action::action-returns-in_ok-path-in-AssignText
 action::action-returns-in_ok-path-in-AssignText t c =
-    let scope = scope_in c.args.program.now c.args.at in
+    let scope = scope_in c.args.site.program.now c.args.site.at in
     let n = supply_in c.args.state.now in
     let w = world_in c.args.state.now in
     carry _ c.store_text.result c.store_text.new.state _ _
@@ -136,48 +136,48 @@ action::action-returns-in_ok-path-in-AssignText t c =
     ∙ ap (λ r. and_then r (λ p n1 w1. text_stored scope p c.in-AssignText.line c.in-AssignText.text n1 w1)) c.in_ok-path-in-AssignText.ensures
     ∙ ap (λ l. text_stored scope (path_place c.in_ok-path-in-AssignText.path.items) c.in-AssignText.line l (supply_in c.place-in-AssignText.new.state) (world_in c.place-in-AssignText.new.state)) (sym c.as_slice.ensures)
     ∙ ap (λ q. text_stored scope (path_place q) c.in-AssignText.line c.as_slice.result.now (supply_in c.place-in-AssignText.new.state) (world_in c.place-in-AssignText.new.state)) (sym c.deref-in-AssignText.ensures.value))
-    (c.store_text.ensures c.args.program.now)
+    (c.store_text.ensures c.args.site.program.now)
 
 pub repetition::for_rounds-returns-in_err-for_round : goal.repetition::for_rounds-returns-in_err-for_round
 repetition::for_rounds-returns-in_err-for_round t c =
-    let loop = looping (for_pieces (scope_in c.args.program.now c.args.at) c.args.head.now (path_place c.args.path.now) c.args.body.now) in
+    let loop = looping (for_pieces (scope_in c.args.site.program.now c.args.site.at) c.args.head.now (path_place c.args.path.now) c.args.body.now) in
     let same : Err c.in_err-for_round.field-0.0 ≡ c.from_residual.result = search rules in
     fails loop (λ (_ : Unit {0}). done) _ c.args.state.now.turns c.loop.counter c.loop.state c.for_round.new.state c.in_err-for_round.field-0.0 c.from_residual.result c.loop-test.true c.loop.invariant c.in_err-for_round.ensures same
 
 pub repetition::for_rounds-returns-then-not-branch : goal.repetition::for_rounds-returns-then-not-branch
 repetition::for_rounds-returns-then-not-branch t c =
-    let loop = looping (for_pieces (scope_in c.args.program.now c.args.at) c.args.head.now (path_place c.args.path.now) c.args.body.now) in
+    let loop = looping (for_pieces (scope_in c.args.site.program.now c.args.site.at) c.args.head.now (path_place c.args.path.now) c.args.body.now) in
     over loop (loop c.args.state.now.turns (supply_in c.args.state.now) (world_in c.args.state.now)) c.args.state.now.turns c.loop.counter c.loop.state c.for_round.new.state (Ok c.in_ok-for_round.field-0) c.loop-test.true c.loop.invariant (ap Ok c.if-not-branch.true) c.in_ok-for_round.ensures
 
 pub repetition::for_rounds-loop-preserved : goal.repetition::for_rounds-loop-preserved
 repetition::for_rounds-loop-preserved t c =
-    let loop = looping (for_pieces (scope_in c.args.program.now c.args.at) c.args.head.now (path_place c.args.path.now) c.args.body.now) in
+    let loop = looping (for_pieces (scope_in c.args.site.program.now c.args.site.at) c.args.head.now (path_place c.args.path.now) c.args.body.now) in
     again loop (loop c.args.state.now.turns (supply_in c.args.state.now) (world_in c.args.state.now)) c.args.state.now.turns c.loop.counter c.loop.state c.for_round.new.state (Ok c.in_ok-for_round.field-0) c.loop-test.true c.loop.invariant (ap Ok c.if-not-branch.false) c.in_ok-for_round.ensures
 
 pub repetition::repeat_loop-returns-in_err-repeat_round : goal.repetition::repeat_loop-returns-in_err-repeat_round
 repetition::repeat_loop-returns-in_err-repeat_round t c =
-    let loop = repeating (list_meaning (scope_in c.args.program.now c.args.at) c.args.body.now) (value_of (scope_in c.args.program.now c.args.at) c.args.until.now) in
+    let loop = repeating (list_meaning (scope_in c.args.site.program.now c.args.site.at) c.args.body.now) (value_of (scope_in c.args.site.program.now c.args.site.at) c.args.until.now) in
     let same : Err c.in_err-repeat_round.field-0.0 ≡ c.from_residual.result = search rules in
     fails loop (λ (_ : Unit {0}). done) _ c.args.state.now.turns c.loop.counter c.loop.state c.repeat_round.new.state c.in_err-repeat_round.field-0.0 c.from_residual.result c.loop-test.true c.loop.invariant c.in_err-repeat_round.ensures same
 
 pub repetition::repeat_loop-returns-then-not-branch : goal.repetition::repeat_loop-returns-then-not-branch
 repetition::repeat_loop-returns-then-not-branch t c =
-    let loop = repeating (list_meaning (scope_in c.args.program.now c.args.at) c.args.body.now) (value_of (scope_in c.args.program.now c.args.at) c.args.until.now) in
+    let loop = repeating (list_meaning (scope_in c.args.site.program.now c.args.site.at) c.args.body.now) (value_of (scope_in c.args.site.program.now c.args.site.at) c.args.until.now) in
     over loop (loop c.args.state.now.turns (supply_in c.args.state.now) (world_in c.args.state.now)) c.args.state.now.turns c.loop.counter c.loop.state c.repeat_round.new.state (Ok c.in_ok-repeat_round.field-0) c.loop-test.true c.loop.invariant (ap Ok c.if-not-branch.true) c.in_ok-repeat_round.ensures
 
 pub repetition::repeat_loop-loop-preserved : goal.repetition::repeat_loop-loop-preserved
 repetition::repeat_loop-loop-preserved t c =
-    let loop = repeating (list_meaning (scope_in c.args.program.now c.args.at) c.args.body.now) (value_of (scope_in c.args.program.now c.args.at) c.args.until.now) in
+    let loop = repeating (list_meaning (scope_in c.args.site.program.now c.args.site.at) c.args.body.now) (value_of (scope_in c.args.site.program.now c.args.site.at) c.args.until.now) in
     again loop (loop c.args.state.now.turns (supply_in c.args.state.now) (world_in c.args.state.now)) c.args.state.now.turns c.loop.counter c.loop.state c.repeat_round.new.state (Ok c.in_ok-repeat_round.field-0) c.loop-test.true c.loop.invariant (ap Ok c.if-not-branch.false) c.in_ok-repeat_round.ensures
 
 pub repetition::while_loop-loop-preserved : goal.repetition::while_loop-loop-preserved
 repetition::while_loop-loop-preserved t c =
-    let loop = looping (branch_pieces (scope_in c.args.program.now c.args.at) c.args.branches.now) in
+    let loop = looping (branch_pieces (scope_in c.args.site.program.now c.args.site.at) c.args.branches.now) in
     again loop (loop c.args.state.now.turns (supply_in c.args.state.now) (world_in c.args.state.now)) c.args.state.now.turns c.loop.counter c.loop.state c.while_round.new.state (Ok c.in_ok-while_round.field-0) c.loop-test.true c.loop.invariant (ap Ok c.if-not-branch.false) c.in_ok-while_round.ensures
 
 pub statement::statement-returns-in-For : goal.statement::statement-returns-in-For
 statement::statement-returns-in-For t c =
-    let scope = scope_in c.args.program.now c.args.at in
+    let scope = scope_in c.args.site.program.now c.args.site.at in
     let n = supply_in c.args.state.now in
     let w = world_in c.args.state.now in
     carry _ c.for_loop.result c.for_loop.new.state _ _
@@ -187,7 +187,7 @@ statement::statement-returns-in-For t c =
 
 pub expression::value-returns-in-Function : goal.expression::value-returns-in-Function
 expression::value-returns-in-Function t c =
-    let scope = scope_in c.args.program.now c.args.at in
+    let scope = scope_in c.args.site.program.now c.args.site.at in
     let n = supply_in c.args.state.now in
     let w = world_in c.args.state.now in
     carry _ c.function.result c.function.new.state _ _

@@ -9,23 +9,23 @@ use Rattle.ob_reference.proofs.+running.Given as goal
 
 abbrev pub invariant-statement::statements-loop-s : goal.invariant-statement::statements-loop-s
 invariant-statement::statements-loop-s l =
-    list_meaning (scope_in l.program l.at) l.all (supply_in l.fn.state) (world_in l.fn.state)
-    ≡ list_meaning (scope_in l.program l.at) (drop l.s-index l.all) (supply_in l.state) (world_in l.state)
+    list_meaning (scope_in l.site.program.now l.site.at) l.all (supply_in l.fn.state) (world_in l.fn.state)
+    ≡ list_meaning (scope_in l.site.program.now l.site.at) (drop l.s-index l.all) (supply_in l.state) (world_in l.state)
 
 abbrev pub invariant-repetition::while_loop-loop : goal.invariant-repetition::while_loop-loop
 invariant-repetition::while_loop-loop l =
-    looping (branch_pieces (scope_in l.program l.at) l.branches) l.fn.state.turns (supply_in l.fn.state) (world_in l.fn.state)
-    ≡ looping (branch_pieces (scope_in l.program l.at) l.branches) (l.most - l.counter) (supply_in l.state) (world_in l.state)
+    looping (branch_pieces (scope_in l.site.program.now l.site.at) l.branches) l.fn.state.turns (supply_in l.fn.state) (world_in l.fn.state)
+    ≡ looping (branch_pieces (scope_in l.site.program.now l.site.at) l.branches) (l.most - l.counter) (supply_in l.state) (world_in l.state)
 
 abbrev pub invariant-repetition::repeat_loop-loop : goal.invariant-repetition::repeat_loop-loop
 invariant-repetition::repeat_loop-loop l =
-    repeating (list_meaning (scope_in l.program l.at) l.body) (value_of (scope_in l.program l.at) l.until) l.fn.state.turns (supply_in l.fn.state) (world_in l.fn.state)
-    ≡ repeating (list_meaning (scope_in l.program l.at) l.body) (value_of (scope_in l.program l.at) l.until) (l.most - l.counter) (supply_in l.state) (world_in l.state)
+    repeating (list_meaning (scope_in l.site.program.now l.site.at) l.body) (value_of (scope_in l.site.program.now l.site.at) l.until) l.fn.state.turns (supply_in l.fn.state) (world_in l.fn.state)
+    ≡ repeating (list_meaning (scope_in l.site.program.now l.site.at) l.body) (value_of (scope_in l.site.program.now l.site.at) l.until) (l.most - l.counter) (supply_in l.state) (world_in l.state)
 
 abbrev pub invariant-repetition::for_rounds-loop : goal.invariant-repetition::for_rounds-loop
 invariant-repetition::for_rounds-loop l =
-    looping (for_pieces (scope_in l.program l.at) l.head (place_of l.path) l.body) l.fn.state.turns (supply_in l.fn.state) (world_in l.fn.state)
-    ≡ looping (for_pieces (scope_in l.program l.at) l.head (place_of l.path) l.body) (l.most - l.counter) (supply_in l.state) (world_in l.state)
+    looping (for_pieces (scope_in l.site.program.now l.site.at) l.head (place_of l.path) l.body) l.fn.state.turns (supply_in l.fn.state) (world_in l.fn.state)
+    ≡ looping (for_pieces (scope_in l.site.program.now l.site.at) l.head (place_of l.path) l.body) (l.most - l.counter) (supply_in l.state) (world_in l.state)
 
 abbrev pub decreases-action::action : goal.decreases-action::action
 decreases-action::action l = l.room

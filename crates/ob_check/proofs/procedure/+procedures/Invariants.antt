@@ -16,4 +16,4 @@ abbrev pub decreases-procedures : goal.decreases-procedures
 decreases-procedures l = 4 * l.levels + 1
 
 abbrev pub invariant-procedures-loop-p : goal.invariant-procedures-loop-p
-invariant-procedures-loop-p l = answer (through (spec.procedure_at l.imports l.levels) (l.fn.scope, l.fn.done, l.fn.variables) l.list) ≡ answer (through (spec.procedure_at l.imports l.levels) (l.scope, l.done, l.variables) (drop l.p-index l.list))
+invariant-procedures-loop-p l = answer (through (spec.procedure_at l.imports l.levels) l.fn.so_far l.list) ≡ answer (through (spec.procedure_at l.imports l.levels) l.so_far (drop l.p-index l.list))

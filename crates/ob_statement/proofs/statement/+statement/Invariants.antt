@@ -61,7 +61,7 @@ abbrev pub invariant-more_branches-loop-b : goal.invariant-more_branches-loop-b
 invariant-more_branches-loop-b l = answer (through (spec.next_branch l.site.imports.now l.site.scope.now l.site.levels (spec.statements_at l.site.imports.now l.site.scope.now l.site.levels)) (l.fn.first, l.fn.variables) l.others) ≡ answer (through (spec.next_branch l.site.imports.now l.site.scope.now l.site.levels (spec.statements_at l.site.imports.now l.site.scope.now l.site.levels)) (l.done, l.so_far) (drop l.b-index l.others))
 
 abbrev pub invariant-all_cases-loop-x : goal.invariant-all_cases-loop-x
-invariant-all_cases-loop-x l = answer (through (spec.next_case l.site.imports.now l.site.scope.now l.site.levels (spec.statements_at l.site.imports.now l.site.scope.now l.site.levels) l.character) ([], [], l.fn.variables) l.cases) ≡ answer (through (spec.next_case l.site.imports.now l.site.scope.now l.site.levels (spec.statements_at l.site.imports.now l.site.scope.now l.site.levels) l.character) (l.all, l.arms, l.so_far) (drop l.x-index l.cases))
+invariant-all_cases-loop-x l = answer (through (spec.next_case l.site.imports.now l.site.scope.now l.site.levels (spec.statements_at l.site.imports.now l.site.scope.now l.site.levels) l.character) ([], [], l.fn.variables) l.cases) ≡ answer (through (spec.next_case l.site.imports.now l.site.scope.now l.site.levels (spec.statements_at l.site.imports.now l.site.scope.now l.site.levels) l.character) l.so_far (drop l.x-index l.cases))
 
 abbrev pub invariant-sequence-loop-x : goal.invariant-sequence-loop-x
 invariant-sequence-loop-x l = answer (through (spec.next_statement l.site.imports.now l.site.scope.now l.site.levels (spec.statements_at l.site.imports.now l.site.scope.now l.site.levels)) ([], l.fn.variables) l.xs) ≡ answer (through (spec.next_statement l.site.imports.now l.site.scope.now l.site.levels (spec.statements_at l.site.imports.now l.site.scope.now l.site.levels)) (l.done, l.so_far) (drop l.x-index l.xs))
