@@ -1,20 +1,16 @@
 -- Commands, their calls, and what is known of their modules, one after the other.
-use Rattle.std.proofs.Common.{◌≡◌, ◌≢◌, ◌⊎◌, inl, inr, Bool, ℕ, zero, suc, ◌+◌, ◌<◌, ◌≤◌, true, false, List, [], ◌∷◌, ◌++◌, length, get_or, take, Option, Some, None, refl, sym, ap, ◌∙◌, subst, arith}
-use Rattle.std.specs.Prelude.{is_some, slice_get, slice_index}
+use Rattle.std.proofs.Common.{◌≡◌, ◌≢◌, ◌⊎◌, inl, inr, Bool, ℕ, zero, suc, ◌+◌, ◌<◌, ◌≤◌, true, List, [], ◌∷◌, ◌++◌, length, get_or, take, Some, None, refl, sym, ap, ◌∙◌, subst, arith}
+use Rattle.std.specs.Prelude.{slice_get, slice_index}
 use Rattle.std.proofs.lemmas.Bool.{cases_lt}
 use Rattle.std.proofs.lemmas.List.{take_more, take_all}
 use Rattle.ob_mean.specs.declared.expression.Callee.TheVariants.{OfImport}
-use Rattle.ob_mean.specs.declared.expression.TypedExpr.{TypedExpr}
 use Rattle.ob_mean.specs.declared.face.Face.{Face}
-use Rattle.ob_mean.specs.declared.face.Heading.{Heading}
-use Rattle.ob_mean.specs.declared.module.Parameter.{Parameter}
 use Rattle.ob_mean.specs.declared.module.TypedModule.{TypedModule}
-use Rattle.ob_mean.specs.declared.module.TypedProcedure.{TypedProcedure}
 use Rattle.ob_mean.specs.declared.statement.Action.TheVariants.{Call}
 use Rattle.ob_mean.specs.declared.statement.TypedStatement.{TypedStatement}
 use Rattle.ob_mean.specs.declared.statement.TypedStatement.TheVariants.{Simple}
 use Rattle.ob_mean.specs.Programs.{Command}
-use Rattle.ob_mean.specs.WellFormed.{heading_of, is_there, IsWellFormed}
+use Rattle.ob_mean.specs.WellFormed.{IsWellFormed}
 use Rattle.ob_code.specs.declared.instr.CodeModule.{CodeModule}
 use Rattle.ob_code.specs.Machine.{Code}
 use Rattle.ob_gen.specs.Correct.{AllRun}

@@ -1,19 +1,19 @@
 -- What is known of modules agrees, since keys say it; and commands that were looked up can be called.
-use Rattle.std.proofs.Common.{◌≡◌, ℕ, zero, suc, ◌<◌, Bool, true, false, List, [], ◌∷◌, map, length, get_or, Option, Some, None, is_none, cond, if◌then◌else◌, refl, sym, ap, ◌∙◌, subst, arith}
+use Rattle.std.proofs.Common.{◌≡◌, ℕ, zero, suc, ◌<◌, Bool, true, false, List, [], ◌∷◌, map, length, get_or, Option, Some, None, is_none, if◌then◌else◌, refl, sym, ap, ◌∙◌, subst, arith}
 use Rattle.std.specs.Prelude.{slice_get, slice_index}
 use Rattle.std.specs.Str.{bytes_eq}
 use Rattle.ob_mean.specs.declared.face.Face.{Face}
 use Rattle.ob_mean.specs.Programs.{Command}
-use Rattle.ob_session.specs.Session.{Session, Import, Module, name_of, key_of, find_module, place_of, link_fault, with_module}
+use Rattle.ob_session.specs.Session.{Session, Import, Module, name_of, find_module, place_of, link_fault, with_module}
 use Rattle.ob_session.specs.Cells as cells
 use Rattle.ob_session.specs.Cells.{CommandName, Looked, Found, Missing, Ready, Runs, Faulty, all_ready, command_place, is_given, linked, looked_in, looked_by, looked_up, ready_with}
-use Rattle.ob_linked.specs.Compiled.{Known, face_in, links, runs_in, put_at, FacesAgree}
+use Rattle.ob_linked.specs.Compiled.{Known, face_in, links, put_at, FacesAgree}
 use Rattle.ob_linked.specs.CommandsCode.{IsCallable}
 use Rattle.ob_linked.specs.Loading.{WasKnown, AllWereKnown, KeysAgree}
 use Rattle.ob_linked.proofs.Agreeing.{agrees}
 use Rattle.ob_linked.proofs.Imports.{found_at}
 use Rattle.ob_load.specs.Commanded.{AllRunnable}
-use Rattle.ob_load.specs.Known.{HasCommands, IsSaid, AreSaid}
+use Rattle.ob_load.specs.Known.{IsSaid, AreSaid}
 use Rattle.ob_load.specs.Said.{face_said}
 
 -- ---- of one of them

@@ -127,16 +127,8 @@ impl Session {
         ) {
             Ok(beginning) => Ok(begin(modules, known, parts, beginning, longest, name)),
             Err(error) => {
-                let image = Image::of(parts, may_run, cells);
-                Err((
-                    Session {
-                        modules,
-                        known,
-                        image,
-                        longest: before,
-                    },
-                    error,
-                ))
+                let session = Session::of(modules, known, (parts, may_run, cells), before);
+                Err((session, error))
             }
         }
     }

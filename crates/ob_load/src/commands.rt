@@ -7,12 +7,15 @@ ghost use Rattle.ob_linked.specs.CommandsCode.{IsCallable};
 ghost use Rattle.ob_linked.specs.Compiled.{face_in, AreCompiled, AreKnown};
 ghost use Rattle.ob_load.specs.Commanded.{AllRunnable, AreCalled, AreReady, IsCodeOfCalls, WithHome};
 ghost use Rattle.ob_load.specs.MachineState.{begun_in};
+ghost use Rattle.ob_load.specs.Kept.{IsKept};
+ghost use Rattle.ob_load.specs.Names.{NamesWithin};
 ghost use Rattle.ob_load.specs.declared.task.Task.TheVariants as task;
 ghost use Rattle.ob_mean.specs.declared.expression.Callee.TheVariants as callee;
 ghost use Rattle.ob_mean.specs.declared.statement.Action.TheVariants as action;
 ghost use Rattle.ob_mean.specs.declared.statement.TypedStatement.TheVariants as statement;
 ghost use Rattle.ob_mean.specs.Programs as programs;
 ghost use Rattle.ob_session.specs.Cells.{CommandName, Runs, all_ready};
+ghost use Rattle.ob_store.specs.Stores.{session_of};
 
 use crate::given::GivenLines;
 use crate::machine::Machine;
@@ -211,6 +214,49 @@ fn ready(
     calls_of(modules, known, commands, longest)
 }
 
+// A machine before the first turn of commands, over the parts of a session's image. It takes no memory.
+fn begin(
+    modules: Modules,
+    known: Vec<KnownFaces>,
+    parts: (Vec<LinkedModule>, Vec<bool>, Vec<i32>),
+    calls: Calls,
+    commands: Vec<Command>,
+    longest: usize,
+) -> Machine
+    requires kept { IsKept modules known.items (record { code = parts.0.items; may_run = parts.1.items; cells = parts.2.items }) }
+    requires named { NamesWithin modules longest }
+    requires ready { AreReady modules known.items commands.items longest calls }
+    requires room { length parts.0.items < vec_capacity parts.0 }
+    requires flag { length parts.1.items < vec_capacity parts.1 }
+    ensures { result ≡ begun_in (session_of modules parts.2.items) (task.Commands commands) }
+{
+    let (mut code, mut may_run, cells) = parts;
+    let alloc = modules.alloc();
+    let behind = code.len();
+    code.push_reserved(LinkedModule {
+        code: calls.code.into_code(),
+        imports: calls.imports,
+        cells: cells.len(),
+    });
+    may_run.push_reserved(true);
+    let opening = Snapshot::of(&cells);
+    let image = Image::of(code, may_run, cells);
+    let run = ob_vm::Machine::start(alloc, &image, behind, calls.room);
+    Machine {
+        modules,
+        known,
+        image,
+        run,
+        opening,
+        task: Task::Commands(commands),
+        lines: GivenLines::none(),
+        asks: false,
+        over: false,
+        longest,
+        name: calls.name,
+    }
+}
+
 impl Session {
     /// Makes a machine before the first turn of these commands, which were looked up in this session.
     ///
@@ -229,7 +275,7 @@ impl Session {
             longest,
         } = self;
         let (mut code, mut may_run, cells) = image.into_parts();
-        let calls = match ready(
+        match ready(
             &modules,
             known.as_slice(),
             &mut code,
@@ -237,43 +283,14 @@ impl Session {
             commands.as_slice(),
             longest,
         ) {
-            Ok(calls) => calls,
-            Err(error) => {
-                let image = Image::of(code, may_run, cells);
-                return Err((
-                    Session {
-                        modules,
-                        known,
-                        image,
-                        longest,
-                    },
-                    error,
-                ));
+            Ok(calls) => {
+                let parts = (code, may_run, cells);
+                Ok(begin(modules, known, parts, calls, commands, longest))
             }
-        };
-        let alloc = modules.alloc();
-        let behind = code.len();
-        code.push_reserved(LinkedModule {
-            code: calls.code.into_code(),
-            imports: calls.imports,
-            cells: cells.len(),
-        });
-        may_run.push_reserved(true);
-        let opening = Snapshot::of(&cells);
-        let image = Image::of(code, may_run, cells);
-        let run = ob_vm::Machine::start(alloc, &image, behind, calls.room);
-        Ok(Machine {
-            modules,
-            known,
-            image,
-            run,
-            opening,
-            task: Task::Commands(commands),
-            lines: GivenLines::none(),
-            asks: false,
-            over: false,
-            longest,
-            name: calls.name,
-        })
+            Err(error) => {
+                let session = Session::of(modules, known, (code, may_run, cells), longest);
+                Err((session, error))
+            }
+        }
     }
 }

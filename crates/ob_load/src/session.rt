@@ -1,9 +1,12 @@
 //! What the cells of a kernel hand from each to the next.
 
 ghost use Rattle.std.specs.Prelude.{◌≡◌};
-ghost use Rattle.ob_load.specs.Kept.{AreCheckable};
+ghost use Rattle.ob_load.specs.Kept.{AreCheckable, IsKept};
+ghost use Rattle.ob_load.specs.Names.{NamesWithin};
 ghost use Rattle.ob_session.specs.Session.{opening};
+ghost use Rattle.ob_store.specs.Stores.{session_of};
 
+use ob_code::instr::LinkedModule;
 use ob_image::KnownFaces;
 use ob_link::Modules;
 use ob_vm::Image;
@@ -52,6 +55,27 @@ impl Session {
             known: Vec::new(alloc),
             image,
             longest: 0,
+        }
+    }
+
+    // The session of these modules, with an image of these parts.
+    pub(crate) fn of(
+        modules: Modules,
+        known: Vec<KnownFaces>,
+        parts: (Vec<LinkedModule>, Vec<bool>, Vec<i32>),
+        longest: usize,
+    ) -> Session
+        requires kept { IsKept modules known.items (record { code = parts.0.items; may_run = parts.1.items; cells = parts.2.items }) }
+        requires named { NamesWithin modules longest }
+        ensures { result ≡ session_of modules parts.2.items }
+    {
+        let (code, may_run, cells) = parts;
+        let image = Image::of(code, may_run, cells);
+        Session {
+            modules,
+            known,
+            image,
+            longest,
         }
     }
 

@@ -1,8 +1,6 @@
-use Rattle.std.proofs.Common.{◌≡◌, ℕ, ℤ, Bool, List, ap, sym, ◌∙◌, subst, arith, length}
+use Rattle.std.proofs.Common.{◌≡◌, ℕ, ℤ, List, ap, sym, ◌∙◌, subst, arith, length}
 use Rattle.ob_types.specs.InterfaceTree.{InterfaceTree}
 use Rattle.ob_mean.specs.Values.{Value}
-use Rattle.ob_code.specs.Linked.{runs_of}
-use Rattle.ob_code.specs.Machine.{Code}
 use Rattle.ob_vm.specs.Images as vm
 use Rattle.ob_session.specs.Session.{Session, Module, installed, name_of, place_of, with_module}
 use Rattle.ob_store.specs.Stores.{loaded_cells, session_of}
@@ -26,21 +24,16 @@ begin-requires-clause-said c =
     (subst (λ (ks : List Known). AreSaid (with_module c.self.inside.modules c.args.added) ks) (sym c.in-Ok-load.ensures.known)
     (said_with c.self.inside.modules c.self.inside.known.items c.args.added c.args.faces c.self.invariant.0.said c.requires.said))
 
-pub of-image-requires-clause-measured : goal.of-image-requires-clause-measured
-of-image-requires-clause-measured c =
-    let code = c.in-Err-load.ensures.err.1.1 ∙ c.into_parts-parts.ensures.code in
-    subst (λ (x : Code). vm.AreMeasured x (runs_of c.into_parts-parts.result.1.items)) (sym code)
-    (subst (λ (fs : List Bool). vm.AreMeasured c.self.inside.image.code (runs_of fs)) (sym c.into_parts-parts.ensures.may_run) c.into_parts-parts.ensures.measured)
-
-pub invariant_of-result : goal.invariant_of-result
-invariant_of-result c =
+pub of-session-requires-clause-kept : goal.of-session-requires-clause-kept
+of-session-requires-clause-kept c =
     let i = c.self.inside.image in
-    let same = c.of-image.ensures ∙ same_image i c.load.new.code.items c.into_parts-parts.result.1.items c.into_parts-parts.result.2.items (c.in-Err-load.ensures.err.1.1 ∙ c.into_parts-parts.ensures.code) c.into_parts-parts.ensures.may_run c.into_parts-parts.ensures.cells in (
-      subst (λ (x : vm.ImageState). IsKept c.load.new.modules c.load.new.known.items x) (sym same)
-          (subst (λ (ks : List Known). IsKept c.load.new.modules ks i) (sym c.in-Err-load.ensures.err.1.0)
-          (subst (λ (ms : List Module). IsKept ms c.self.inside.known.items i) (sym c.in-Err-load.ensures.err.0) c.self.invariant.0)),
-      subst (λ (ms : List Module). NamesWithin ms c.self.inside.longest) (sym c.in-Err-load.ensures.err.0) c.self.invariant.1,
-    )
+    let same = same_image i c.load.new.code.items c.into_parts-parts.result.1.items c.into_parts-parts.result.2.items (c.in-Err-load.ensures.err.1.1 ∙ c.into_parts-parts.ensures.code) c.into_parts-parts.ensures.may_run c.into_parts-parts.ensures.cells in
+    subst (λ (x : vm.ImageState). IsKept c.load.new.modules c.load.new.known.items x) (sym same)
+    (subst (λ (ks : List Known). IsKept c.load.new.modules ks i) (sym c.in-Err-load.ensures.err.1.0)
+    (subst (λ (ms : List Module). IsKept ms c.self.inside.known.items i) (sym c.in-Err-load.ensures.err.0) c.self.invariant.0))
+
+pub of-session-requires-clause-named : goal.of-session-requires-clause-named
+of-session-requires-clause-named c = subst (λ (ms : List Module). NamesWithin ms c.self.inside.longest) (sym c.in-Err-load.ensures.err.0) c.self.invariant.1
 
 pub begin-requires-clause-named : goal.begin-requires-clause-named
 begin-requires-clause-named c =
