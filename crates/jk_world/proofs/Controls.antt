@@ -43,7 +43,7 @@ mark_of sort.Leave = Some Leave
 mark_of sort.Interrupt = Some Interrupt
 mark_of sort.KernelInfo = Some KernelInfo
 mark_of (sort.Shutdown restart) = Some (Restart restart)
-mark_of other = None
+mark_of _ = None
 
 -- another mark
 abbrev IsPlain : Kind → Type 0
@@ -94,11 +94,11 @@ owes_after at kind (StopDue cause ∷ xs) ys a b = owes_after at kind xs ys a b
 -- aborts, answers and stops are other marks
 waits_not : (at : ℕ) (log : Log) (places : List ℕ) → NotOwed at (map (due_of log) places)
 waits_not at log [] = tt
-waits_not at log (p ∷ ps) = one (execute_at p log)
+waits_not at log (p ∷ ps) = one (execute_at p log) (waits_not at log ps)
   where
-    one : (o : Option Execute) → NotOwed at (due_by o p ∷ map (due_of log) ps)
-    one (Some e) = (inl tt, waits_not at log ps)
-    one None = waits_not at log ps
+    one : (o : Option Execute) → NotOwed at (map (due_of log) ps) → NotOwed at (due_by o p ∷ map (due_of log) ps)
+    one (Some e) rest = (inl tt, rest)
+    one None rest = rest
 
 fails_not : (at : ℕ) (o : Option Running) (ds : List Due) → NotOwed at ds → NotOwed at (fails_due o ds)
 fails_not at None ds h = tt
@@ -134,8 +134,8 @@ later_not at sort.Interrupt a past apart = (inr apart, ends_not at Interrupted (
 later_not at sort.Input a past apart = line_not at (input_in a.what) (asker a.seat past)
 later_not at sort.KernelInfo a past apart = (inr apart, tt)
 later_not at (sort.Shutdown restart) a past apart =
-    not_append at (ends_due Restarted (running past)) (waiting_dues past ++ MarkDue (length past) (Restart restart) ∷ []) (ends_not at Restarted (running past))
-        (not_append at (waiting_dues past) (MarkDue (length past) (Restart restart) ∷ []) (waits_not at past (waiting past)) (inr apart, tt))
+    not_append at (ends_due Restarted (running past) ++ waiting_dues past) (MarkDue (length past) (Restart restart) ∷ [])
+    (not_append at (ends_due Restarted (running past)) (waiting_dues past) (ends_not at Restarted (running past)) (waits_not at past (waiting past))) (inr apart, tt)
 later_not at sort.Execute a past apart = tt
 later_not at sort.Query a past apart = tt
 later_not at sort.Other a past apart = tt
@@ -147,8 +147,9 @@ own_owes sort.Leave a past kind h = inl (refl, same_Some Leave kind h, tt)
 own_owes sort.Interrupt a past kind h = inl (refl, same_Some Interrupt kind h, ends_not (length past) Interrupted (running past))
 own_owes sort.KernelInfo a past kind h = inl (refl, same_Some KernelInfo kind h, tt)
 own_owes (sort.Shutdown restart) a past kind h =
-    owes_after (length past) kind (ends_due Restarted (running past)) (waiting_dues past ++ MarkDue (length past) (Restart restart) ∷ []) (ends_not (length past) Restarted (running past))
-        (owes_after (length past) kind (waiting_dues past) (MarkDue (length past) (Restart restart) ∷ []) (waits_not (length past) past (waiting past)) (inl (refl, same_Some (Restart restart) kind h, tt)))
+    owes_after (length past) kind (ends_due Restarted (running past) ++ waiting_dues past) (MarkDue (length past) (Restart restart) ∷ [])
+    (not_append (length past) (ends_due Restarted (running past)) (waiting_dues past) (ends_not (length past) Restarted (running past)) (waits_not (length past) past (waiting past)))
+    (inl (refl, same_Some (Restart restart) kind h, tt))
 own_owes sort.Execute a past kind h = absurd (none-some kind h)
 own_owes sort.Query a past kind h = absurd (none-some kind h)
 own_owes sort.Input a past kind h = absurd (none-some kind h)
@@ -261,7 +262,8 @@ module _ {S T : Type 0} (spoken : Spoken S T) (at : ℕ) (a : Arrival) (kind : K
     before = is.before;
     after = is.after ++ entries_at past m;
     together =
-        sym (append_assoc is.before (entries_of kind a ++ is.after) (entries_at past m))
+        ap (λ (es : List Entry). is.before ++ es) (sym (append_assoc (entries_of kind a) is.after (entries_at past m)))
+        ∙ sym (append_assoc is.before (entries_of kind a ++ is.after) (entries_at past m))
         ∙ ap (λ (es : List Entry). es ++ entries_at past m) is.together;
   }
 

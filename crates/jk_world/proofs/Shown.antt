@@ -84,20 +84,20 @@ closed_few (Marked m ∷ past) at = closed_if (eqb m.at at) m.kind (times_closed
 open_ended : (at : ℕ) (log : Log) → closed_as at log ≡ None → times_ended at log ≡ 0
 open_ended at [] h = refl
 open_ended at (Took a ∷ past) h = open_ended at past h
-open_ended at (Marked m ∷ past) h = one (eqb m.at at) m.kind h
+open_ended at (Marked m ∷ past) h = one (eqb m.at at) m.kind (open_ended at past) h
   where
-    closes_it : (b : Bool) (k : Kind) → cond b (Some k) (closed_as at past) ≡ None → times_ended at past + cond b 1 0 ≡ 0
-    closes_it true k h = absurd (none-some k (sym h))
-    closes_it false k h = let z = open_ended at past h in omega (arith, z)
+    closes_it : (b : Bool) (k : Kind) → (closed_as at past ≡ None → times_ended at past ≡ 0) → cond b (Some k) (closed_as at past) ≡ None → times_ended at past + cond b 1 0 ≡ 0
+    closes_it true k before h = absurd (none-some k (sym h))
+    closes_it false k before h = let z = before h in omega (arith, z)
 
-    keeps_it : (b : Bool) → cond b (closed_as at past) (closed_as at past) ≡ None → times_ended at past + cond b 0 0 ≡ 0
-    keeps_it true h = let z = open_ended at past h in omega (arith, z)
-    keeps_it false h = let z = open_ended at past h in omega (arith, z)
+    keeps_it : (b : Bool) → (closed_as at past ≡ None → times_ended at past ≡ 0) → cond b (closed_as at past) (closed_as at past) ≡ None → times_ended at past + cond b 0 0 ≡ 0
+    keeps_it true before h = let z = before h in omega (arith, z)
+    keeps_it false before h = let z = before h in omega (arith, z)
 
-    one : (b : Bool) (k : Kind) → cond b (closed_by k (closed_as at past)) (closed_as at past) ≡ None → times_ended at past + cond b (ends k) 0 ≡ 0
-    one b (End ending n) h = closes_it b (End ending n) h
-    one b (Stop turns why n) h = closes_it b (Stop turns why n) h
-    one b other h = keeps_it b h
+    one : (b : Bool) (k : Kind) → (closed_as at past ≡ None → times_ended at past ≡ 0) → cond b (closed_by k (closed_as at past)) (closed_as at past) ≡ None → times_ended at past + cond b (ends k) 0 ≡ 0
+    one b (End ending n) before h = closes_it b (End ending n) before h
+    one b (Stop turns why n) before h = closes_it b (Stop turns why n) before h
+    one b other before h = keeps_it b before h
 
 -- ---- the entries of an execute request
 
@@ -237,13 +237,13 @@ module _ {S T : Type 0} (spoken : Spoken S T) (at : ℕ) (a : Arrival) (e : Exec
 
   -- a cell that was begun and not closed runs
   open_runs : (past : Log) → EachFollows spoken past → times_begun at past ≡ 1 → closed_as at past ≡ None → (r : Running) × (running past ≡ Some r)
-  open_runs past each one open = from (running past) refl
+  open_runs past each one lives_on = from (running past) refl
     where
       from : (o : Option Running) → running past ≡ o → (r : Running) × (running past ≡ Some r)
       from (Some r) h = (r, h)
       from None h =
           let all : times_begun at past ≡ times_ended at past + runs_at at past = lives spoken past each at in
-          let ended = open_ended at past open in
+          let ended = open_ended at past lives_on in
           let none : runs_at at past ≡ 0 = runs_none at (running past) h in
           absurd (omega (arith, all, ended, none, one))
 
@@ -266,8 +266,8 @@ module _ {S T : Type 0} (spoken : Spoken S T) (at : ℕ) (a : Arrival) (e : Exec
           are = b.shown.are;
           shown = s.shown ∙ b.shown.shown ∙ ap (λ (o : Option Kind). opens b.shown.count sent e ++ (b.shown.between ++ closes a.seat sent e b.shown.count o)) (sym s.ended);
         };
-        counted = λ open.
-            let before = sym s.ended ∙ open in
+        counted = λ lives_on.
+            let before = sym s.ended ∙ lives_on in
             let r = open_runs past each b.once before in
             s.counted r.0 r.1 ∙ b.counted before;
       }))
@@ -294,8 +294,8 @@ module _ {S T : Type 0} (spoken : Spoken S T) (at : ℕ) (a : Arrival) (e : Exec
   adds past kind es there h =
       outputs_more (shown_at at past) (cond (eqb at at) (entries_at past (record { at = at; kind = kind })) [])
       ∙ ap (λ (ys : List Entry). outputs_in (shown_at at past) ++ ys)
-          (ap (λ (c : Bool). outputs_in (cond c (entries_at past (record { at = at; kind = kind })) [])) (eq-eqb at at refl)
-          ∙ ap (λ (o : Option Arrival). outputs_in (option_or (entries_of kind) [] o)) there ∙ h)
+      (ap (λ (c : Bool). outputs_in (cond c (entries_at past (record { at = at; kind = kind })) [])) (eq-eqb at at refl)
+      ∙ ap (λ (o : Option Arrival). outputs_in (option_or (entries_of kind) [] o)) there ∙ h)
 
   adds_none : (past : Log) (kind : Kind) → arrival_at at past ≡ Some a → outputs_in (entries_of kind a) ≡ [] → outputs_in (shown_at at (Marked (record { at = at; kind = kind }) ∷ past)) ≡ outputs_in (shown_at at past)
   adds_none past kind there h = adds past kind [] there h ∙ append-nil (outputs_in (shown_at at past))
@@ -337,18 +337,18 @@ module _ {S T : Type 0} (spoken : Spoken S T) (at : ℕ) (a : Arrival) (e : Exec
       all : times_begun at past ≡ times_ended at past + runs_at at past
       all = lives spoken past each at
 
-      open : (o : Option Kind) → closed_as at past ≡ o → closed_as at past ≡ None
-      open None h = h
-      open (Some kind) h = absurd (running_open spoken past at r kind each runs same h)
+      lives_on : (o : Option Kind) → closed_as at past ≡ o → closed_as at past ≡ None
+      lives_on None h = h
+      lives_on (Some kind) h = absurd (running_open spoken past at r kind each runs same h)
 
       by : Now past → (b : IsBegun past) × (closed_as at past ≡ None)
       by (inl (none, shown)) = let few = begun_closed past at in let one = is_one in let lived = all in absurd (omega (arith, few, none, one, lived))
-      by (inr (inl b)) = (b, open (closed_as at past) refl)
+      by (inr (inl b)) = (b, lives_on (closed_as at past) refl)
       by (inr (inr (none, closed, away))) = let one = is_one in let lived = all in absurd (omega (arith, none, one, lived))
 
   -- it goes on, and these stand between
   grows : (past : Log) (kind : Kind) (es : List Entry) → EachFollows spoken past → MayMark spoken past (owed past) (record { at = at; kind = kind }) → arrival_at at past ≡ Some a → outputs_in (entries_of kind a) ≡ es → AreBetween a.seat sent e es → times_begun at (Marked (record { at = at; kind = kind }) ∷ past) ≡ times_begun at past → closed_as at (Marked (record { at = at; kind = kind }) ∷ past) ≡ closed_as at past → (b : IsBegun past) → closed_as at past ≡ None → Now (Marked (record { at = at; kind = kind }) ∷ past)
-  grows past kind es each may there shows are begun ended b open =
+  grows past kind es each may there shows are begun ended b lives_on =
       let c = b.shown.count in
       let ys = b.shown.between in
       inr (inl (record {
@@ -359,17 +359,17 @@ module _ {S T : Type 0} (spoken : Spoken S T) (at : ℕ) (a : Arrival) (e : Exec
           are = between_more a.seat sent e ys es b.shown.are are;
           shown =
               adds past kind es there shows
-              ∙ ap (λ (xs : List Entry). xs ++ es) (b.shown.shown ∙ ap (λ (o : Option Kind). opens c sent e ++ (ys ++ closes a.seat sent e c o)) open ∙ ap (λ (zs : List Entry). opens c sent e ++ zs) (append-nil ys))
+              ∙ ap (λ (xs : List Entry). xs ++ es) (b.shown.shown ∙ ap (λ (o : Option Kind). opens c sent e ++ (ys ++ closes a.seat sent e c o)) lives_on ∙ ap (λ (zs : List Entry). opens c sent e ++ zs) (append-nil ys))
               ∙ append_assoc (opens c sent e) ys es
               ∙ ap (λ (zs : List Entry). opens c sent e ++ zs) (sym (append-nil (ys ++ es)))
-              ∙ ap (λ (o : Option Kind). opens c sent e ++ ((ys ++ es) ++ closes a.seat sent e c o)) (sym (ended ∙ open));
+              ∙ ap (λ (o : Option Kind). opens c sent e ++ ((ys ++ es) ++ closes a.seat sent e c o)) (sym (ended ∙ lives_on));
         };
-        counted = λ o. let r = open_runs past each b.once open in count_stays past at kind each may r.0 r.1 ∙ b.counted open;
+        counted = λ o. let r = open_runs past each b.once lives_on in count_stays past at kind each may r.0 r.1 ∙ b.counted lives_on;
       }))
 
   -- it ends
   ends_so : (past : Log) (kind : Kind) → arrival_at at past ≡ Some a → closed_as at (Marked (record { at = at; kind = kind }) ∷ past) ≡ Some kind → times_begun at (Marked (record { at = at; kind = kind }) ∷ past) ≡ times_begun at past → (b : IsBegun past) → outputs_in (entries_of kind a) ≡ closes_by a.seat sent e b.shown.count kind → closed_as at past ≡ None → Now (Marked (record { at = at; kind = kind }) ∷ past)
-  ends_so past kind there ended begun b shows open =
+  ends_so past kind there ended begun b shows lives_on =
       let c = b.shown.count in
       let ys = b.shown.between in
       inr (inl (record {
@@ -380,7 +380,7 @@ module _ {S T : Type 0} (spoken : Spoken S T) (at : ℕ) (a : Arrival) (e : Exec
           are = b.shown.are;
           shown =
               adds past kind (closes_by a.seat sent e c kind) there shows
-              ∙ ap (λ (xs : List Entry). xs ++ closes_by a.seat sent e c kind) (b.shown.shown ∙ ap (λ (o : Option Kind). opens c sent e ++ (ys ++ closes a.seat sent e c o)) open ∙ ap (λ (zs : List Entry). opens c sent e ++ zs) (append-nil ys))
+              ∙ ap (λ (xs : List Entry). xs ++ closes_by a.seat sent e c kind) (b.shown.shown ∙ ap (λ (o : Option Kind). opens c sent e ++ (ys ++ closes a.seat sent e c o)) lives_on ∙ ap (λ (zs : List Entry). opens c sent e ++ zs) (append-nil ys))
               ∙ append_assoc (opens c sent e) ys (closes_by a.seat sent e c kind)
               ∙ ap (λ (o : Option Kind). opens c sent e ++ (ys ++ closes a.seat sent e c o)) (sym ended);
         };
@@ -405,8 +405,8 @@ module _ {S T : Type 0} (spoken : Spoken S T) (at : ℕ) (a : Arrival) (e : Exec
   begins_so past n each may there now =
       let first = answers_first spoken past at (Begin n) each may tt in
       let w = waits past each first now in
-      let open = not_closed (closed_as at past) refl first in
-      let still : closed_as at (Marked (record { at = at; kind = Begin n }) ∷ past) ≡ None = cond_same (eqb at at) (closed_as at past) ∙ open in
+      let lives_on = not_closed (closed_as at past) refl first in
+      let still : closed_as at (Marked (record { at = at; kind = Begin n }) ∷ past) ≡ None = cond_same (eqb at at) (closed_as at past) ∙ lives_on in
       inr (inl (record {
         once = ap (λ (b : Bool). times_begun at past + cond b 1 0) here ∙ ap (λ (k : ℕ). k + 1) w.0;
         shown = record {
@@ -459,7 +459,7 @@ module _ {S T : Type 0} (spoken : Spoken S T) (at : ℕ) (a : Arrival) (e : Exec
       let f = stop_stops spoken past (owed past) at turns n why may in
       let b = runs_begun_at past f.0 each f.1 f.2.request now in
       ends_so past (Stop turns why n) there (ap (λ (c : Bool). cond c (Some (Stop turns why n)) (closed_as at past)) here) (begun_same past (Stop turns why n) refl) b.0
-          (ap outputs_in (cell_shows (Stop turns why n)) ∙ failed_out a.seat sent e.silent (cause_failure why) n ∙ ap (λ (k : ℕ). failed a.seat sent e.silent (cause_failure why) k) (f.2.counted ∙ b.0.counted b.1)) b.1
+      (ap outputs_in (cell_shows (Stop turns why n)) ∙ failed_out a.seat sent e.silent (cause_failure why) n ∙ ap (λ (k : ℕ). failed a.seat sent e.silent (cause_failure why) k) (f.2.counted ∙ b.0.counted b.1)) b.1
   mark_here past (Refuse n) each may there now =
       let w = waits past each (answers_first spoken past at (Refuse n) each may tt) now in
       turned_away past (Refuse n) (Failed n (cause_failure cause.Memory)) there w refl refl (inr (n, refl)) (ap outputs_in (cell_shows (Refuse n)))
@@ -477,7 +477,7 @@ module _ {S T : Type 0} (spoken : Spoken S T) (at : ℕ) (a : Arrival) (e : Exec
   mark_now : (past : Log) (m : Mark) → EachFollows spoken past → MayMark spoken past (owed past) m → ((eqb m.at at ≡ true) × (m.at ≡ at)) ⊎ ((eqb m.at at ≡ false) × (m.at ≢ at)) → arrival_at at past ≡ Some a → Now past → Now (Marked m ∷ past)
   mark_now past m each may (inl (b, same)) there now =
       subst (λ (m : Mark). Now (Marked m ∷ past)) (ap (λ (p : ℕ). record { at = p; kind = m.kind }) (sym same))
-          (mark_here past m.kind each (subst (λ (p : ℕ). MayMark spoken past (owed past) (record { at = p; kind = m.kind })) same may) there now)
+      (mark_here past m.kind each (subst (λ (p : ℕ). MayMark spoken past (owed past) (record { at = p; kind = m.kind })) same may) there now)
   mark_now past m each may (inr (b, other)) there now = keeps (Marked m) past each (apart past m each may b) now
 
   took_now : (past : Log) (new : Arrival) → EachFollows spoken past → (arrival_at at past ≡ Some a → Now past) → arrival_at at (Took new ∷ past) ≡ Some a → Now (Took new ∷ past)

@@ -33,7 +33,7 @@ answered_at_once sort.KernelInfo a = Some (exchanged a KernelInfoReply a.what)
 answered_at_once (sort.Shutdown restart) a = Some (exchanged a (ShutdownReply restart) a.what)
 answered_at_once sort.Join a = Some (noticed (Joined a.seat a.number) ∷ [])
 answered_at_once sort.Leave a = Some (noticed (Left a.seat a.number) ∷ [])
-answered_at_once other a = None
+answered_at_once _ a = None
 
 -- These are all the entries of it, and nothing stands between them.
 pub record IsShownTogether (log : Log) (at : ℕ) (entries : List Entry) : Type 0 where
