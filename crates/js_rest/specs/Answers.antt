@@ -178,7 +178,7 @@ FindsSessions r given request result m n = Same m n × Gives result (sessions_pl
 
 -- ---- what becomes of a plan
 
--- where the change succeeded the tables change too, and else nothing has changed but what the change says
+-- where the change succeeded the tables are updated too, and else nothing has changed but what the change says
 abbrev pub Ends : Plan → Result (Unit {0}) ErrorStatus → Rows → Rows → Answer → Type 0
 Ends plan (Ok done) r s answer = (s ≡ updated plan.update r) × (answer ≡ plan.answer)
 Ends plan (Err status) r s answer = (s ≡ r) × (answer ≡ Reply (Refused status))
@@ -188,11 +188,11 @@ module _ {L : Type 0} (begins : L → List ℕ → L → Type 0) (tells : L → 
   abbrev pub Stays : Rows → Rows → L → L → Contents → Contents → Type 0
   Stays r s l k m n = (s ≡ r) × (k ≡ l) × Same m n
 
-  -- there was no memory, or the change was tried
+  -- there was no memory, or the change was tried; `t` are the tables then
   abbrev pub CarriesOut : Plan → Rows → Rows → L → L → Answer → Contents → Contents → Type 0
   CarriesOut plan r s l k answer m n =
       ((answer ≡ Reply (Refused InternalServerError)) × Stays r s l k m n)
-      ⊎ ((done : Result (Unit {0}) ErrorStatus) × Tries begins tells plan.change done l k m n × Ends plan done r s answer)
+      ⊎ ((done : Result (Unit {0}) ErrorStatus) × (t : Rows) × Tries begins tells plan.change done r t l k m n × Ends plan done t s answer)
 
   -- what was found is carried out, or its status is the answer
   abbrev pub Follows : Result Plan Refusal → Rows → Rows → L → L → Answer → Contents → Contents → Type 0
@@ -211,7 +211,7 @@ module _ {L : Type 0} (begins : L → List ℕ → L → Type 0) (tells : L → 
   abbrev pub CarriesOutAlone : Plan → Rows → Rows → L → L → Answer → Type 0
   CarriesOutAlone plan r s l k answer =
       ((answer ≡ Reply (Refused InternalServerError)) × StaysAlone r s l k)
-      ⊎ ((done : Result (Unit {0}) ErrorStatus) × TriesAlone begins tells plan.change done l k × Ends plan done r s answer)
+      ⊎ ((done : Result (Unit {0}) ErrorStatus) × (t : Rows) × TriesAlone begins tells plan.change done r t l k × Ends plan done t s answer)
 
   abbrev pub FollowsAlone : Result Plan Refusal → Rows → Rows → L → L → Answer → Type 0
   FollowsAlone (Ok plan) r s l k answer = CarriesOutAlone plan r s l k answer

@@ -3,12 +3,11 @@
 use crate::call::Call;
 use crate::connection::{accept_all, serve_connection};
 use crate::driving::{Opening, drive_kernel};
-use crate::recording::record;
-use crossbeam_channel::Sender;
+use crate::pulse::pulse;
+use crossbeam_channel::{Receiver, Sender};
 use jk_language::Language;
 use jk_log::ParsedCell;
 use jk_queues::{Gate, WorkerEnd, worker};
-use json_form::Text;
 use std::alloc::Global;
 use std::net::{TcpListener, TcpStream};
 use std::sync::Wait;
@@ -25,8 +24,8 @@ pub enum Job<L: Language> {
     Drive(Opening<L>),
     /// Parses the cells of one kernel.
     Parse(WorkerEnd<ParsedCell<L>>),
-    /// Follows what the kernel of that identifier shows, for the recorder of its session.
-    Record(Text, Sender<Call<L>>),
+    /// Calls the desk after each pause that it says, so that it reads for recorders.
+    Pulse(Sender<Call<L>>, Receiver<u64>),
 }
 
 /// Lets every job of a parser pass.
@@ -46,6 +45,6 @@ pub fn work<L: Language, R: Wait + Clock + Copy + Drop>(rt: &R, alloc: Global, j
         Job::Connection(stream, calls) => serve_connection(rt, alloc, &stream, &calls),
         Job::Drive(opening) => drive_kernel(rt, alloc, opening),
         Job::Parse(end) => drop(worker::<L, R, Open>(rt, alloc, &Open, end)),
-        Job::Record(kernel, calls) => record(rt, alloc, &calls, kernel),
+        Job::Pulse(calls, pauses) => pulse(rt, &calls, &pauses),
     }
 }

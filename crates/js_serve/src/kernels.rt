@@ -1,8 +1,9 @@
 //! The kernels that run, as the desk holds them.
 ghost use Rattle.std.specs.Prelude.{◌≡◌, ◌++◌, ◌∷◌, [], OnOk, OnErr};
 
-use crate::call::{Place, Reading};
+use crate::call::Place;
 use crate::driving::{Opened, Opening};
+use crate::recording::Scribe;
 use crate::watch::Watch;
 use crossbeam_channel::{Receiver, bounded};
 use jk_board::{Follower, Followers};
@@ -11,7 +12,7 @@ use jk_log::{Arrival, What};
 use jk_queues::{Seat, Seats};
 use jp_msg::read_message;
 use js_rest::{Running, Untold};
-use js_tables::{Command, Kernel as Row};
+use js_tables::{Command, Kernel as Row, Tables};
 use json_form::{Shared, Text};
 use std::alloc::{AllocError, Global};
 use std::marker::Model;
@@ -47,12 +48,10 @@ struct Ends<L: Language> {
     free: Vec<Free<L>>,
     /// How many seats are lent.
     lent: u64,
-    /// The follower for a recorder of the session, where it is not lent.
+    /// The follower for a recorder of the session, until there is one.
     recorder: Option<Follower<L>>,
-    /// Whether that follower has read all that was shown before there was a recorder.
-    skipped: bool,
-    /// Whether that follower is lent.
-    recording: bool,
+    /// What is read for the recorder of the session, once there is one.
+    scribe: Option<Scribe<L>>,
     /// Set once nobody follows the kernel any more.
     left: Arc<AtomicBool, Global>,
 }
@@ -147,8 +146,7 @@ impl<L: Language> Ends<L> {
             free: Vec::new(alloc),
             lent: 0,
             recorder: None,
-            skipped: false,
-            recording: false,
+            scribe: None,
             left,
         }
     }
@@ -219,35 +217,24 @@ impl<L: Language> Ends<L> {
         }
     }
 
-    /// Whether the kernel was shut down, and neither a seat of it nor the follower for a recorder is lent.
+    /// Whether the kernel was shut down, no seat of it is lent, and nothing is read for a recorder.
     fn is_left(&self) -> bool {
-        self.has_ended() && self.lent == 0 && !self.recording
+        self.has_ended() && self.lent == 0 && self.scribe.is_none()
     }
 
-    /// Reads what was shown before there was a recorder, until a read finds nothing. It says whether the follower for the
-    /// recorder may be lent then.
-    fn skip(&mut self, alloc: Global) -> bool {
+    /// Begins to read for a recorder, after what was shown before it was there. It says whether it began now; where there is no
+    /// memory, it begins later.
+    fn begin_reading(&mut self, alloc: Global) -> bool {
         let Some(follower) = self.recorder.take() else {
             return false;
         };
-        if self.skipped {
-            self.recorder = Some(follower);
-            return true;
-        }
         let (follower, skipped) = skip_all(alloc, follower);
-        self.recorder = Some(follower);
-        self.skipped = skipped;
-        skipped
-    }
-
-    /// Lends the follower for a recorder.
-    fn lend_recorder(&mut self) -> Option<Follower<L>> {
-        if !self.skipped {
-            return None;
+        if skipped {
+            self.scribe = Some(Scribe::new(alloc, follower));
+        } else {
+            self.recorder = Some(follower);
         }
-        let follower = self.recorder.take()?;
-        self.recording = true;
-        Some(follower)
+        skipped
     }
 
     /// Lends a seat.
@@ -403,32 +390,56 @@ impl<R: Wait + Drop, L: Language> Kernels<R, L> {
         }
     }
 
-    /// Skips, for the recorder of a kernel, what was shown before. It says whether the recorder's follower may be lent.
-    pub(crate) fn skip(&mut self, id: &str) -> bool {
+    /// Begins to read for the recorder of a kernel, after what was shown before it was there. It says whether it began now.
+    pub(crate) fn begin_reading(&mut self, id: &str) -> bool {
         let alloc = self.alloc;
         match self.ends_of(id) {
-            Some(ends) => ends.skip(alloc),
+            Some(ends) => ends.begin_reading(alloc),
             None => false,
         }
     }
 
-    /// Lends the follower for the recorder of a kernel. There is none where it is lent already.
-    pub(crate) fn take_reading(&mut self, kernel: Text) -> Option<Reading<L>> {
-        let alloc = self.alloc;
-        let follower = self.ends_of(kernel.as_str())?.lend_recorder()?;
-        Some(Reading {
-            kernel,
-            follower,
-            entries: Vec::new(alloc),
-            due: false,
-            ended: false,
-        })
+    /// What is read for the recorder of a kernel, which is to be given back.
+    pub(crate) fn take_scribe(&mut self, id: &str) -> Option<Scribe<L>> {
+        self.ends_of(id)?.scribe.take()
     }
 
-    /// Takes the follower for a recorder back. It is not lent again, since its kernel or its recorder has ended.
-    pub(crate) fn give_reading(&mut self, kernel: &str) {
-        if let Some(ends) = self.ends_of(kernel) {
-            ends.recording = false;
+    /// Takes back what is read for the recorder of a kernel.
+    pub(crate) fn give_scribe(&mut self, id: &str, scribe: Scribe<L>) {
+        if let Some(ends) = self.ends_of(id) {
+            ends.scribe = Some(scribe);
+        }
+    }
+
+    /// Whether the recorder of a kernel was told all that the kernel will ever show, or nothing is read for it.
+    pub(crate) fn is_read(&mut self, id: &str) -> bool {
+        match self.ends_of(id) {
+            Some(ends) => match &ends.scribe {
+                Some(scribe) => scribe.is_over(),
+                None => true,
+            },
+            None => true,
+        }
+    }
+
+    /// Whether a kernel is there.
+    pub(crate) fn is_there(&self, id: &str) -> bool {
+        self.place_of(id).is_some()
+    }
+
+    /// Reads for the recorder of a kernel no more.
+    pub(crate) fn end_reading(&mut self, id: &str) {
+        if let Some(ends) = self.ends_of(id) {
+            ends.scribe = None;
+        }
+    }
+
+    /// Reads no more for the recorders that are gone.
+    pub(crate) fn end_readings(&mut self, tables: &Tables) {
+        for (id, ends) in self.ids.iter().zip(self.ends.iter_mut()) {
+            if !tables.has_recorder(id.as_str()) {
+                ends.scribe = None;
+            }
         }
     }
 
