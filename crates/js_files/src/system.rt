@@ -55,7 +55,7 @@ fn kind_of(metadata: &fs::Metadata) -> Kind {
     if metadata.is_dir() {
         Kind::Folder
     } else if metadata.is_file() {
-        Kind::File
+        Kind::File(metadata.len())
     } else {
         Kind::Other
     }
@@ -107,12 +107,12 @@ fn keep_folder<R: Files>(rt: &R, path: &str) -> Result<(), DeviceFault> {
     }
 }
 
-// Whether an entry of a folder is a file or a folder.
+// Whether an entry of a folder is a file or a folder. What can't be told is neither.
 fn is_item<R: Files>(entry: &fs::DirEntry<R>) -> Result<bool, DeviceFault> {
     match entry.metadata() {
         Ok(metadata) => Ok(metadata.is_dir() || metadata.is_file()),
-        Err(error) if is_nothing(&error) => Ok(false),
-        Err(error) => Err(error.into()),
+        Err(error) if error.kind() == ErrorKind::OutOfMemory => Err(DeviceFault::Memory),
+        Err(_) => Ok(false),
     }
 }
 

@@ -2,7 +2,7 @@
 ghost use Rattle.std.specs.Prelude.{◌≡◌, None};
 ghost use Rattle.js_shelf.specs.Shelves.{HasCause};
 
-use js_shelf::{Item, MemoryShelf, Names, Shelf, ShelfRefusal};
+use js_shelf::{Item, ItemKind, MemoryShelf, Names, Shelf, ShelfRefusal};
 use std::alloc::{AllocError, Global};
 
 /// A shelf in memory, behind a device that fails at the call of number `fault`, counted from 1.
@@ -58,6 +58,15 @@ impl Shelf for FailingShelf {
             Err(ShelfRefusal::Device)
         } else {
             self.inner.get(path)
+        };
+        self.counted(outcome)
+    }
+
+    fn kind(&mut self, path: &str) -> Result<ItemKind, ShelfRefusal> {
+        let outcome = if self.fails() {
+            Err(ShelfRefusal::Device)
+        } else {
+            self.inner.kind(path)
         };
         self.counted(outcome)
     }
