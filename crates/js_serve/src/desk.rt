@@ -20,7 +20,7 @@ use std::random::RandomSource;
 use std::sync::Wait;
 use std::time::Clock;
 
-/// How many jobs may wait with no memory for more: the parsers of one kernel, and the thread of its recorder.
+/// How many jobs may wait with no memory for more: the threads of recorders.
 const ROOM: usize = 4;
 
 /// A kernel whose thread was given out, and the reply that waits for its ends.
@@ -296,15 +296,8 @@ where
             self.manager.running.drop_last();
             return false;
         };
-        let Opened {
-            seats,
-            followers,
-            workers,
-        } = opened;
-        for worker in workers {
-            let _ = self.jobs.push(Job::Parse(worker));
-        }
-        self.manager.running.take_ends(seats, followers)
+        self.manager.running.take_ends(opened);
+        true
     }
 
     /// Notes in the tables what the kernels have published. A kernel that was shut down is gone.
@@ -364,14 +357,15 @@ where
             return refused(ErrorStatus::InternalServerError);
         };
         match self.manager.running.take_place(id.as_str()) {
-            Some(place) => {
+            Ok(Some(place)) => {
                 let names = Names {
                     session: id,
                     id: name,
                 };
                 Reply::Channel(response, place, names)
             }
-            None => refused(ErrorStatus::ServiceUnavailable),
+            Ok(None) => refused(ErrorStatus::ServiceUnavailable),
+            Err(_) => refused(ErrorStatus::InternalServerError),
         }
     }
 }
