@@ -1,6 +1,9 @@
-//! A stream whose reads wait as long as its traffic allows.
+//! Streams with limits of time: one whose reads wait as long as its traffic allows, and one whose reads end by a deadline.
 #![tactic(auto)]
 
+mod calls;
+mod limited;
 mod paced;
 
+pub use limited::{Limited, end_of_answer};
 pub use paced::Paced;

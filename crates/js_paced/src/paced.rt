@@ -2,9 +2,10 @@
 
 ghost use Rattle.std.specs.Io.{ReadsAtMost};
 
+use crate::calls::{read_once, write_once};
 use std::cell::Cell;
 use std::io::{ErrorKind, Read, Write};
-use std::net::TcpStream;
+use std::net::{Shutdown, TcpStream};
 use std::time::{Clock, Duration};
 use std::{io, thread};
 
@@ -27,7 +28,10 @@ const LONG_WAIT: u64 = 20;
 /// A short read asks for what is there, and sleeps where that is nothing: for 50 microseconds at first, and longer the longer
 /// nothing was read or written, up to 2 milliseconds. A long read waits 20 milliseconds, and ends at once where something comes.
 /// Reads are short while the kernel is busy, and for some 50 milliseconds after something was read or written. The system's own
-/// limits are no finer than its clock's ticks.
+/// limits are no finer than its clock's ticks. A read that a signal interrupts has come to its time limit.
+///
+/// A write fails where the other side takes nothing for a time. From then on the stream is shut down, and it drops what is written:
+/// its reads give what had come before, and then its end.
 #[derive(Drop)]
 pub struct Paced<'s, R: Drop> {
     rt: R,
@@ -38,18 +42,23 @@ pub struct Paced<'s, R: Drop> {
     at_once: bool,
     /// How many microseconds reads have waited since something was read or written.
     waited: u64,
+    /// Whether a write has failed.
+    failed: bool,
 }
 
 impl<'s, R: Clock + Drop> Paced<'s, R> {
-    /// A stream on which something was just read, and whether its kernel is busy.
-    pub fn new(rt: R, stream: &'s TcpStream, busy: &'s Cell<bool>) -> Paced<'s, R> {
+    /// A stream on which something was just read, whether its kernel is busy, and for how many milliseconds the other side may
+    /// take nothing of a write.
+    pub fn new(rt: R, stream: &'s TcpStream, busy: &'s Cell<bool>, patience: u64) -> Paced<'s, R> {
         let _ = stream.set_read_timeout(Some(Duration::from_millis(LONG_WAIT)));
+        let _ = stream.set_write_timeout(Some(Duration::from_millis(patience)));
         Paced {
             rt,
             stream,
             busy,
             at_once: false,
             waited: 0,
+            failed: false,
         }
     }
 
@@ -62,18 +71,11 @@ impl<'s, R: Clock + Drop> Paced<'s, R> {
         Ok(())
     }
 
-    fn read_now(&self, buf: &mut [u8]) -> io::Result<usize>
-        ensures { ReadsAtMost result buf.new }
-    {
-        let mut reader = self.stream;
-        reader.read(buf)
-    }
-
     fn read_long(&mut self, buf: &mut [u8]) -> io::Result<usize>
         ensures { ReadsAtMost result buf.new }
     {
         self.answer_at_once(false)?;
-        let read = self.read_now(buf);
+        let read = read_once(self.stream, buf);
         self.note(&read, LONG_WAIT * 1_000);
         read
     }
@@ -82,7 +84,7 @@ impl<'s, R: Clock + Drop> Paced<'s, R> {
         ensures { ReadsAtMost result buf.new }
     {
         self.answer_at_once(true)?;
-        let read = self.read_now(buf);
+        let read = read_once(self.stream, buf);
         let wait = (self.waited / PART).max(SHORTEST).min(LONGEST);
         if is_empty(&read) {
             thread::sleep(&self.rt, Duration::from_micros(wait));
@@ -121,10 +123,19 @@ impl<R: Clock + Drop> Read for Paced<'_, R> {
 
 impl<R: Clock + Drop> Write for Paced<'_, R> {
     fn write(&mut self, buf: &[u8]) -> io::Result<usize> {
+        if self.failed {
+            return Ok(buf.len());
+        }
         self.answer_at_once(false)?;
         self.waited = 0;
-        let mut writer = self.stream;
-        writer.write(buf)
+        match write_once(self.stream, buf) {
+            Ok(count) => Ok(count),
+            Err(_) => {
+                self.failed = true;
+                let _ = self.stream.shutdown(Shutdown::Both);
+                Ok(buf.len())
+            }
+        }
     }
 
     fn flush(&mut self) -> io::Result<()> {

@@ -1,4 +1,4 @@
--- What a thread of the server is given may go to it, wherever a tree of the language may.
+-- What a thread of the server is given may go to it; the end of a parser, wherever a tree of the language may.
 use denote.Param.Send.{IsSend, sendable}
 use denote.Param.SendFields.{declared_send, variants_send}
 use denote.RattleType.{RattleType}
@@ -11,6 +11,7 @@ use Rattle.std.specs.contracts.net.tcp.TcpStream as TcpStream
 use Rattle.std.specs.contracts.sync.Arc as Arc
 use Rattle.std.specs.contracts.sync.atomic.AtomicBool as AtomicBool
 use Rattle.crossbeam_channel.specs.contracts.channel.Receiver as Receiver
+use Rattle.std.specs.contracts.sync.atomic.AtomicU64 as AtomicU64
 use Rattle.crossbeam_channel.specs.contracts.channel.Sender as Sender
 use Rattle.crossbeam_channel.proofs.channel.Receiver.TheSendSync as receiver
 use Rattle.crossbeam_channel.proofs.channel.Sender.TheSendSync as sender
@@ -21,18 +22,19 @@ use Rattle.js_http.proofs.response.Response.TheSendSync as response
 use Rattle.js_ws.proofs.names.Names.TheSendSync as names
 use Rattle.jk_queues.proofs.Crossing.{seat_send}
 use Rattle.jk_board.proofs.Crossing.{follower_send}
-use Rattle.jk_board.specs.contracts.board.Followers as Followers
 use Rattle.jk_log.proofs.job.ParsedCell.TheSendSync as parsed
 use Rattle.jk_log.specs.contracts.job.ParsedCell as ParsedCell
 use Rattle.jk_queues.proofs.pool.WorkerEnd.TheSendSync as end
-use Rattle.jk_queues.specs.contracts.inbox.Seats as Seats
 use Rattle.jk_queues.specs.contracts.pool.WorkerEnd as WorkerEnd
 use Rattle.js_serve.specs.contracts.call.Call as Call
 use Rattle.js_serve.specs.contracts.call.Place as Place
 use Rattle.js_serve.specs.contracts.call.Reply as Reply
+use Rattle.js_serve.specs.contracts.crowd.Guest as Guest
+use Rattle.js_serve.specs.contracts.crowd.Ticket as Ticket
 use Rattle.js_serve.specs.contracts.driving.Opened as Opened
 use Rattle.js_serve.specs.contracts.driving.Opening as Opening
 use Rattle.js_serve.specs.contracts.job.Job as Job
+use Rattle.js_serve.specs.contracts.kernels.Free as Free
 
 sender_send : (R : RattleType) → IsSend R → IsSend (Sender.the_row R Heap.the_row heap.ghosts)
 sender_send R sent = sender.the_send R Heap.the_row heap.ghosts sent send sync frees
@@ -49,6 +51,15 @@ listener_send = search (crosses, sendable) depth 60 fits 20000
 flag_send : IsSend (Arc.the_row AtomicBool.the_row Heap.the_row heap.ghosts)
 flag_send = search (crosses, sendable) depth 60 fits 20000
 
+count_send : IsSend (Arc.the_row AtomicU64.the_row Heap.the_row heap.ghosts)
+count_send = search (crosses, sendable) depth 60 fits 20000
+
+ticket_send : IsSend Ticket.the_row
+ticket_send = declared_send Ticket.the_type (count_send, tt)
+
+guest_send : IsSend Guest.the_row
+guest_send = declared_send Guest.the_type (tcp_send, (ticket_send, tt))
+
 pub place_send : (L S T M : RattleType) (g : language.Ghosts L.Denot S.Denot T.Denot M.Denot) → IsSend (Place.the_row L S T M g)
 place_send L S T M g = declared_send (Place.the_type L S T M g) (text.the_send, (seat_send, (follower_send L S T M g, tt)))
 
@@ -57,37 +68,34 @@ reply_send L S T M g = variants_send (Reply.enum L S T M g) ((response.the_send,
 
 call_send : (L S T M : RattleType) (g : language.Ghosts L.Denot S.Denot T.Denot M.Denot) → IsSend (Call.the_row L S T M g)
 call_send L S T M g = variants_send (Call.enum L S T M g) (
-  (tcp_send, tt),
+  (guest_send, tt),
   (
     (request.the_send, (sender_send (Reply.the_row L S T M g) (reply_send L S T M g), tt)),
     ((place_send L S T M g, tt), (tt, tt)),
   ),
 )
 
-seats_send : IsSend Seats.the_row
-seats_send = declared_send Seats.the_type (seat_send, (seat_send, (seat_send, (seat_send, (seat_send, (seat_send, (seat_send, (seat_send, tt))))))))
+free_send : (L S T M : RattleType) (g : language.Ghosts L.Denot S.Denot T.Denot M.Denot) → IsSend (Free.the_row L S T M g)
+free_send L S T M g = declared_send (Free.the_type L S T M g) (seat_send, (follower_send L S T M g, tt))
 
-followers_send : (L S T M : RattleType) (g : language.Ghosts L.Denot S.Denot T.Denot M.Denot) → IsSend (Followers.the_row L S T M g)
-followers_send L S T M g =
+opened_send : (L S T M : RattleType) (g : language.Ghosts L.Denot S.Denot T.Denot M.Denot) → IsSend (Opened.the_row L S T M g)
+opened_send L S T M g =
     let f = follower_send L S T M g in
-    declared_send (Followers.the_type L S T M g) (f, (f, (f, (f, (f, (f, (f, (f, (f, tt)))))))))
+    declared_send (Opened.the_type L S T M g) (seat_send, (f, (f, (Vec-send _ (free_send L S T M g), tt))))
 
-worker_send : (L S T M : RattleType) (g : language.Ghosts L.Denot S.Denot T.Denot M.Denot) → IsSend T → IsSend (WorkerEnd.the_row (ParsedCell.the_row L S T M g))
+opening_send : (L S T M : RattleType) (g : language.Ghosts L.Denot S.Denot T.Denot M.Denot) → IsSend (Opening.the_row L S T M g)
+opening_send L S T M g = declared_send (Opening.the_type L S T M g) (sender_send (Opened.the_row L S T M g) (opened_send L S T M g), (flag_send, tt))
+
+pub worker_send : (L S T M : RattleType) (g : language.Ghosts L.Denot S.Denot T.Denot M.Denot) → IsSend T → IsSend (WorkerEnd.the_row (ParsedCell.the_row L S T M g))
 worker_send L S T M g tree = end.the_send _ (parsed.the_send L S T M g tree)
 
-opened_send : (L S T M : RattleType) (g : language.Ghosts L.Denot S.Denot T.Denot M.Denot) → IsSend T → IsSend (Opened.the_row L S T M g)
-opened_send L S T M g tree = declared_send (Opened.the_type L S T M g) (seats_send, (followers_send L S T M g, (Vec-send _ (worker_send L S T M g tree), tt)))
-
-opening_send : (L S T M : RattleType) (g : language.Ghosts L.Denot S.Denot T.Denot M.Denot) → IsSend T → IsSend (Opening.the_row L S T M g)
-opening_send L S T M g tree = declared_send (Opening.the_type L S T M g) (sender_send (Opened.the_row L S T M g) (opened_send L S T M g tree), (flag_send, tt))
-
-pub job_send : (L S T M : RattleType) (g : language.Ghosts L.Denot S.Denot T.Denot M.Denot) → IsSend T → IsSend (Job.the_row L S T M g)
-job_send L S T M g tree =
+pub job_send : (L S T M : RattleType) (g : language.Ghosts L.Denot S.Denot T.Denot M.Denot) → IsSend (Job.the_row L S T M g)
+job_send L S T M g =
     let calls = sender_send (Call.the_row L S T M g) (call_send L S T M g) in
     variants_send (Job.enum L S T M g) (
       (listener_send, (calls, tt)),
       (
-        (tcp_send, (calls, tt)),
-        ((opening_send L S T M g tree, tt), ((worker_send L S T M g tree, tt), ((calls, (pauses_send, tt)), tt))),
+        (guest_send, (calls, tt)),
+        ((opening_send L S T M g, tt), ((calls, (pauses_send, tt)), tt)),
       ),
     )

@@ -1,5 +1,6 @@
 //! What threads tell the desk, and what it answers.
 
+use crate::crowd::Guest;
 use crossbeam_channel::Sender;
 use jk_board::Follower;
 use jk_language::Language;
@@ -7,7 +8,6 @@ use jk_queues::Seat;
 use js_http::{Request, Response};
 use js_ws::Names;
 use json_form::Text;
-use std::net::TcpStream;
 
 /// A seat of a kernel and its follower, which are lent to one connection at a time.
 #[derive(Drop)]
@@ -30,7 +30,7 @@ pub enum Reply<L: Language> {
 #[derive(Drop)]
 pub enum Call<L: Language> {
     /// A connection was accepted.
-    Accepted(TcpStream),
+    Accepted(Guest),
     /// A request was read. Its reply goes to the sender.
     Asked(Request, Sender<Reply<L>>),
     /// A channel was closed, and gives its place back.

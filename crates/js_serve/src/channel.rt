@@ -2,6 +2,7 @@
 
 use crate::call::{Call, Place};
 use crate::clock::date_now;
+use crate::telling::tell;
 use crossbeam_channel::Sender;
 use jk_language::Language;
 use js_paced::Paced;
@@ -16,11 +17,18 @@ use std::time::{Clock, Duration};
 /// How many milliseconds a channel waits where the inbox has no room, or where no date can be had.
 const PAUSE: u64 = 1;
 
+/// The stream of a channel, and for how many milliseconds the other side may take nothing of what is written to it.
+#[derive(Clone, Copy)]
+pub(crate) struct Line<'s> {
+    pub(crate) stream: &'s TcpStream,
+    pub(crate) patience: u64,
+}
+
 /// Makes turns of a channel until it is closed, and then gives its place back.
 pub(crate) fn serve_channel<L: Language, R: Wait + Clock + Copy + Drop>(
     rt: &R,
     alloc: Global,
-    stream: &TcpStream,
+    line: Line<'_>,
     calls: &Sender<Call<L>>,
     place: Place<L>,
     names: Names,
@@ -31,7 +39,7 @@ pub(crate) fn serve_channel<L: Language, R: Wait + Clock + Copy + Drop>(
         follower,
     } = place;
     let busy = Cell::new(false);
-    let paced = Paced::new(*rt, stream, &busy);
+    let paced = Paced::new(*rt, line.stream, &busy, line.patience);
     let channel = Channel::new(alloc, paced, names, seat, follower);
     let channel = run(rt, alloc, &busy, channel);
     let (seat, follower) = channel.into_ends();
@@ -40,7 +48,7 @@ pub(crate) fn serve_channel<L: Language, R: Wait + Clock + Copy + Drop>(
         seat,
         follower,
     };
-    let _ = calls.send(rt, Call::Back(place));
+    let _ = tell(rt, calls, Call::Back(place));
 }
 
 /// Makes turns until the channel is closed, and notes after each whether the kernel is busy.

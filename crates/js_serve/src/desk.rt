@@ -23,7 +23,7 @@ use std::random::RandomSource;
 use std::sync::Wait;
 use std::time::{Clock, Instant};
 
-/// How many jobs may wait with no memory for more: the parsers of one kernel, and the thread that calls for recorders.
+/// How many jobs may wait with no memory for more: the thread that calls for recorders, and some more.
 const ROOM: usize = 4;
 
 /// How often a kernel's follower is read before a request on its notebook is answered, at most: 262,144 entries.
@@ -516,15 +516,8 @@ where
             self.manager.running.drop_last();
             return false;
         };
-        let Opened {
-            seats,
-            followers,
-            workers,
-        } = opened;
-        for worker in workers {
-            let _ = self.jobs.push(Job::Parse(worker));
-        }
-        self.manager.running.take_ends(seats, followers)
+        self.manager.running.take_ends(opened);
+        true
     }
 
     /// Notes in the tables what the kernels have published. A kernel that was shut down is gone.
@@ -589,14 +582,15 @@ where
             return refused(ErrorStatus::InternalServerError);
         };
         match self.manager.running.take_place(id.as_str()) {
-            Some(place) => {
+            Ok(Some(place)) => {
                 let names = Names {
                     session: id,
                     id: name,
                 };
                 Reply::Channel(response, place, names)
             }
-            None => refused(ErrorStatus::ServiceUnavailable),
+            Ok(None) => refused(ErrorStatus::ServiceUnavailable),
+            Err(_) => refused(ErrorStatus::InternalServerError),
         }
     }
 }

@@ -2,14 +2,15 @@
 ghost use Rattle.std.specs.Prelude.{◌≡◌, [], IfOk};
 ghost use Rattle.jk_core.specs.State.{fresh};
 ghost use Rattle.jk_queues.specs.Ends.{taken_by};
-ghost use Rattle.jk_board.specs.Ends.{published};
 
+use crate::job::Host;
+use crate::kernels::{Free, free_of};
 use crossbeam_channel::Sender;
-use jk_board::{Board, Followers, Publisher};
+use jk_board::{Board, Follower, Followers};
 use jk_core::Kernel;
 use jk_language::Language;
 use jk_log::ParsedCell;
-use jk_queues::{Inbox, Pool, Seats, Taker, WorkerEnd};
+use jk_queues::{Inbox, Pool, Seat, Seats, Taker, WorkerEnd};
 use jk_run::{Driver, Parts, drive};
 use std::alloc::{AllocError, Global};
 use std::sync::atomic::{AtomicBool, Ordering};
@@ -32,45 +33,92 @@ pub struct Opening<L: Language> {
     pub left: Arc<AtomicBool, Global>,
 }
 
-/// The ends of a new kernel that others hold: its seats, its followers, and its parsers.
+/// The ends of a new kernel that the desk holds.
 #[derive(Drop)]
 pub struct Opened<L: Language> {
-    pub seats: Seats,
-    pub followers: Followers<L>,
-    pub workers: Vec<WorkerEnd<ParsedCell<L>>>,
+    /// Seat 0.
+    pub zero: Seat,
+    /// The follower of seat 0.
+    pub watch: Follower<L>,
+    /// The follower for a recorder.
+    pub recorder: Follower<L>,
+    /// The seats that are lent, with their followers; the last one is lent first.
+    pub free: Vec<Free<L>>,
 }
 
-/// A new kernel with the ends of its driver but for the publisher, and the seats and parsers.
+/// A new kernel with the ends of its driver but for the publisher, and the ends of others.
 #[derive(Drop)]
 struct Made<L: Language> {
     kernel: Kernel<L>,
     taker: Taker,
     pool: Pool<ParsedCell<L>>,
-    seats: Seats,
     workers: Vec<WorkerEnd<ParsedCell<L>>>,
+    opened: Opened<L>,
 }
 
-fn make<L: Language>(alloc: Global) -> Result<Made<L>, AllocError>
+fn make<L: Language>(alloc: Global, followers: Followers<L>) -> Result<Made<L>, AllocError>
     ensures kernel { IfOk result (λ made. made.kernel ≡ fresh) }
     ensures taker { IfOk result (λ made. taken_by made.taker ≡ []) }
 {
     let Inbox { taker, seats } = Inbox::new(alloc)?;
     let (pool, workers) = Pool::<ParsedCell<L>>::new(alloc, WORKERS)?;
     let kernel = Kernel::<L>::new(alloc)?;
+    let opened = ends_of(alloc, seats, followers)?;
     Ok(Made {
         kernel,
         taker,
         pool,
-        seats,
         workers,
+        opened,
+    })
+}
+
+/// The ends that the desk holds. There is memory for all of them before anything is handed out.
+fn ends_of<L: Language>(
+    alloc: Global,
+    seats: Seats,
+    followers: Followers<L>,
+) -> Result<Opened<L>, AllocError> {
+    let Seats {
+        zero,
+        one,
+        two,
+        three,
+        four,
+        five,
+        six,
+        seven,
+    } = seats;
+    let Followers {
+        zero: watch,
+        one: first,
+        two: second,
+        three: third,
+        four: fourth,
+        five: fifth,
+        six: sixth,
+        seven: seventh,
+        recorder,
+    } = followers;
+    let free = free_of(
+        alloc,
+        [seven, six, five, four, three, two, one],
+        [seventh, sixth, fifth, fourth, third, second, first],
+    )?;
+    Ok(Opened {
+        zero,
+        watch,
+        recorder,
+        free,
     })
 }
 
 /// Makes a kernel, hands out the ends of others, and drives it until it was shut down and nobody follows it any more. Where
-/// memory is refused nothing is handed out.
-pub(crate) fn drive_kernel<L: Language, R: Wait + Clock>(
+/// memory or a thread of its parsers is refused nothing is handed out.
+pub(crate) fn drive_kernel<L: Language, R: Wait + Clock, H: Host<L>>(
     rt: &R,
     alloc: Global,
+    host: &H,
     opening: Opening<L>,
 ) {
     let Ok(
@@ -82,39 +130,48 @@ pub(crate) fn drive_kernel<L: Language, R: Wait + Clock>(
     else {
         return;
     };
-    match make::<L>(alloc) {
-        Ok(made) => run(rt, alloc, opening, made, publisher, followers),
-        Err(_) => publisher.end(rt),
-    }
-}
-
-fn run<L: Language, R: Wait + Clock>(
-    rt: &R,
-    alloc: Global,
-    opening: Opening<L>,
-    made: Made<L>,
-    publisher: Publisher<L>,
-    followers: Followers<L>,
-)
-    requires kernel { made.kernel ≡ fresh }
-    requires taker { taken_by made.taker ≡ [] }
-    requires publisher { published publisher ≡ [] }
-{
+    let Ok(made) = make::<L>(alloc, followers) else {
+        publisher.end(rt);
+        return;
+    };
     let Made {
         kernel,
         taker,
         pool,
-        seats,
         workers,
+        opened,
     } = made;
-    let Opening { opened, left } = opening;
-    let others = Opened {
-        seats,
-        followers,
-        workers,
-    };
     let driver = Driver::new(alloc, kernel, taker, pool, publisher);
-    let _ = opened.send(rt, others);
+    if start_parsers(host, workers) {
+        run(rt, opening, opened, driver);
+    } else {
+        drop((opening, opened));
+        finish(rt, driver);
+    }
+}
+
+/// Starts the parsers of a kernel. It says whether all have a thread.
+fn start_parsers<L: Language, H: Host<L>>(
+    host: &H,
+    workers: Vec<WorkerEnd<ParsedCell<L>>>,
+) -> bool {
+    for worker in workers {
+        if !host.start_parser(worker) {
+            return false;
+        }
+    }
+    true
+}
+
+/// Hands out the ends of others, and drives the kernel.
+fn run<L: Language, R: Wait + Clock>(
+    rt: &R,
+    opening: Opening<L>,
+    ends: Opened<L>,
+    driver: Driver<L>,
+) {
+    let Opening { opened, left } = opening;
+    let _ = opened.send(rt, ends);
     drop(opened);
     let driver = drive(rt, driver);
     wait_until(rt, &left);
@@ -131,17 +188,18 @@ fn wait_until<R: Wait + Clock>(rt: &R, left: &AtomicBool) {
     }
 }
 
-/// Takes the driver apart, and ends the board.
+/// Takes the driver apart, stops its parsers and ends the board.
 fn finish<L: Language, R: Wait>(rt: &R, driver: Driver<L>) {
     let Parts {
         kernel,
         taker,
-        pool,
+        mut pool,
         publisher,
         arrival,
         job,
         entries,
     } = driver.into_parts();
+    pool.stop(rt);
     publisher.end(rt);
     drop((kernel, taker, pool, arrival, job, entries));
 }

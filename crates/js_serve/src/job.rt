@@ -2,14 +2,16 @@
 
 use crate::call::Call;
 use crate::connection::{accept_all, serve_connection};
+use crate::crowd::Guest;
 use crate::driving::{Opening, drive_kernel};
+use crate::limits::Limits;
 use crate::pulse::pulse;
 use crossbeam_channel::{Receiver, Sender};
 use jk_language::Language;
 use jk_log::ParsedCell;
 use jk_queues::{Gate, WorkerEnd, worker};
 use std::alloc::Global;
-use std::net::{TcpListener, TcpStream};
+use std::net::TcpListener;
 use std::sync::Wait;
 use std::time::Clock;
 
@@ -19,11 +21,9 @@ pub enum Job<L: Language> {
     /// Accepts connections.
     Accept(TcpListener, Sender<Call<L>>),
     /// Serves one connection.
-    Connection(TcpStream, Sender<Call<L>>),
+    Connection(Guest, Sender<Call<L>>),
     /// Drives one kernel, which it makes.
     Drive(Opening<L>),
-    /// Parses the cells of one kernel.
-    Parse(WorkerEnd<ParsedCell<L>>),
     /// Calls the desk after each pause that it says, so that it reads for recorders.
     Pulse(Sender<Call<L>>, Receiver<u64>),
 }
@@ -38,13 +38,32 @@ impl Gate for Open {
     fn after(&self, _job: u64) {}
 }
 
+/// The end of a kernel's parser.
+pub type Parser<L> = WorkerEnd<ParsedCell<L>>;
+
+/// What the program does for the threads of the server, since there the language is known.
+pub trait Host<L: Language> {
+    /// Starts a thread that parses the cells of a kernel, by `parse`. It says whether there is one.
+    fn start_parser(&self, end: Parser<L>) -> bool;
+}
+
+/// Parses the cells of one kernel until its driver stops.
+pub fn parse<L: Language, R: Wait + Clock>(rt: &R, alloc: Global, end: WorkerEnd<ParsedCell<L>>) {
+    drop(worker::<L, R, Open>(rt, alloc, &Open, end));
+}
+
 /// Does a job.
-pub fn work<L: Language, R: Wait + Clock + Copy + Drop>(rt: &R, alloc: Global, job: Job<L>) {
+pub fn work<L: Language, R: Wait + Clock + Copy + Drop, H: Host<L>>(
+    rt: &R,
+    alloc: Global,
+    limits: Limits,
+    host: &H,
+    job: Job<L>,
+) {
     match job {
-        Job::Accept(listener, calls) => accept_all(rt, &listener, &calls),
-        Job::Connection(stream, calls) => serve_connection(rt, alloc, &stream, &calls),
-        Job::Drive(opening) => drive_kernel(rt, alloc, opening),
-        Job::Parse(end) => drop(worker::<L, R, Open>(rt, alloc, &Open, end)),
+        Job::Accept(listener, calls) => accept_all(rt, alloc, limits, &listener, &calls),
+        Job::Connection(guest, calls) => serve_connection(rt, alloc, limits, guest, &calls),
+        Job::Drive(opening) => drive_kernel(rt, alloc, host, opening),
         Job::Pulse(calls, pauses) => pulse(rt, &calls, &pauses),
     }
 }

@@ -1,15 +1,15 @@
 //! The kernels that run, as the desk holds them.
-ghost use Rattle.std.specs.Prelude.{◌≡◌, ◌++◌, ◌∷◌, [], OnOk, OnErr};
+ghost use Rattle.std.specs.Prelude.{◌≡◌, ◌++◌, ◌∷◌, [], OnOk, OnErr, Some};
 
 use crate::call::Place;
 use crate::driving::{Opened, Opening};
 use crate::recording::Scribe;
 use crate::watch::Watch;
 use crossbeam_channel::{Receiver, bounded};
-use jk_board::{Follower, Followers};
+use jk_board::Follower;
 use jk_language::Language;
 use jk_log::{Arrival, What};
-use jk_queues::{Seat, Seats};
+use jk_queues::Seat;
 use jp_msg::read_message;
 use js_rest::{Running, Untold};
 use js_tables::{Command, Kernel as Row, Tables};
@@ -31,7 +31,7 @@ const SHUTDOWN: &str =
 
 /// A seat that is not lent, and its follower.
 #[derive(Drop)]
-struct Free<L: Language> {
+pub struct Free<L: Language> {
     seat: Seat,
     follower: Follower<L>,
 }
@@ -104,7 +104,7 @@ fn submit<R: Wait>(rt: &R, seat: Seat, what: What) -> (Seat, bool) {
 }
 
 /// The seats that are lent, with their followers; the last one is lent first.
-fn free_of<L: Language>(
+pub(crate) fn free_of<L: Language>(
     alloc: Global,
     seats: [Seat; 7],
     followers: [Follower<L>; 7],
@@ -152,42 +152,19 @@ impl<L: Language> Ends<L> {
     }
 
     /// Takes the ends that the kernel's thread handed out.
-    fn take(
-        &mut self,
-        alloc: Global,
-        seats: Seats,
-        followers: Followers<L>,
-    ) -> Result<(), AllocError> {
-        let Seats {
+    fn take(&mut self, opened: Opened<L>)
+        ensures { self.new.zero ≡ Some opened.zero }
+    {
+        let Opened {
             zero,
-            one,
-            two,
-            three,
-            four,
-            five,
-            six,
-            seven,
-        } = seats;
-        let Followers {
-            zero: watch,
-            one: first,
-            two: second,
-            three: third,
-            four: fourth,
-            five: fifth,
-            six: sixth,
-            seven: seventh,
+            watch,
             recorder,
-        } = followers;
-        self.free = free_of(
-            alloc,
-            [seven, six, five, four, three, two, one],
-            [seventh, sixth, fifth, fourth, third, second, first],
-        )?;
+            free,
+        } = opened;
         self.zero = Some(zero);
         self.watch = Some(Watch::new(watch));
         self.recorder = Some(recorder);
-        Ok(())
+        self.free = free;
     }
 
     /// Sends a message from seat 0. It says whether the inbox had room.
@@ -342,15 +319,11 @@ impl<R: Wait + Drop, L: Language> Kernels<R, L> {
         self.unopened.take()
     }
 
-    /// Takes the ends of the kernel that was made last. It says whether that worked; where it did not, the kernel is gone.
-    pub(crate) fn take_ends(&mut self, seats: Seats, followers: Followers<L>) -> bool {
+    /// Takes the ends of the kernel that was made last.
+    pub(crate) fn take_ends(&mut self, opened: Opened<L>) {
         if let Some(ends) = self.ends.last_mut() {
-            if ends.take(self.alloc, seats, followers).is_ok() {
-                return true;
-            }
+            ends.take(opened);
         }
-        self.drop_last();
-        false
     }
 
     /// Lets go of the kernel that was made last.
@@ -366,16 +339,23 @@ impl<R: Wait + Drop, L: Language> Kernels<R, L> {
         }
     }
 
-    /// Lends a seat of a kernel. There is none where all are lent, or memory is refused.
-    pub(crate) fn take_place(&mut self, id: &str) -> Option<Place<L>> {
-        let kernel = Text::from_str(self.alloc, id).ok()?;
-        let free = self.ends_of(id)?.lend()?;
-        let Free { seat, follower } = free;
-        Some(Place {
+    /// Lends a seat of a kernel. There is none where all are lent.
+    ///
+    /// # Errors
+    /// Where memory is refused.
+    pub(crate) fn take_place(&mut self, id: &str) -> Result<Option<Place<L>>, AllocError> {
+        let kernel = Text::from_str(self.alloc, id)?;
+        let Some(ends) = self.ends_of(id) else {
+            return Ok(None);
+        };
+        let Some(Free { seat, follower }) = ends.lend() else {
+            return Ok(None);
+        };
+        Ok(Some(Place {
             kernel,
             seat,
             follower,
-        })
+        }))
     }
 
     /// Takes a seat back.

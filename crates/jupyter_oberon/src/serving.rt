@@ -1,7 +1,7 @@
 //! The program as a server.
 
 use js_files::FileShelf;
-use js_serve::{Desk, Job, work};
+use js_serve::{Desk, Host, Job, Limits, Parser, parse, work};
 use ob_language::Oberon;
 use std::alloc::Global;
 use std::io::Write;
@@ -16,14 +16,38 @@ use std::{fs, io, thread};
 /// The stack of each thread. A cell is read some hundred calls deep.
 const STACK: usize = 8 * 1024 * 1024;
 
+/// What starts the parsers of kernels.
+#[derive(Clone, Copy, Drop)]
+struct Crew<R> {
+    rt: R,
+    alloc: Global,
+}
+
+impl<R> Host<Oberon> for Crew<R>
+where
+    R: Threads + Wait + Clock + Copy + Drop + Send + 'static,
+{
+    fn start_parser(&self, end: Parser<Oberon>) -> bool {
+        let Crew { rt, alloc } = *self;
+        thread::Builder::new()
+            .stack_size(STACK)
+            .spawn(&rt, move || parse::<Oberon, R>(&rt, alloc, end))
+            .is_ok()
+    }
+}
+
 /// Starts a thread that does a job. It says whether there is one.
 fn start<R>(rt: R, alloc: Global, job: Job<Oberon>) -> bool
 where
     R: Threads + Wait + Clock + Copy + Drop + Send + 'static,
 {
+    let limits = Limits::usual();
     thread::Builder::new()
         .stack_size(STACK)
-        .spawn(&rt, move || work::<Oberon, R>(&rt, alloc, job))
+        .spawn(&rt, move || {
+            let crew = Crew { rt, alloc };
+            work::<Oberon, R, Crew<R>>(&rt, alloc, limits, &crew, job)
+        })
         .is_ok()
 }
 
@@ -54,17 +78,19 @@ pub(crate) enum Unserved {
     Device,
 }
 
-/// Binds a port of 127.0.0.1, and tells so.
-fn listen<R, W>(rt: &R, alloc: Global, output: &mut W, port: u16) -> io::Result<TcpListener>
+/// Binds a port of 127.0.0.1.
+fn listen<R>(rt: &R, alloc: Global, port: u16) -> io::Result<TcpListener>
 where
     R: Net<Listener = TcpListener, Stream = TcpStream>,
-    W: Write,
 {
     let address = format!(in alloc; "127.0.0.1:{port}")?;
-    let listener = TcpListener::bind(rt, address.as_str())?;
-    write!(output, "listening on {address}\n")?;
-    output.flush()?;
-    Ok(listener)
+    TcpListener::bind(rt, address.as_str())
+}
+
+/// Says that connections are accepted.
+fn announce<W: Write>(output: &mut W, port: u16) -> io::Result<()> {
+    write!(output, "listening on 127.0.0.1:{port}\n")?;
+    output.flush()
 }
 
 /// Serves the folder of the system at `root` on a port of 127.0.0.1. It comes back only where that fails.
@@ -95,12 +121,23 @@ where
     let Ok(shelf) = FileShelf::new(rt, root) else {
         return Unserved::Memory;
     };
-    let Ok(listener) = listen(&rt, alloc, output, port) else {
+    let Ok(listener) = listen(&rt, alloc, port) else {
         return Unserved::Device;
     };
     let Some(mut desk) = Desk::<Oberon, _, _>::new(rt, alloc, listener, shelf) else {
         return Unserved::Memory;
     };
+    // The first job is that of the acceptor.
+    let accepts = match desk.next() {
+        Some(job) => start(rt, alloc, job),
+        None => false,
+    };
+    if !accepts {
+        return Unserved::Memory;
+    }
+    if announce(output, port).is_err() {
+        return Unserved::Device;
+    }
     for _ in rt.forever() {
         if let Some(job) = desk.next() {
             let _ = start(rt, alloc, job);

@@ -7,6 +7,8 @@ mod client;
 mod commands;
 pub mod crew;
 #[cfg(test)]
+mod limits;
+#[cfg(test)]
 mod losses;
 #[cfg(test)]
 mod notebooks;

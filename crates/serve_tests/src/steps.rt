@@ -1,7 +1,7 @@
 //! Tests as rows of steps.
 
-use crate::client::{connect, drip, head, message, rest, send};
-use crate::crew::begin;
+use crate::client::{NOTHING, connect, drip, head, message, rest, send};
+use crate::crew::{Manner, begin};
 use std::alloc::{AllocError, Global};
 use std::io::{ErrorKind, Write};
 use std::net::{Net, Shutdown, SocketAddr, TcpListener, TcpStream};
@@ -16,6 +16,9 @@ use std::{io, thread};
 const TRIES: u32 = 400;
 
 const PAUSE: u64 = 25;
+
+/// How many bytes of a request's body are sent at once, and how many letters a long identifier has.
+const PART: usize = 60_000;
 
 /// What a client does, and what must come of it. A text is like another that has its parts, which `*` divides, in their order.
 /// In what is sent the first `@` stands for the identifier that was noted last.
@@ -39,6 +42,12 @@ pub enum Step {
     Begins(&'static str),
     /// A connection sends this, byte by byte, and then no more. What came of it is like this.
     Ends(usize, &'static str, &'static str),
+    /// A connection sends this, byte by byte and slowly, as long as anybody takes it. What came of it is like this.
+    Drips(usize, &'static str, &'static str),
+    /// A new connection sends this and then so many parts of 60,000 bytes, and what came of it is like this.
+    Pours(&'static str, usize, &'static str),
+    /// A screen sends so many cells whose identifiers have 60,000 letters one after the other, and reads all that comes of them.
+    Floods(usize, usize),
 }
 
 /// What a client has.
@@ -193,6 +202,61 @@ impl Client {
         Ok(())
     }
 
+    /// What comes of a request that is sent with pauses.
+    fn drip<R: Clock>(
+        &mut self,
+        rt: &R,
+        place: usize,
+        text: &str,
+        parts: &str,
+    ) -> io::Result<Option<String>> {
+        let mut stream = self.take(place)?;
+        for byte in text.bytes() {
+            if stream.write_all(&[byte]).is_err() {
+                break;
+            }
+            thread::sleep(rt, Duration::from_millis(PAUSE));
+        }
+        match rest(self.alloc, &mut stream) {
+            Ok(text) => Ok(unlike(text, parts)),
+            Err(_) => Ok(unlike(String::from_str(self.alloc, NOTHING)?, parts)),
+        }
+    }
+
+    /// What comes of a head and a long body.
+    fn pour(
+        &self,
+        stream: TcpStream,
+        head: &str,
+        count: usize,
+        parts: &str,
+    ) -> io::Result<Option<String>> {
+        let mut stream = stream;
+        stream.write_all(head.as_bytes())?;
+        for _ in 0..count {
+            stream.write_all(&[b' '; PART])?;
+        }
+        Ok(unlike(rest(self.alloc, &mut stream)?, parts))
+    }
+
+    /// Sends cells whose identifier is long, and reads until the kernel is idle after each.
+    fn flood(&mut self, place: usize, count: usize) -> io::Result<()> {
+        let letters = vec![in self.alloc; b'f'; PART]?;
+        let Ok(id) = String::from_utf8(letters) else {
+            return Err(ErrorKind::InvalidData.into());
+        };
+        for _ in 0..count {
+            self.tell(place, id.as_str(), "execute_request", "{\"code\":\"4\"}")?;
+            for _ in 0..10 {
+                let text = message(self.alloc, self.stream(place)?)?;
+                if is_like(text.as_str(), "\"execution_state\":\"idle\"") {
+                    break;
+                }
+            }
+        }
+        Ok(())
+    }
+
     /// The last answer, where it is not like this.
     fn unlike(&self, parts: &str) -> io::Result<Option<String>> {
         let text = String::from_str(self.alloc, self.answer.as_str())?;
@@ -215,18 +279,21 @@ impl Client {
                 self.begin(stream, text)?;
                 Ok(None)
             }
+            Step::Pours(head, count, parts) => self.pour(stream, head, *count, parts),
             _ => Ok(None),
         }
     }
 
     /// A step over what is kept. The answer is what was found in place of what must come.
-    fn go_on(&mut self, step: &Step) -> io::Result<Option<String>> {
+    fn go_on<R: Clock>(&mut self, rt: &R, step: &Step) -> io::Result<Option<String>> {
         match step {
             Step::Notes(mark) => self.note(mark)?,
             Step::Sends(place, id, kind, content) => self.tell(*place, id, kind, content)?,
             Step::Leaves(place) => drop(self.take(*place)?),
             Step::Sees(place, wanted) => return self.see(*place, wanted),
             Step::Ends(place, text, parts) => return self.end(*place, text, parts),
+            Step::Drips(place, text, parts) => return self.drip(rt, *place, text, parts),
+            Step::Floods(place, count) => self.flood(*place, *count)?,
             _ => {}
         }
         Ok(None)
@@ -241,13 +308,12 @@ fn make<R>(
     step: &Step,
 ) -> io::Result<Option<String>>
 where
-    R: Net<Stream = TcpStream>,
+    R: Net<Stream = TcpStream> + Clock,
 {
     match step {
-        Step::Asks(..) | Step::Waits(..) | Step::Opens(..) | Step::Begins(..) => {
-            client.meet(step, connect(rt, address)?)
-        }
-        _ => client.go_on(step),
+        Step::Asks(..) | Step::Waits(..) | Step::Opens(..) | Step::Begins(..) | Step::Pours(..) =>
+            client.meet(step, connect(rt, address)?),
+        _ => client.go_on(rt, step),
     }
 }
 
@@ -283,7 +349,16 @@ where
     R: Threads + Wait + Clock + RandomSource + Net<Listener = TcpListener, Stream = TcpStream>,
     R: Copy + Drop + Send + 'static,
 {
-    let address = begin(rt, alloc)?;
+    play_in(rt, alloc, Manner::usual(), steps)
+}
+
+/// Does the steps of a client of a new server that is run like this.
+pub fn play_in<R>(rt: R, alloc: Global, manner: Manner, steps: &[Step]) -> Result<(), Fail>
+where
+    R: Threads + Wait + Clock + RandomSource + Net<Listener = TcpListener, Stream = TcpStream>,
+    R: Copy + Drop + Send + 'static,
+{
+    let address = begin(rt, alloc, manner)?;
     let mut client = Client::new(alloc);
     for (place, step) in steps.iter().enumerate() {
         match make_in_time(&rt, address, &mut client, step) {

@@ -1,0 +1,84 @@
+//! How many connections have a thread.
+ghost use Rattle.std.specs.Prelude.{◌≤◌, vec_len};
+
+use std::alloc::{AllocError, Global};
+use std::net::TcpStream;
+use std::sync::Arc;
+use std::sync::atomic::{AtomicU64, Ordering};
+
+/// The count of the connections that have a thread, and how many may have one.
+#[derive(Drop)]
+pub(crate) struct Crowd {
+    count: Arc<AtomicU64, Global>,
+    most: u64,
+}
+
+/// One connection of a crowd. It has left where this is dropped.
+pub struct Ticket {
+    count: Arc<AtomicU64, Global>,
+}
+
+impl Drop for Ticket {
+    fn drop(self) {
+        self.count.fetch_sub(1, Ordering::SeqCst);
+        let Ticket { count: _ } = self;
+    }
+}
+
+/// A connection that was accepted.
+#[derive(Drop)]
+pub struct Guest {
+    pub(crate) stream: TcpStream,
+    pub(crate) ticket: Ticket,
+}
+
+impl Crowd {
+    /// Nobody is there, and so many may be.
+    pub(crate) fn new(alloc: Global, most: u64) -> Result<Crowd, AllocError> {
+        Ok(Crowd {
+            count: Arc::new(alloc, AtomicU64::new(0))?,
+            most,
+        })
+    }
+
+    /// Lets one more in, where there is room.
+    pub(crate) fn enter(&self) -> Option<Ticket> {
+        if self.count.load(Ordering::SeqCst) >= self.most {
+            return None;
+        }
+        let count = Arc::try_clone(&self.count).ok()?;
+        self.count.fetch_add(1, Ordering::SeqCst);
+        Some(Ticket { count })
+    }
+}
+
+/// How many connections that were turned away are kept.
+const KEPT: usize = 64;
+
+/// The last connections that were turned away. Each was answered, and what is written to it has ended; were it closed at once, the
+/// system would take the answer back from whoever still sends a request.
+#[derive(Drop)]
+pub(crate) struct Turned {
+    streams: Vec<TcpStream>,
+}
+
+impl Turned {
+    pub(crate) fn new(alloc: Global) -> Turned
+        ensures { vec_len result.streams ≤ 64 }
+    {
+        Turned {
+            streams: Vec::new(alloc),
+        }
+    }
+
+    /// Keeps a connection, and closes the one that was kept longest where there are many. It is closed where memory is refused.
+    pub(crate) fn keep(&mut self, stream: TcpStream)
+        requires { vec_len self.old.streams ≤ 64 }
+        ensures { vec_len self.new.streams ≤ 64 }
+    {
+        if self.streams.len() >= KEPT {
+            drop(self.streams.remove(0));
+        }
+        let _ = self.streams.push(stream);
+    }
+}
