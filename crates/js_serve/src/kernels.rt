@@ -1,6 +1,7 @@
 //! The kernels that run, as the desk holds them.
 ghost use Rattle.std.specs.Prelude.{◌≡◌, ◌++◌, ◌∷◌, [], OnOk, OnErr, Some};
 
+use crate::bell::Bell;
 use crate::call::{Place, Reading};
 use crate::driving::{Opened, Opening};
 use crate::watch::Watch;
@@ -40,6 +41,8 @@ pub struct Free<L: Language> {
 struct Ends<L: Language> {
     /// Seat 0.
     zero: Option<Seat>,
+    /// What wakes the kernel.
+    bell: Option<Bell>,
     watch: Option<Watch<L>>,
     /// Whether the watch found something since the table of kernels was told.
     found: bool,
@@ -142,6 +145,7 @@ impl<L: Language> Ends<L> {
     fn new(alloc: Global, left: Arc<AtomicBool, Global>) -> Ends<L> {
         Ends {
             zero: None,
+            bell: None,
             watch: None,
             found: false,
             free: Vec::new(alloc),
@@ -159,11 +163,13 @@ impl<L: Language> Ends<L> {
     {
         let Opened {
             zero,
+            bell,
             watch,
             recorder,
             free,
         } = opened;
         self.zero = Some(zero);
+        self.bell = Some(bell);
         self.watch = Some(Watch::new(watch));
         self.recorder = Some(recorder);
         self.free = free;
@@ -176,6 +182,9 @@ impl<L: Language> Ends<L> {
         };
         let (seat, sent) = submit(rt, seat, what);
         self.zero = Some(seat);
+        if let Some(bell) = &self.bell {
+            bell.ring();
+        }
         sent
     }
 
@@ -361,6 +370,10 @@ impl<R: Wait + Drop, L: Language> Kernels<R, L> {
         let Some(ends) = self.ends_of(id) else {
             return Ok(None);
         };
+        let Some(bell) = &ends.bell else {
+            return Ok(None);
+        };
+        let bell = bell.another()?;
         let Some(Free { seat, follower }) = ends.lend() else {
             return Ok(None);
         };
@@ -368,6 +381,7 @@ impl<R: Wait + Drop, L: Language> Kernels<R, L> {
             kernel,
             seat,
             follower,
+            bell,
         }))
     }
 
@@ -377,6 +391,7 @@ impl<R: Wait + Drop, L: Language> Kernels<R, L> {
             kernel,
             seat,
             follower,
+            bell: _,
         } = place;
         if let Some(ends) = self.ends_of(kernel.as_str()) {
             ends.take_back(Free { seat, follower });
