@@ -26,6 +26,8 @@ use Rattle.jk_log.proofs.job.ParsedCell.TheSendSync as parsed
 use Rattle.jk_log.specs.contracts.job.ParsedCell as ParsedCell
 use Rattle.jk_queues.proofs.pool.WorkerEnd.TheSendSync as end
 use Rattle.jk_queues.specs.contracts.pool.WorkerEnd as WorkerEnd
+use Rattle.std.specs.contracts.timed.Parker as Parker
+use Rattle.js_serve.specs.contracts.bell.Bell as Bell
 use Rattle.js_serve.specs.contracts.call.Call as Call
 use Rattle.js_serve.specs.contracts.call.Place as Place
 use Rattle.js_serve.specs.contracts.call.Reply as Reply
@@ -34,6 +36,7 @@ use Rattle.js_serve.specs.contracts.crowd.Ticket as Ticket
 use Rattle.js_serve.specs.contracts.driving.Opened as Opened
 use Rattle.js_serve.specs.contracts.driving.Opening as Opening
 use Rattle.js_serve.specs.contracts.job.Job as Job
+use Rattle.js_serve.specs.contracts.job.Parser as Parser
 use Rattle.js_serve.specs.contracts.kernels.Free as Free
 
 sender_send : (R : RattleType) → IsSend R → IsSend (Sender.the_row R Heap.the_row heap.ghosts)
@@ -51,6 +54,12 @@ listener_send = search (crosses, sendable) depth 60 fits 20000
 flag_send : IsSend (Arc.the_row AtomicBool.the_row Heap.the_row heap.ghosts)
 flag_send = search (crosses, sendable) depth 60 fits 20000
 
+parker_send : IsSend (Arc.the_row Parker.the_row Heap.the_row heap.ghosts)
+parker_send = search (crosses, sendable) depth 60 fits 20000
+
+bell_send : IsSend Bell.the_row
+bell_send = declared_send Bell.the_type (parker_send, tt)
+
 count_send : IsSend (Arc.the_row AtomicU64.the_row Heap.the_row heap.ghosts)
 count_send = search (crosses, sendable) depth 60 fits 20000
 
@@ -61,7 +70,7 @@ guest_send : IsSend Guest.the_row
 guest_send = declared_send Guest.the_type (tcp_send, (ticket_send, tt))
 
 pub place_send : (L S T M : RattleType) (g : language.Ghosts L.Denot S.Denot T.Denot M.Denot) → IsSend (Place.the_row L S T M g)
-place_send L S T M g = declared_send (Place.the_type L S T M g) (text.the_send, (seat_send, (follower_send L S T M g, tt)))
+place_send L S T M g = declared_send (Place.the_type L S T M g) (text.the_send, (seat_send, (follower_send L S T M g, (bell_send, tt))))
 
 reply_send : (L S T M : RattleType) (g : language.Ghosts L.Denot S.Denot T.Denot M.Denot) → IsSend (Reply.the_row L S T M g)
 reply_send L S T M g = variants_send (Reply.enum L S T M g) ((response.the_send, tt), ((response.the_send, (place_send L S T M g, (names.the_send, tt))), tt))
@@ -81,13 +90,16 @@ free_send L S T M g = declared_send (Free.the_type L S T M g) (seat_send, (follo
 opened_send : (L S T M : RattleType) (g : language.Ghosts L.Denot S.Denot T.Denot M.Denot) → IsSend (Opened.the_row L S T M g)
 opened_send L S T M g =
     let f = follower_send L S T M g in
-    declared_send (Opened.the_type L S T M g) (seat_send, (f, (f, (Vec-send _ (free_send L S T M g), tt))))
+    declared_send (Opened.the_type L S T M g) (seat_send, (bell_send, (f, (f, (Vec-send _ (free_send L S T M g), tt)))))
 
 opening_send : (L S T M : RattleType) (g : language.Ghosts L.Denot S.Denot T.Denot M.Denot) → IsSend (Opening.the_row L S T M g)
 opening_send L S T M g = declared_send (Opening.the_type L S T M g) (sender_send (Opened.the_row L S T M g) (opened_send L S T M g), (flag_send, tt))
 
-pub worker_send : (L S T M : RattleType) (g : language.Ghosts L.Denot S.Denot T.Denot M.Denot) → IsSend T → IsSend (WorkerEnd.the_row (ParsedCell.the_row L S T M g))
+worker_send : (L S T M : RattleType) (g : language.Ghosts L.Denot S.Denot T.Denot M.Denot) → IsSend T → IsSend (WorkerEnd.the_row (ParsedCell.the_row L S T M g))
 worker_send L S T M g tree = end.the_send _ (parsed.the_send L S T M g tree)
+
+pub parser_send : (L S T M : RattleType) (g : language.Ghosts L.Denot S.Denot T.Denot M.Denot) → IsSend T → IsSend (Parser.the_row L S T M g)
+parser_send L S T M g tree = declared_send (Parser.the_type L S T M g) (worker_send L S T M g tree, (bell_send, (bell_send, tt)))
 
 pub job_send : (L S T M : RattleType) (g : language.Ghosts L.Denot S.Denot T.Denot M.Denot) → IsSend (Job.the_row L S T M g)
 job_send L S T M g =

@@ -1,5 +1,6 @@
 //! What threads tell the desk, and what it answers.
 
+use crate::bell::Bell;
 use crate::crowd::Guest;
 use crossbeam_channel::Sender;
 use jk_board::Follower;
@@ -16,6 +17,8 @@ pub struct Place<L: Language> {
     pub kernel: Text,
     pub seat: Seat,
     pub follower: Follower<L>,
+    /// What wakes the kernel.
+    pub bell: Bell,
 }
 
 /// What the desk answers to a request.

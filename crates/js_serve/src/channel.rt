@@ -1,5 +1,6 @@
 //! The channel of a connection, from its handshake on.
 
+use crate::bell::Bell;
 use crate::call::{Call, Place};
 use crate::clock::date_now;
 use crate::telling::tell;
@@ -9,6 +10,7 @@ use js_paced::Paced;
 use js_ws::{Channel, Names, Turn, channel_turn};
 use std::alloc::Global;
 use std::cell::Cell;
+use std::io::{Read, Write};
 use std::net::TcpStream;
 use std::sync::Wait;
 use std::thread;
@@ -37,25 +39,39 @@ pub(crate) fn serve_channel<L: Language, R: Wait + Clock + Copy + Drop>(
         kernel,
         seat,
         follower,
+        bell,
     } = place;
     let busy = Cell::new(false);
     let paced = Paced::new(*rt, line.stream, &busy, line.patience);
     let channel = Channel::new(alloc, paced, names, seat, follower);
-    let channel = run(rt, alloc, &busy, channel);
+    let channel = run(rt, alloc, &busy, &bell, channel);
+    let channel = take_leave(channel);
     let (seat, follower) = channel.into_ends();
     let place = Place {
         kernel,
         seat,
         follower,
+        bell,
     };
     let _ = tell(rt, calls, Call::Back(place));
 }
 
-/// Makes turns until the channel is closed, and notes after each whether the kernel is busy.
+/// Tells the frontend that the kernel is gone, where that has closed the channel.
+fn take_leave<L: Language, S: Read + Write + Drop>(channel: Channel<S, L>) -> Channel<S, L> {
+    if !channel.ended() {
+        return channel;
+    }
+    let (channel, _) = channel.say_gone();
+    channel
+}
+
+/// Makes turns until the channel is closed, and notes after each whether the kernel is busy. After a turn that may have submitted
+/// something it wakes the kernel.
 fn run<'s, L: Language, R: Wait + Clock + Copy + Drop>(
     rt: &R,
     alloc: Global,
     busy: &'s Cell<bool>,
+    bell: &Bell,
     channel: Channel<Paced<'s, R>, L>,
 ) -> Channel<Paced<'s, R>, L> {
     let mut channel = channel;
@@ -68,10 +84,15 @@ fn run<'s, L: Language, R: Wait + Clock + Copy + Drop>(
         channel = same;
         busy.set(channel.is_busy());
         match turn {
-            Turn::Closed(_) => return channel,
-            Turn::Open(_) | Turn::Quiet(_) => if channel.waits() {
-                thread::sleep(rt, Duration::from_millis(PAUSE));
-            },
+            Turn::Closed(_) => {
+                bell.ring();
+                return channel;
+            }
+            Turn::Open(_) => bell.ring(),
+            Turn::Quiet(_) => {}
+        }
+        if channel.waits() {
+            thread::sleep(rt, Duration::from_millis(PAUSE));
         }
     }
     unreachable!()

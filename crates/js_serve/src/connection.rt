@@ -80,7 +80,7 @@ fn respond<R: Clock + Drop>(stream: &mut Limited<'_, R>, response: &Response) {
 }
 
 /// Serves one connection: reads its request, asks the desk, and writes the response or serves the channel. A channel leaves the
-/// crowd of connections.
+/// crowd of connections, and what comes after its end is dropped, so that its last message arrives.
 pub(crate) fn serve_connection<L: Language, R: Wait + Clock + Copy + Drop>(
     rt: &R,
     alloc: Global,
@@ -104,6 +104,7 @@ pub(crate) fn serve_connection<L: Language, R: Wait + Clock + Copy + Drop>(
                     patience: limits.write,
                 };
                 serve_channel(rt, alloc, line, calls, place, names);
+                end_of_answer(*rt, &stream, REST);
             }
             None => respond(
                 &mut limited,

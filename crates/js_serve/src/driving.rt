@@ -3,7 +3,8 @@ ghost use Rattle.std.specs.Prelude.{◌≡◌, [], IfOk};
 ghost use Rattle.jk_core.specs.State.{fresh};
 ghost use Rattle.jk_queues.specs.Ends.{taken_by};
 
-use crate::job::Host;
+use crate::bell::{Bell, Driving};
+use crate::job::{Host, Parser};
 use crate::kernels::{Free, free_of};
 use crossbeam_channel::Sender;
 use jk_board::{Board, Follower, Followers};
@@ -13,6 +14,7 @@ use jk_log::ParsedCell;
 use jk_queues::{Inbox, Pool, Seat, Seats, Taker, WorkerEnd};
 use jk_run::{Driver, Parts, drive};
 use std::alloc::{AllocError, Global};
+use std::cell::Cell;
 use std::sync::atomic::{AtomicBool, Ordering};
 use std::sync::{Arc, Wait};
 use std::thread;
@@ -38,6 +40,8 @@ pub struct Opening<L: Language> {
 pub struct Opened<L: Language> {
     /// Seat 0.
     pub zero: Seat,
+    /// What wakes the driver.
+    pub bell: Bell,
     /// The follower of seat 0.
     pub watch: Follower<L>,
     /// The follower for a recorder.
@@ -52,8 +56,16 @@ struct Made<L: Language> {
     kernel: Kernel<L>,
     taker: Taker,
     pool: Pool<ParsedCell<L>>,
-    workers: Vec<WorkerEnd<ParsedCell<L>>>,
+    parsers: Vec<Parser<L>>,
     opened: Opened<L>,
+    bells: Bells,
+}
+
+/// The bell by which a driver rests, and those of its parsers.
+#[derive(Drop)]
+struct Bells {
+    driver: Bell,
+    parsers: Vec<Bell>,
 }
 
 fn make<L: Language>(alloc: Global, followers: Followers<L>) -> Result<Made<L>, AllocError>
@@ -63,14 +75,38 @@ fn make<L: Language>(alloc: Global, followers: Followers<L>) -> Result<Made<L>, 
     let Inbox { taker, seats } = Inbox::new(alloc)?;
     let (pool, workers) = Pool::<ParsedCell<L>>::new(alloc, WORKERS)?;
     let kernel = Kernel::<L>::new(alloc)?;
-    let opened = ends_of(alloc, seats, followers)?;
+    let driver = Bell::new(alloc)?;
+    let opened = ends_of(alloc, seats, followers, driver.another()?)?;
+    let (parsers, theirs) = parsers_of(alloc, workers, &driver)?;
+    let bells = Bells {
+        driver,
+        parsers: theirs,
+    };
     Ok(Made {
         kernel,
         taker,
         pool,
-        workers,
+        parsers,
         opened,
+        bells,
     })
+}
+
+/// The parsers, and the bells by which they rest.
+fn parsers_of<L: Language>(
+    alloc: Global,
+    workers: Vec<WorkerEnd<ParsedCell<L>>>,
+    driver: &Bell,
+) -> Result<(Vec<Parser<L>>, Vec<Bell>), AllocError> {
+    let mut parsers = Vec::with_capacity(alloc, WORKERS)?;
+    let mut bells = Vec::with_capacity(alloc, WORKERS)?;
+    for end in workers {
+        let bell = Bell::new(alloc)?;
+        bells.push(bell.another()?)?;
+        let driver = driver.another()?;
+        parsers.push(Parser { end, bell, driver })?;
+    }
+    Ok((parsers, bells))
 }
 
 /// The ends that the desk holds. There is memory for all of them before anything is handed out.
@@ -78,6 +114,7 @@ fn ends_of<L: Language>(
     alloc: Global,
     seats: Seats,
     followers: Followers<L>,
+    bell: Bell,
 ) -> Result<Opened<L>, AllocError> {
     let Seats {
         zero,
@@ -107,6 +144,7 @@ fn ends_of<L: Language>(
     )?;
     Ok(Opened {
         zero,
+        bell,
         watch,
         recorder,
         free,
@@ -138,12 +176,13 @@ pub(crate) fn drive_kernel<L: Language, R: Wait + Clock, H: Host<L>>(
         kernel,
         taker,
         pool,
-        workers,
+        parsers,
         opened,
+        bells,
     } = made;
     let driver = Driver::new(alloc, kernel, taker, pool, publisher);
-    if start_parsers(host, workers) {
-        run(rt, opening, opened, driver);
+    if start_parsers(host, parsers) {
+        run(rt, opening, opened, driver, &bells);
     } else {
         drop((opening, opened));
         finish(rt, driver);
@@ -151,12 +190,9 @@ pub(crate) fn drive_kernel<L: Language, R: Wait + Clock, H: Host<L>>(
 }
 
 /// Starts the parsers of a kernel. It says whether all have a thread.
-fn start_parsers<L: Language, H: Host<L>>(
-    host: &H,
-    workers: Vec<WorkerEnd<ParsedCell<L>>>,
-) -> bool {
-    for worker in workers {
-        if !host.start_parser(worker) {
+fn start_parsers<L: Language, H: Host<L>>(host: &H, parsers: Vec<Parser<L>>) -> bool {
+    for parser in parsers {
+        if !host.start_parser(parser) {
             return false;
         }
     }
@@ -169,11 +205,18 @@ fn run<L: Language, R: Wait + Clock>(
     opening: Opening<L>,
     ends: Opened<L>,
     driver: Driver<L>,
+    bells: &Bells,
 ) {
     let Opening { opened, left } = opening;
     let _ = opened.send(rt, ends);
     drop(opened);
-    let driver = drive(rt, driver);
+    let driving = Driving {
+        rt,
+        bell: &bells.driver,
+        parsers: bells.parsers.as_slice(),
+        slept: Cell::new(0),
+    };
+    let driver = drive(&driving, driver);
     wait_until(rt, &left);
     finish(rt, driver);
 }

@@ -1,5 +1,6 @@
 //! What the threads of the server do.
 
+use crate::bell::{Bell, Belled};
 use crate::call::Call;
 use crate::connection::{accept_all, serve_connection};
 use crate::crowd::Guest;
@@ -28,28 +29,40 @@ pub enum Job<L: Language> {
     Pulse(Sender<Call<L>>, Receiver<u64>),
 }
 
-/// Lets every job of a parser pass.
+/// The end of a kernel's parser, the bell by which it rests, and that of its driver.
 #[derive(Drop)]
-pub struct Open;
-
-impl Gate for Open {
-    fn before(&self, _job: u64) {}
-
-    fn after(&self, _job: u64) {}
+pub struct Parser<L: Language> {
+    pub(crate) end: WorkerEnd<ParsedCell<L>>,
+    pub(crate) bell: Bell,
+    pub(crate) driver: Bell,
 }
 
-/// The end of a kernel's parser.
-pub type Parser<L> = WorkerEnd<ParsedCell<L>>;
+/// Lets every job of a parser pass, and rings the driver's bell after each.
+#[derive(Drop)]
+struct Rings {
+    driver: Bell,
+}
+
+impl Gate for Rings {
+    fn before(&self, _job: u64) {}
+
+    fn after(&self, _job: u64) {
+        self.driver.ring();
+    }
+}
 
 /// What the program does for the threads of the server, since there the language is known.
 pub trait Host<L: Language> {
     /// Starts a thread that parses the cells of a kernel, by `parse`. It says whether there is one.
-    fn start_parser(&self, end: Parser<L>) -> bool;
+    fn start_parser(&self, parser: Parser<L>) -> bool;
 }
 
 /// Parses the cells of one kernel until its driver stops.
-pub fn parse<L: Language, R: Wait + Clock>(rt: &R, alloc: Global, end: WorkerEnd<ParsedCell<L>>) {
-    drop(worker::<L, R, Open>(rt, alloc, &Open, end));
+pub fn parse<L: Language, R: Wait + Clock>(rt: &R, alloc: Global, parser: Parser<L>) {
+    let Parser { end, bell, driver } = parser;
+    let belled = Belled { rt, bell: &bell };
+    let rings = Rings { driver };
+    drop(worker::<L, Belled<'_, R>, Rings>(&belled, alloc, &rings, end));
 }
 
 /// Does a job.

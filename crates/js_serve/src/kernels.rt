@@ -1,6 +1,7 @@
 //! The kernels that run, as the desk holds them.
 ghost use Rattle.std.specs.Prelude.{◌≡◌, ◌++◌, ◌∷◌, [], OnOk, OnErr, Some};
 
+use crate::bell::Bell;
 use crate::call::Place;
 use crate::driving::{Opened, Opening};
 use crate::recording::Scribe;
@@ -41,6 +42,8 @@ pub struct Free<L: Language> {
 struct Ends<L: Language> {
     /// Seat 0.
     zero: Option<Seat>,
+    /// What wakes the kernel.
+    bell: Option<Bell>,
     watch: Option<Watch<L>>,
     /// Whether the watch found something since the table of kernels was told.
     found: bool,
@@ -141,6 +144,7 @@ impl<L: Language> Ends<L> {
     fn new(alloc: Global, left: Arc<AtomicBool, Global>) -> Ends<L> {
         Ends {
             zero: None,
+            bell: None,
             watch: None,
             found: false,
             free: Vec::new(alloc),
@@ -157,11 +161,13 @@ impl<L: Language> Ends<L> {
     {
         let Opened {
             zero,
+            bell,
             watch,
             recorder,
             free,
         } = opened;
         self.zero = Some(zero);
+        self.bell = Some(bell);
         self.watch = Some(Watch::new(watch));
         self.recorder = Some(recorder);
         self.free = free;
@@ -174,6 +180,9 @@ impl<L: Language> Ends<L> {
         };
         let (seat, sent) = submit(rt, seat, what);
         self.zero = Some(seat);
+        if let Some(bell) = &self.bell {
+            bell.ring();
+        }
         sent
     }
 
@@ -348,6 +357,10 @@ impl<R: Wait + Drop, L: Language> Kernels<R, L> {
         let Some(ends) = self.ends_of(id) else {
             return Ok(None);
         };
+        let Some(bell) = &ends.bell else {
+            return Ok(None);
+        };
+        let bell = bell.another()?;
         let Some(Free { seat, follower }) = ends.lend() else {
             return Ok(None);
         };
@@ -355,6 +368,7 @@ impl<R: Wait + Drop, L: Language> Kernels<R, L> {
             kernel,
             seat,
             follower,
+            bell,
         }))
     }
 
@@ -364,6 +378,7 @@ impl<R: Wait + Drop, L: Language> Kernels<R, L> {
             kernel,
             seat,
             follower,
+            bell: _,
         } = place;
         if let Some(ends) = self.ends_of(kernel.as_str()) {
             ends.take_back(Free { seat, follower });

@@ -1,6 +1,7 @@
 //! The running server: a thread for each connection and for each kernel, and the desk that answers for all of them.
 #![tactic(auto)]
 
+mod bell;
 mod call;
 mod channel;
 mod clock;
@@ -18,12 +19,13 @@ mod recording;
 mod telling;
 mod watch;
 
+pub use bell::Bell;
 pub use call::{Call, Place, Reply};
 pub use crowd::{Guest, Ticket};
 pub use desk::Desk;
 pub use driving::{Opened, Opening};
 pub use ending::Ending;
-pub use job::{Host, Job, Open, Parser, parse, work};
+pub use job::{Host, Job, Parser, parse, work};
 pub use kernels::{Free, Kernels};
 pub use limits::Limits;
 pub use recording::Scribe;

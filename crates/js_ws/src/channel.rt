@@ -1,5 +1,5 @@
 //! A channel: the connection of one frontend to one kernel.
-ghost use Rattle.std.specs.Prelude.{◌≡◌, false, is_some};
+ghost use Rattle.std.specs.Prelude.{◌≡◌, true, false, is_some};
 
 use crate::feed::Feed;
 use crate::names::Names;
@@ -33,6 +33,9 @@ pub enum Turn {
 
 impl<S: Read + Write + Drop, L: Language> Channel<S, L> {
     ghost use Rattle.js_ws.specs.Turns.{IsNew, over, turn_of};
+    ghost use Rattle.js_ws.specs.Closing.{gone};
+    ghost use Rattle.tungstenite.specs.Socket.{Writes};
+    ghost use Rattle.websocket.specs.Connection.{close_step};
 
     /// A channel over a stream whose opening handshake was answered. Its first turn submits its `Join`. It takes no memory.
     pub fn new(
@@ -98,6 +101,29 @@ impl<S: Read + Write + Drop, L: Language> Channel<S, L> {
         ensures { result ≡ is_some self.now.outbox.hand }
     {
         self.outbox.waits()
+    }
+
+    /// Tells the frontend that the kernel is gone, by a Close frame of the status 1001, and sends nothing after it. It says whether
+    /// that worked. Where the stream has failed nothing is done.
+    pub fn say_gone(self) -> (Channel<S, L>, bool)
+        ensures closes { result.1 ≡ true → Writes S.contents self.wire.socket result.0.wire.socket (close_step self.wire.socket.conn gone) }
+        ensures ends { (result.0.outbox ≡ self.outbox) × (result.0.feed ≡ self.feed) }
+        ensures failed { self.wire.failed ≡ true → result.1 ≡ false }
+    {
+        let Channel {
+            alloc,
+            mut wire,
+            outbox,
+            feed,
+        } = self;
+        let closed = !wire.has_failed() && wire.close();
+        let channel = Channel {
+            alloc,
+            wire,
+            outbox,
+            feed,
+        };
+        (channel, closed)
     }
 
     /// The seat and the follower, to be given back. The stream is dropped.

@@ -1,6 +1,8 @@
 //! The stream of a channel: messages are read from it, and entries are sent over it.
 ghost use Rattle.std.specs.Prelude.{◌≡◌, ◌+◌, ◌≤◌, ◌++◌, List, Result, true, false, length, take, option_map, string_bytes, []};
 ghost use Rattle.websocket.specs.declared.protocol.config.Role.TheVariants.{Server};
+ghost use Rattle.websocket.specs.Connection.{close_step};
+ghost use Rattle.js_ws.specs.Closing.{gone};
 
 use crate::hearing::{Heard, heard_of};
 use crate::names::Names;
@@ -8,7 +10,7 @@ use crate::text::{Naming, write_entry};
 use jk_log::Entry;
 use std::alloc::Global;
 use std::io::{Read, Write};
-use tungstenite::{Error, Message, NoMask, Role, WebSocket};
+use tungstenite::{CloseCode, CloseFrame, Error, Message, NoMask, Role, Utf8Bytes, WebSocket};
 
 /// A WebSocket of a server, and what its messages are named by.
 #[derive(Drop)]
@@ -34,7 +36,7 @@ pub(crate) enum Sending {
 impl<S: Read + Write + Drop> Wire<S> {
     ghost use Rattle.tungstenite.specs.declared.error.Error.{Error};
     ghost use Rattle.tungstenite.specs.declared.message.Message.{Message};
-    ghost use Rattle.tungstenite.specs.Socket.{Reads, IsFresh};
+    ghost use Rattle.tungstenite.specs.Socket.{Reads, Writes, IsFresh};
     ghost use Rattle.jk_log.specs.declared.entry.Entry.{Entry};
     ghost use Rattle.js_ws.specs.Hearing.{Hears, is_fault};
     ghost use Rattle.js_ws.specs.Frames.{SentAll, frame_of, frame_or_none, text_frame};
@@ -73,6 +75,21 @@ impl<S: Read + Write + Drop> Wire<S> {
         let heard = heard_of(alloc, &read);
         self.failed = heard.is_fault();
         heard
+    }
+
+    /// Sends a Close frame that says that the kernel is gone, and sends nothing after it. It says whether that worked.
+    pub(crate) fn close(&mut self) -> bool
+        requires good { self.old.failed ≡ false }
+        ensures closes { result ≡ true → Writes S.contents self.old.socket self.new.socket (close_step self.old.socket.conn gone) }
+        ensures last { self.new.failed ≡ true }
+    {
+        let frame = CloseFrame {
+            code: CloseCode::Away,
+            reason: Utf8Bytes::new(),
+        };
+        let closed = self.socket.close(Some(frame));
+        self.failed = true;
+        closed.is_ok()
     }
 
     /// Sends what waits.

@@ -27,11 +27,11 @@ impl<R> Host<Oberon> for Crew<R>
 where
     R: Threads + Wait + Clock + Copy + Drop + Send + 'static,
 {
-    fn start_parser(&self, end: Parser<Oberon>) -> bool {
+    fn start_parser(&self, parser: Parser<Oberon>) -> bool {
         let Crew { rt, alloc } = *self;
         thread::Builder::new()
             .stack_size(STACK)
-            .spawn(&rt, move || parse::<Oberon, R>(&rt, alloc, end))
+            .spawn(&rt, move || parse::<Oberon, R>(&rt, alloc, parser))
             .is_ok()
     }
 }

@@ -12,6 +12,16 @@ const PATIENCE: u64 = 10;
 /// What stands for an answer or a message where the server closed the connection and sent nothing.
 pub const NOTHING: &str = "nothing";
 
+/// What stands for a message where the server says by a Close frame that the kernel is gone.
+pub const GONE: &str = "gone";
+
+/// What comes next over a WebSocket: a text of so many bytes, or a Close frame of the status 1001, or the end.
+enum Next {
+    Text(usize),
+    Gone,
+    End,
+}
+
 /// A connection to the server.
 pub fn connect<R>(rt: &R, address: SocketAddr) -> io::Result<TcpStream>
 where
@@ -65,29 +75,45 @@ pub fn send(stream: &mut TcpStream, text: &str) -> io::Result<()> {
     stream.write_all(text.as_bytes())
 }
 
-/// The length of the next text. There is none where the server closed the connection.
-fn text_len(stream: &mut TcpStream) -> io::Result<Option<usize>> {
+/// What comes next.
+fn next(stream: &mut TcpStream) -> io::Result<Next> {
     let mut kind = [0u8; 1];
     if stream.read(&mut kind)? == 0 {
-        return Ok(None);
+        return Ok(Next::End);
     }
     let mut short = [0u8; 1];
     stream.read_exact(&mut short)?;
+    if kind[0] == 0x88 {
+        return gone(stream, short[0]);
+    }
     if kind[0] != 0x81 || short[0] > 126 {
         return Err(ErrorKind::InvalidData.into());
     }
     if short[0] < 126 {
-        return Ok(Some(usize::from(short[0])));
+        return Ok(Next::Text(usize::from(short[0])));
     }
     let mut long = [0u8; 2];
     stream.read_exact(&mut long)?;
-    Ok(Some(usize::from(u16::from_be_bytes(long))))
+    Ok(Next::Text(usize::from(u16::from_be_bytes(long))))
+}
+
+/// The rest of a Close frame, which has to have the status 1001.
+fn gone(stream: &mut TcpStream, len: u8) -> io::Result<Next> {
+    let mut status = [0u8; 2];
+    stream.read_exact(&mut status)?;
+    if len == 2 && u16::from_be_bytes(status) == 1001 {
+        Ok(Next::Gone)
+    } else {
+        Err(ErrorKind::InvalidData.into())
+    }
 }
 
 /// The next message.
 pub fn message(alloc: Global, stream: &mut TcpStream) -> io::Result<String> {
-    let Some(len) = text_len(stream)? else {
-        return Ok(String::from_str(alloc, NOTHING)?);
+    let len = match next(stream)? {
+        Next::Text(len) => len,
+        Next::Gone => return Ok(String::from_str(alloc, GONE)?),
+        Next::End => return Ok(String::from_str(alloc, NOTHING)?),
     };
     let mut bytes = Vec::new(alloc);
     bytes.resize(len, 0)?;

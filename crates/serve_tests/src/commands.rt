@@ -1,7 +1,7 @@
 //! Interrupt, restart and shutdown by REST. No text of the small language loops, so the cell that is stopped asks for a line, which
 //! nobody gives.
 
-use crate::client::NOTHING;
+use crate::client::{GONE, NOTHING};
 use crate::rows::{
     ASKED_C, ASKED_D, BUSY_C, BUSY_D, CELL, IDLE_C, IDLE_D, INPUT_C, INPUT_D, ITS_ID, KERNEL, OK_C,
     OK_D, SCREEN, SHOWS_4, SHOWS_ZERO,
@@ -105,7 +105,7 @@ const RESTART: &[Step] = &[
     Step::Sees(0, &[BUSY_C, INPUT_C, SHOWS_ZERO, OK_C, IDLE_C]),
 ];
 
-/// The cell ends, the shutdown is shown, and then the connection is closed.
+/// The cell ends, the shutdown is shown, and then the connection is closed, which a Close frame tells.
 const SHUTDOWN: &[Step] = &[
     KERNEL,
     ITS_ID,
@@ -121,6 +121,7 @@ const SHUTDOWN: &[Step] = &[
             IDLE_C,
             BUSY_SHUTDOWN,
             IDLE_SHUTDOWN,
+            GONE,
             NOTHING,
         ],
     ),

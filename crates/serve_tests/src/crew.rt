@@ -41,9 +41,9 @@ impl<R> Host<TestLanguage> for Crew<R>
 where
     R: Threads + Wait + Clock + Copy + Drop + Send + 'static,
 {
-    fn start_parser(&self, end: Parser<TestLanguage>) -> bool {
+    fn start_parser(&self, parser: Parser<TestLanguage>) -> bool {
         let Crew { rt, alloc, parses } = *self;
-        parses && thread::spawn(&rt, move || parse::<TestLanguage, R>(&rt, alloc, end)).is_ok()
+        parses && thread::spawn(&rt, move || parse::<TestLanguage, R>(&rt, alloc, parser)).is_ok()
     }
 }
 

@@ -1,0 +1,121 @@
+//! The rests of threads that look for something to do, and the bells that end them.
+ghost use Rattle.std.specs.Prelude.{◌≡◌, ◌+◌, ◌≤◌, true, false};
+
+use std::alloc::{AllocError, Global};
+use std::cell::Cell;
+use std::io;
+use std::sync::{Arc, Wait};
+use std::thread::Parker;
+use std::time::{Clock, Duration};
+
+/// The sleeps of a driver that was busy just now are at most so many microseconds long.
+const SHORT: u64 = 100;
+
+/// For how many microseconds a driver sleeps at least between two times that it wakes its parsers.
+const BETWEEN: u64 = 1_000;
+
+/// A bell. One thread rests by it, and others ring it.
+#[derive(Drop)]
+pub struct Bell {
+    parker: Arc<Parker, Global>,
+}
+
+impl Bell {
+    pub(crate) fn new(alloc: Global) -> Result<Bell, AllocError> {
+        Ok(Bell {
+            parker: Arc::new(alloc, Parker::new())?,
+        })
+    }
+
+    /// The same bell, for another thread.
+    pub(crate) fn another(&self) -> Result<Bell, AllocError> {
+        Ok(Bell {
+            parker: Arc::try_clone(&self.parker)?,
+        })
+    }
+
+    /// Ends the rest of the thread that rests by it, or its next one.
+    pub(crate) fn ring(&self) {
+        self.parker.unpark();
+    }
+
+    /// Rests until it is rung, for so long at most.
+    fn rest<R: Wait>(&self, rt: &R, longest: Duration) {
+        self.parker.park_timeout(rt, longest);
+    }
+}
+
+/// The handle of a thread whose sleeps end where its bell is rung.
+#[derive(Drop)]
+pub(crate) struct Belled<'b, R> {
+    pub(crate) rt: &'b R,
+    pub(crate) bell: &'b Bell,
+}
+
+impl<R: Wait> Wait for Belled<'_, R> {}
+
+impl<R: Wait + Clock> Clock for Belled<'_, R> {
+    fn monotonic(&self) -> io::Result<Duration> {
+        self.rt.monotonic()
+    }
+
+    fn since_1970(&self) -> io::Result<Duration> {
+        self.rt.since_1970()
+    }
+
+    fn sleep(&self, duration: Duration) {
+        self.bell.rest(self.rt, duration);
+    }
+}
+
+/// The handle of a driver. Its sleeps end where its bell is rung. A driver that has just done something sleeps shortly; before such
+/// a sleep it rings the bells of its parsers, which may have been given a job.
+#[derive(Drop)]
+pub(crate) struct Driving<'b, R> {
+    pub(crate) rt: &'b R,
+    pub(crate) bell: &'b Bell,
+    pub(crate) parsers: &'b [Bell],
+    /// How many microseconds it has slept since it rang.
+    pub(crate) slept: Cell<u64>,
+}
+
+impl<R> Driving<'_, R> {
+    /// Rings the bells of the parsers where that is due before a sleep of so many microseconds.
+    fn ring_before(&self, sleep: u64) {
+        let slept = self.slept.get();
+        if is_due(slept, sleep) {
+            for bell in self.parsers {
+                bell.ring();
+            }
+            self.slept.set(0);
+        } else {
+            self.slept.set(slept.saturating_add(sleep));
+        }
+    }
+}
+
+/// Whether a driver wakes its parsers before a sleep, where so many microseconds were slept since it did.
+fn is_due(slept: u64, sleep: u64) -> bool
+    ensures due { result ≡ true → (sleep ≤ 100) × (1000 ≤ slept) }
+    ensures late { result ≡ false → sleep ≤ 100 → slept + 1 ≤ 1000 }
+{
+    sleep <= SHORT && slept >= BETWEEN
+}
+
+impl<R: Wait> Wait for Driving<'_, R> {}
+
+impl<R: Wait + Clock> Clock for Driving<'_, R> {
+    fn monotonic(&self) -> io::Result<Duration> {
+        self.rt.monotonic()
+    }
+
+    fn since_1970(&self) -> io::Result<Duration> {
+        self.rt.since_1970()
+    }
+
+    fn sleep(&self, duration: Duration) {
+        let micros = u64::try_from(duration.as_micros()).unwrap_or(u64::MAX);
+        self.ring_before(micros);
+        self.bell.rest(self.rt, duration);
+    }
+}
