@@ -49,7 +49,7 @@ pub place_send : (L S T M : RattleType) (g : language.Ghosts L.Denot S.Denot T.D
 place_send L S T M g = declared_send (Place.the_type L S T M g) (text.the_send, (seat_send, (follower_send L S T M g, tt)))
 
 reply_send : (L S T M : RattleType) (g : language.Ghosts L.Denot S.Denot T.Denot M.Denot) → IsSend (Reply.the_row L S T M g)
-reply_send L S T M g = variants_send (Reply.enum L S T M g) ((response.the_send, tt), ((response.the_send, (place_send L S T M g, (names.the_send, tt))), tt))
+reply_send L S T M g = variants_send (Reply.enum L S T M g) ((response.the_send, tt), ((response.the_send, (place_send L S T M g, (names.the_send, tt))), (tt, tt)))
 
 reading_send : (L S T M : RattleType) (g : language.Ghosts L.Denot S.Denot T.Denot M.Denot) → IsSend (Reading.the_row L S T M g)
 reading_send L S T M g = declared_send (Reading.the_type L S T M g) (text.the_send, (follower_send L S T M g, (Vec-send _ entry_send, search (crosses, sendable) depth 60 fits 20000)))

@@ -4,7 +4,9 @@ use crate::call::{Call, Reply};
 use crate::channel::serve_channel;
 use crossbeam_channel::{Sender, bounded};
 use jk_language::Language;
-use js_http::{ErrorStatus, HttpRefusal, Request, Response, read_request, write_response};
+use js_http::{
+    ErrorStatus, HttpRefusal, Request, Response, read_request, write_page, write_response,
+};
 use std::alloc::Global;
 use std::net::{TcpListener, TcpStream};
 use std::sync::Wait;
@@ -33,17 +35,24 @@ fn respond(stream: &TcpStream, response: &Response) {
     let _ = write_response(&mut writer, response);
 }
 
-/// Serves one connection: reads its request, asks the desk, and writes the response or serves the channel.
+/// Writes the page for a browser. Where that fails, nobody is there any more.
+fn respond_page(stream: &TcpStream, page: &str) {
+    let mut writer = stream;
+    let _ = write_page(&mut writer, page);
+}
+
+/// Serves one connection: reads its request, asks the desk, and writes the response or the page, or serves the channel.
 pub(crate) fn serve_connection<L: Language, R: Wait + Clock + Copy + Drop>(
     rt: &R,
     alloc: Global,
     stream: &TcpStream,
     calls: &Sender<Call<L>>,
+    page: &str,
 ) {
     let _ = stream.set_nodelay(true);
     let mut reader = stream;
     match read_request(alloc, &mut reader) {
-        Ok(request) => answer(rt, alloc, stream, calls, request),
+        Ok(request) => answer(rt, alloc, stream, calls, request, page),
         Err(refusal) => refuse(stream, refusal),
     }
 }
@@ -62,6 +71,7 @@ fn answer<L: Language, R: Wait + Clock + Copy + Drop>(
     stream: &TcpStream,
     calls: &Sender<Call<L>>,
     request: Request,
+    page: &str,
 ) {
     match ask(rt, alloc, calls, request) {
         Some(Reply::Response(response)) => respond(stream, &response),
@@ -69,6 +79,7 @@ fn answer<L: Language, R: Wait + Clock + Copy + Drop>(
             respond(stream, &response);
             serve_channel(rt, alloc, stream, calls, place, names);
         }
+        Some(Reply::Page) => respond_page(stream, page),
         None => respond(stream, &Response::Refused(ErrorStatus::InternalServerError)),
     }
 }

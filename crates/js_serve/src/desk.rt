@@ -248,6 +248,10 @@ where
                 self.send(reply, channel);
                 None
             }
+            Answer::Page => {
+                self.send(reply, Reply::Page);
+                None
+            }
         }
     }
 

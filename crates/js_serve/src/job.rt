@@ -39,11 +39,16 @@ impl Gate for Open {
     fn after(&self, _job: u64) {}
 }
 
-/// Does a job.
-pub fn work<L: Language, R: Wait + Clock + Copy + Drop>(rt: &R, alloc: Global, job: Job<L>) {
+/// Does a job. A browser that asks for the page is sent that one.
+pub fn work<L: Language, R: Wait + Clock + Copy + Drop>(
+    rt: &R,
+    alloc: Global,
+    job: Job<L>,
+    page: &str,
+) {
     match job {
         Job::Accept(listener, calls) => accept_all(rt, &listener, &calls),
-        Job::Connection(stream, calls) => serve_connection(rt, alloc, &stream, &calls),
+        Job::Connection(stream, calls) => serve_connection(rt, alloc, &stream, &calls, page),
         Job::Drive(opening) => drive_kernel(rt, alloc, opening),
         Job::Parse(end) => drop(worker::<L, R, Open>(rt, alloc, &Open, end)),
         Job::Record(kernel, calls) => record(rt, alloc, &calls, kernel),

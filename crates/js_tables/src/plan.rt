@@ -51,6 +51,8 @@ pub enum Answer {
     Reply(Response),
     /// The channels of the kernel of that identifier are to be opened.
     Channels(Text),
+    /// The page for a browser, as a response of 200.
+    Page,
 }
 
 /// The change that is tried first, and what follows where it succeeds.

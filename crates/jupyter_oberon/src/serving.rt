@@ -1,6 +1,7 @@
 //! The program as a server.
 
 use js_files::FileShelf;
+use js_page::page;
 use js_serve::{Desk, Job, work};
 use ob_language::Oberon;
 use std::alloc::Global;
@@ -23,7 +24,7 @@ where
 {
     thread::Builder::new()
         .stack_size(STACK)
-        .spawn(&rt, move || work::<Oberon, R>(&rt, alloc, job))
+        .spawn(&rt, move || work::<Oberon, R>(&rt, alloc, job, page()))
         .is_ok()
 }
 

@@ -17,7 +17,11 @@ pub fn start<R>(rt: R, alloc: Global, job: Job<TestLanguage>) -> bool
 where
     R: Threads + Wait + Clock + Copy + Drop + Send + 'static,
 {
-    thread::spawn(&rt, move || work::<TestLanguage, R>(&rt, alloc, job)).is_ok()
+    thread::spawn(
+        &rt,
+        move || work::<TestLanguage, R>(&rt, alloc, job, "a page"),
+    )
+    .is_ok()
 }
 
 /// Serves the connections of a listener, with no files.
