@@ -19,6 +19,7 @@ use Rattle.js_rest.specs.Routes.{route_of}
 -- the routes that are about neither contents nor all sessions
 pub tables_found : (r : Route) (m : Contents) (rows : Rows) (given : Given) (request : Request) (found : Result Plan Refusal)
     → (r ≡ route.Contents → ⊥) → (r ≡ route.Sessions → ⊥) → Gives found (tables_plan r rows given request) → IsFoundOn r m rows given request found
+tables_found route.Page m rows given request found n k h = h
 tables_found route.Version m rows given request found n k h = h
 tables_found route.Kernelspecs m rows given request found n k h = h
 tables_found route.Kernels m rows given request found n k h = h
@@ -32,6 +33,7 @@ tables_found route.Contents m rows given request found n k h = absurd (n refl)
 
 pub tables_alone : (r : Route) (rows : Rows) (given : Given) (request : Request) (found : Result Plan Refusal)
     → (r ≡ route.Contents → ⊥) → (r ≡ route.Sessions → ⊥) → Gives found (tables_plan r rows given request) → IsFoundAlone (Some r) rows given request found
+tables_alone route.Page rows given request found n k h = h
 tables_alone route.Version rows given request found n k h = h
 tables_alone route.Kernelspecs rows given request found n k h = h
 tables_alone route.Kernels rows given request found n k h = h

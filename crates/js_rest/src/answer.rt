@@ -1,5 +1,6 @@
 //! The answer to a request.
 ghost use Rattle.std.specs.Prelude.{◌≡◌, get_or, [], Some, IfOk};
+ghost use Rattle.js_http.specs.Origins.{is_own as is_own_request};
 ghost use Rattle.js_http.specs.Targets.{segments_of};
 ghost use Rattle.js_shelf.specs.Shelves.{Tells};
 ghost use Rattle.js_rest.specs.Answers as spec;
@@ -17,9 +18,9 @@ use crate::running::Running;
 use crate::untold::Untold;
 use crate::{kernels, sessions};
 use js_follow::put_book;
-use js_http::{ErrorStatus, Method, Request, Response, path_segments};
+use js_http::{ErrorStatus, Method, Request, Response, is_own, path_segments};
 use js_shelf::{Shelf, ShelfRefusal};
-use js_tables::{Answer, Change, Given, Plan, ReadNotebook, Refusal, Tables};
+use js_tables::{Answer, Change, Given, Plan, ReadNotebook, Refusal, Tables, Update};
 use json_form::Text;
 use matchit::{InsertError, Router};
 use std::alloc::Global;
@@ -101,6 +102,19 @@ fn try_change<L: Running, S: Shelf>(
 }
 
 // ---- finding the plan
+
+fn page(method: Method) -> Result<Plan, Refusal>
+    ensures { Gives result (spec.page_plan method) }
+{
+    match method {
+        Method::Get => Ok(Plan {
+            change: Change::Nothing,
+            update: Update::Same,
+            answer: Answer::Page,
+        }),
+        _ => Err(Refusal::Status(ErrorStatus::MethodNotAllowed)),
+    }
+}
 
 fn version(alloc: Global, method: Method) -> Result<Plan, Refusal>
     ensures { Gives result (spec.version_plan method) }
@@ -231,6 +245,7 @@ fn tables_plan(
 {
     let id = segment(segments, 3);
     match route {
+        Route::Page => page(request.method),
         Route::Version => version(alloc, request.method),
         Route::Kernelspecs => kernelspecs(alloc, request.method),
         Route::Kernels => all_kernels(alloc, tables, given, request),
@@ -267,9 +282,9 @@ fn route_plan<S: Shelf>(
     }
 }
 
-// The plan of a request, which reads the shelf and changes nothing.
+// The plan of a request by its path, which reads the shelf and changes nothing.
 #[tactic(auto, using(crate::proofs::Telling::tells_same, crate::proofs::Failing::found_failed, crate::proofs::Failing::found_failed_alone))]
-fn find_plan<S: Shelf>(
+fn path_plan<S: Shelf>(
     alloc: Global,
     router: &Router<Route>,
     tables: &Tables,
@@ -279,7 +294,7 @@ fn find_plan<S: Shelf>(
 ) -> Result<Plan, Refusal>
     requires { router.now ≡ table }
     ensures shelf { Tells (S.contents shelf.old) (S.contents shelf.new)
-        (spec.Finds (rows tables.now) given.now request.now result) }
+        (spec.FindsAt (route_of (spec.path_of request.now)) (rows tables.now) given.now request.now result) }
     ensures alone { spec.IsFoundAlone (route_of (spec.path_of request.now)) (rows tables.now) given.now request.now result }
 {
     let segments = path_segments(alloc, request.path())?;
@@ -294,6 +309,28 @@ fn find_plan<S: Shelf>(
             request,
             segments.as_slice(),
         ),
+    }
+}
+
+// The plan of a request, which reads the shelf and changes nothing.
+#[tactic(auto, using(crate::proofs::Telling::tells_same))]
+fn find_plan<S: Shelf>(
+    alloc: Global,
+    router: &Router<Route>,
+    tables: &Tables,
+    shelf: &mut S,
+    given: &Given,
+    request: &Request,
+) -> Result<Plan, Refusal>
+    requires { router.now ≡ table }
+    ensures shelf { Tells (S.contents shelf.old) (S.contents shelf.new)
+        (spec.Finds (rows tables.now) given.now request.now result) }
+    ensures alone { spec.IsFoundAloneIf (is_own_request request.now.headers) (route_of (spec.path_of request.now)) (rows tables.now) given.now request.now result }
+{
+    if is_own(&request.headers) {
+        path_plan(alloc, router, tables, shelf, given, request)
+    } else {
+        Err(Refusal::Status(ErrorStatus::Forbidden))
     }
 }
 

@@ -27,6 +27,8 @@ pub enum Reply<L: Language> {
     Response(Response),
     /// The switch to a WebSocket, and the place of its channel.
     Channel(Response, Place<L>, Names),
+    /// The page for a browser.
+    Page,
 }
 
 /// What threads tell the desk.

@@ -468,6 +468,10 @@ where
                 self.end_later(id.as_str(), reply);
                 None
             }
+            Answer::Page => {
+                self.send(reply, Reply::Page);
+                None
+            }
         }
     }
 

@@ -65,17 +65,18 @@ pub fn parse<L: Language, R: Wait + Clock>(rt: &R, alloc: Global, parser: Parser
     drop(worker::<L, Belled<'_, R>, Rings>(&belled, alloc, &rings, end));
 }
 
-/// Does a job.
+/// Does a job. A browser that asks for the page is sent that one.
 pub fn work<L: Language, R: Wait + Clock + Copy + Drop, H: Host<L>>(
     rt: &R,
     alloc: Global,
     limits: Limits,
     host: &H,
     job: Job<L>,
+    page: &str,
 ) {
     match job {
         Job::Accept(listener, calls) => accept_all(rt, alloc, limits, &listener, &calls),
-        Job::Connection(guest, calls) => serve_connection(rt, alloc, limits, guest, &calls),
+        Job::Connection(guest, calls) => serve_connection(rt, alloc, limits, guest, &calls, page),
         Job::Drive(opening) => drive_kernel(rt, alloc, host, opening),
         Job::Pulse(calls, pauses) => pulse(rt, &calls, &pauses),
     }

@@ -59,6 +59,8 @@ pub enum Answer {
     /// The kernel of that identifier has a recorder and was told to shut down. Once the recorder was told all that it showed, and
     /// the save of that was tried, the kernel's row goes, and then the answer is 204.
     Ends(Text),
+    /// The page for a browser, as a response of 200.
+    Page,
 }
 
 /// The change that is tried first, and what follows where it succeeds.

@@ -85,6 +85,7 @@ pub(crate) fn answer<R: Abort>(
         Answer::Channels(id) => Ok(format!(in alloc; "channels of {}", id.as_str())?),
         Answer::Ends(id) => ended(alloc, server, id),
         Answer::Reply(response) => written(alloc, &response),
+        Answer::Page => Ok(String::from_str(alloc, "the page")?),
     }
 }
 

@@ -4,11 +4,11 @@ use Rattle.js_shelf.specs.Shelves.{Tells}
 use Rattle.js_tables.specs.declared.refusal.Refusal.TheVariants.{Status}
 use Rattle.js_tables.specs.Tables.{rows}
 use Rattle.js_rest.specs.declared.route.Route.{Route}
-use Rattle.js_rest.specs.Answers.{FindsOn, Finds, IsFoundAlone, path_of}
+use Rattle.js_rest.specs.Answers.{FindsOn, FindsAt, IsFoundAlone, path_of}
 use Rattle.js_rest.specs.Routes.{route_of}
 use Rattle.js_rest.proofs.Finding.{finds_route}
 use Rattle.js_rest.proofs.Telling.{tells_weaker, tells_same}
-use Rattle.js_rest.proofs.answer.find_plan.Goals as goal
+use Rattle.js_rest.proofs.answer.path_plan.Goals as goal
 
 pub returns-in-None-clause-shelf : goal.returns-in-None-clause-shelf
 returns-in-None-clause-shelf g c =
@@ -16,7 +16,7 @@ returns-in-None-clause-shelf g c =
     let given = c.args.given.now in
     let request = c.args.request.now in
     let e : route_of (path_of request) ≡ None = cc (c.in-None.ensures) in
-    tells_same (g.S.Shelf.contents c.args.shelf.now) (Finds r given request (Err (Status NotFound)))
+    tells_same (g.S.Shelf.contents c.args.shelf.now) (FindsAt (route_of (path_of request)) r given request (Err (Status NotFound)))
     (λ m. ((λ path. refl), finds_route None r given request (Err (Status NotFound)) e m refl))
 
 pub returns-in-None-clause-alone : goal.returns-in-None-clause-alone
@@ -34,7 +34,7 @@ returns-clause-shelf g c =
     let found = c.route_plan.result in
     let e : route_of (path_of request) ≡ Some route = cc (c.in-Some.ensures) in
     tells_weaker (g.S.Shelf.contents c.args.shelf.now) (g.S.Shelf.contents c.route_plan.new.shelf)
-    (FindsOn route r given request found) (Finds r given request found)
+    (FindsOn route r given request found) (FindsAt (route_of (path_of request)) r given request found)
     (λ m n h. (h.0, finds_route (Some route) r given request found e m h.1)) c.route_plan.ensures.shelf
 
 pub returns-clause-alone : goal.returns-clause-alone
