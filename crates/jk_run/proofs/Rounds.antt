@@ -160,7 +160,7 @@ module _ {S T : Type 0} (spoken : Spoken S T) where
   pub round_given : (k2 k3 k4 k5 : KernelState T) (n : ℕ) (answer : Work) (job : Option Job) (before jobs : Hand Job) → HasGiven job before k2 → ((job : Option Job) (jobs : Hand Job) → HasGiven job jobs k2 → HasGiven job jobs k3) → jobs ≡ before → Works spoken 1000 k3 answer k4 → k5 ≡ without n k4 → HasGiven job jobs k5
   round_given k2 k3 k4 k5 n answer job before jobs h handed same works is =
       subst (λ (v : Hand Job). HasGiven job v k5) (sym same)
-          (subst (HasGiven job before) (sym is) (given_without n k4 job before (given_works spoken 1000 k3 answer k4 works job before (handed job before h))))
+      (subst (HasGiven job before) (sym is) (given_without n k4 job before (given_works spoken 1000 k3 answer k4 works job before (handed job before h))))
 
 module _ {L S T M : Type 0} (spoken : Spoken S T) where
   pub driven_none : (a : Driver L S T M) → HasDriven spoken a a

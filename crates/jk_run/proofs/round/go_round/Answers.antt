@@ -6,7 +6,6 @@ use Rattle.jk_core.specs.declared.kernel.Work.{Work}
 use Rattle.jk_board.specs.Ends.{published}
 use Rattle.jk_queues.specs.Ends.{taker_view, taken_by}
 use Rattle.jk_queues.specs.Pool.{offered_by, collected_by, jobs_view}
-use Rattle.jk_core.specs.State.{KernelState}
 use Rattle.jk_core.specs.Steps.{Works}
 use Rattle.jk_run.specs.Acts.{Leads, driven}
 use Rattle.jk_run.specs.Driver.{IsEmptied}
@@ -66,7 +65,7 @@ returns-clause-done g c ran =
       worked = λ k pends. (
         driven c.hand_results.new.kernel board jobs results,
         c.work-work.new.self,
-        subst (λ (k : KernelState g.T). Leads g.L.Language.spoken (driven k board given (collected_by driver.pool)) (driven c.hand_results.new.kernel board jobs results)) (none_pends driver.entries k driver.kernel c.requires pends)
+        subst (λ k. Leads g.L.Language.spoken (driven k board given (collected_by driver.pool)) (driven c.hand_results.new.kernel board jobs results)) (none_pends driver.entries k driver.kernel c.requires pends)
             (round_handed g.L.Language.spoken board driver.kernel c.take_arrivals-taker.new.kernel c.give_jobs-job.new.kernel c.hand_results.new.kernel given jobs (collected_by driver.pool) (collected_by c.give_jobs-job.new.pool) results
             c.take_arrivals-taker.ensures.acts c.give_jobs-job.ensures.acts c.give_jobs-job.ensures.pool.1 c.hand_results.ensures.acts),
         subst (λ (answer : Work). Works g.L.Language.spoken 1000 c.hand_results.new.kernel answer c.work-work.new.self) (sym all.3) worked,
