@@ -253,6 +253,7 @@ where
             }
         }
         self.pauses = None;
+        self.beats = false;
         let _ = self.add_pulse(pause);
     }
 
@@ -263,7 +264,6 @@ where
         sender.send(&self.rt, pause).ok()?;
         self.jobs.push(Job::Pulse(calls, receiver)).ok()?;
         self.pauses = Some(sender);
-        self.beats = false;
         Some(())
     }
 
