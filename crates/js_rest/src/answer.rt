@@ -9,7 +9,7 @@ ghost use Rattle.js_rest.specs.Routes.{table, route_of};
 ghost use Rattle.js_tables.specs.Moments.{IsDate};
 ghost use Rattle.js_tables.specs.Plans.{Gives};
 ghost use Rattle.js_tables.specs.Tables.{rows, no_rows, HasRoom};
-ghost use Rattle.js_tables.specs.declared.plan.Change.TheVariants as change;
+ghost use Rattle.js_tables.specs.declared.plan.Change.TheVariants as variant;
 
 use crate::contents::contents_plan;
 use crate::opening::open;
@@ -67,8 +67,8 @@ fn try_book<L: Running, S: Shelf>(
 ) -> Result<(), ErrorStatus>
     requires { HasRoom tables.old }
     ensures shelf { Tells (S.contents shelf.old) (S.contents shelf.new)
-        (Tries L.begins L.tells (change.PutBook path book) result (rows tables.old) (rows tables.new) running.old running.new) }
-    ensures alone { TriesAlone L.begins L.tells (change.PutBook path book) result (rows tables.old) (rows tables.new) running.old running.new }
+        (Tries L.begins L.tells (variant.PutBook path book) result (rows tables.old) (rows tables.new) running.old running.new) }
+    ensures alone { TriesAlone L.begins L.tells (variant.PutBook path book) result (rows tables.old) (rows tables.new) running.old running.new }
     ensures room { HasRoom tables.new }
 {
     told_of(put_book(alloc, tables, shelf, path, book))

@@ -78,7 +78,7 @@ struct Held<L: Language> {
 
 /// Whether a request has to wait for a kernel that is ending.
 #[derive(Drop)]
-enum Turn {
+enum Delay {
     No,
     /// As one that ends that kernel.
     Join(Text),
@@ -253,6 +253,7 @@ where
             }
         }
         self.pauses = None;
+        self.beats = false;
         let _ = self.add_pulse(pause);
     }
 
@@ -263,7 +264,6 @@ where
         sender.send(&self.rt, pause).ok()?;
         self.jobs.push(Job::Pulse(calls, receiver)).ok()?;
         self.pauses = Some(sender);
-        self.beats = false;
         Some(())
     }
 
@@ -343,13 +343,13 @@ where
     }
 
     /// Whether a request has to wait for a kernel that is ending.
-    fn turn_of(&self, method: Method, concern: &Concern) -> Turn {
+    fn turn_of(&self, method: Method, concern: &Concern) -> Delay {
         if self.endings.is_empty() {
-            return Turn::No;
+            return Delay::No;
         }
         let kernels = &self.manager.tables.kernels;
         match concern {
-            Concern::Other => Turn::No,
+            Concern::Other => Delay::No,
             Concern::Kernel(segments) => self.turn_at(
                 method,
                 find_kernel(kernels, id_in(segments)),
@@ -359,29 +359,29 @@ where
             }
             Concern::File(path) => {
                 if self.is_ending_within(path.as_str()) {
-                    Turn::Hold
+                    Delay::Hold
                 } else {
-                    Turn::No
+                    Delay::No
                 }
             }
-            Concern::Paths => Turn::Hold,
+            Concern::Paths => Delay::Hold,
         }
     }
 
-    fn turn_at(&self, method: Method, kernel: Option<&Kernel>) -> Turn {
+    fn turn_at(&self, method: Method, kernel: Option<&Kernel>) -> Delay {
         let Some(kernel) = kernel else {
-            return Turn::No;
+            return Delay::No;
         };
         if !self.endings.has(kernel.id.as_str()) {
-            return Turn::No;
+            return Delay::No;
         }
         match kernel.id.copy() {
             Ok(id) => if matches!(method, Method::Delete) {
-                Turn::Join(id)
+                Delay::Join(id)
             } else {
-                Turn::Hold
+                Delay::Hold
             },
-            Err(_) => Turn::Hold,
+            Err(_) => Delay::Hold,
         }
     }
 
@@ -428,12 +428,12 @@ where
         self.look(&given.date);
         let concern = concern_of(self.alloc, &request);
         match self.turn_of(request.method, &concern) {
-            Turn::No => self.answer(request, &concern, &given, reply),
-            Turn::Join(id) => {
+            Delay::No => self.answer(request, &concern, &given, reply),
+            Delay::Join(id) => {
                 self.end_later(id.as_str(), reply);
                 None
             }
-            Turn::Hold => {
+            Delay::Hold => {
                 self.hold(request, reply);
                 None
             }

@@ -1,6 +1,6 @@
 //! The kernels that are ending, and who waits for their ends.
-ghost use Rattle.std.specs.Prelude.{◌≡◌, position, is_some};
-ghost use Rattle.std.specs.Str.{bytes_eq};
+ghost use Rattle.std.specs.Prelude.{◌≡◌, true, false, OnOk, OnErr};
+ghost use Rattle.js_serve.specs.Endings as spec;
 
 use json_form::Text;
 use std::alloc::{AllocError, Global};
@@ -59,19 +59,18 @@ impl<W: Drop> Endings<W> {
     }
 
     /// Whether a kernel is ending.
-    pub(crate) fn has(&self, kernel: &str) -> bool {
-        self.place_of(kernel).is_some()
+    pub(crate) fn has(&self, kernel: &str) -> bool
+        ensures { result ≡ spec.has kernel.now self.now.rows.items }
+    {
+        self.rows
+            .iter()
+            .any(|ending| ending.kernel.as_str() == kernel)
     }
 
-    /// A kernel ends, and nobody waits for it yet. One that is ending already stays as it is.
-    ///
-    /// # Errors
-    /// Where there is no memory. Nothing has changed.
-    pub(crate) fn begin(&mut self, alloc: Global, kernel: &str) -> Result<(), AllocError> {
-        if self.has(kernel) {
-            return Ok(());
-        }
-        let kernel = Text::from_str(alloc, kernel)?;
+    fn add(&mut self, alloc: Global, kernel: Text) -> Result<(), AllocError>
+        ensures ok { OnOk result (spec.Begins kernel self.old.rows.items self.new.rows.items) }
+        ensures err { OnErr result (self.new.rows.items ≡ self.old.rows.items) }
+    {
         self.rows.reserve(1)?;
         self.rows.push_reserved(Ending {
             kernel,
@@ -79,6 +78,23 @@ impl<W: Drop> Endings<W> {
             waiters: Vec::new(alloc),
         });
         Ok(())
+    }
+
+    /// A kernel ends, and nobody waits for it yet. One that is ending already stays as it is.
+    ///
+    /// # Errors
+    /// Where there is no memory. Nothing has changed.
+    pub(crate) fn begin(&mut self, alloc: Global, kernel: &str) -> Result<(), AllocError>
+        ensures there { spec.has kernel.now self.old.rows.items ≡ true → self.new.rows.items ≡ self.old.rows.items }
+        ensures new { spec.has kernel.now self.old.rows.items ≡ false
+            → OnOk result (spec.Begins kernel.now self.old.rows.items self.new.rows.items) }
+        ensures err { OnErr result (self.new.rows.items ≡ self.old.rows.items) }
+    {
+        if self.has(kernel) {
+            return Ok(());
+        }
+        let kernel = Text::from_str(alloc, kernel)?;
+        self.add(alloc, kernel)
     }
 
     /// One more waits for the end of a kernel that is ending, from now on. Where the kernel is not ending, or there is no memory, it

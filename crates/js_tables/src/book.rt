@@ -19,7 +19,12 @@ pub struct ReadNotebook {
 impl Model for ReadNotebook {
     ghost use Rattle.std.specs.Coded.{codes};
     ghost use Rattle.json_form.specs.contracts.kept.Json as json;
+    ghost use Rattle.std.specs.Prelude.{◌≤◌};
+    ghost use Rattle.serde_json.specs.Data.{depth};
+    ghost use Rattle.serde_json.specs.Read.{max_depth};
     ghost use Rattle.nb_doc.specs.declared.notebook.Notebook.{Notebook};
+    ghost use Rattle.nb_doc.specs.Documents.{IsDocument};
+    ghost use Rattle.nb_doc.specs.Writing.{notebook_form};
 
     ghost Value = { Notebook };
 
