@@ -188,6 +188,8 @@ fn crowd<R: Abort>(rt: &R, alloc: Global, server: &mut Server) -> Result<(), Fai
 fn happen<R: Abort>(rt: &R, alloc: Global, server: &mut Server, event: &str) -> Result<(), Fail> {
     match event {
         "a day goes by" => server.is_tomorrow = true,
+        "the files have 67108864 bytes" => server.shelf.say_len(67_108_864),
+        "the files have 67108865 bytes" => server.shelf.say_len(67_108_865),
         "the inboxes are full" => server.manager.running.is_full = true,
         "the inboxes have room" => server.manager.running.is_full = false,
         "no kernel can be made" => server.manager.running.is_barren = true,
