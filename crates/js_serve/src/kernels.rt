@@ -49,7 +49,7 @@ struct Ends<L: Language> {
     lent: u64,
     /// The follower for a recorder of the session, where it is not lent.
     recorder: Option<Follower<L>>,
-    /// Whether that follower has read all that was shown before there was a recorder.
+    /// Whether that follower has passed all that was shown before there was a recorder.
     skipped: bool,
     /// Whether that follower is lent.
     recording: bool,
@@ -116,25 +116,6 @@ fn free_of<L: Language>(
         free.push(Free { seat, follower })?;
     }
     Ok(free)
-}
-
-/// How many entries are read at once.
-const ENTRIES: usize = 64;
-
-/// Reads on until a read finds nothing, or memory is refused. It says whether nothing is left.
-fn skip_all<L: Language>(alloc: Global, follower: Follower<L>) -> (Follower<L>, bool) {
-    let mut follower = follower;
-    for _ in 0..u64::MAX {
-        let (same, found) = follower.read(alloc, ENTRIES);
-        follower = same;
-        match found {
-            Ok(entries) => if entries.is_empty() {
-                return (follower, true);
-            },
-            Err(_) => return (follower, false),
-        }
-    }
-    (follower, false)
 }
 
 impl<L: Language> Ends<L> {
@@ -224,9 +205,8 @@ impl<L: Language> Ends<L> {
         self.has_ended() && self.lent == 0 && !self.recording
     }
 
-    /// Reads what was shown before there was a recorder, until a read finds nothing. It says whether the follower for the
-    /// recorder may be lent then.
-    fn skip(&mut self, alloc: Global) -> bool {
+    /// Has the follower for the recorder pass what was shown before there was one. It says whether it may be lent then.
+    fn skip(&mut self) -> bool {
         let Some(follower) = self.recorder.take() else {
             return false;
         };
@@ -234,10 +214,10 @@ impl<L: Language> Ends<L> {
             self.recorder = Some(follower);
             return true;
         }
-        let (follower, skipped) = skip_all(alloc, follower);
+        let (follower, passed) = follower.pass();
         self.recorder = Some(follower);
-        self.skipped = skipped;
-        skipped
+        self.skipped = passed.is_ok();
+        self.skipped
     }
 
     /// Lends the follower for a recorder.
@@ -250,12 +230,19 @@ impl<L: Language> Ends<L> {
         Some(follower)
     }
 
-    /// Lends a seat.
+    /// Lends a seat, whose follower has passed what was shown before. What is shown to a connection comes after its join, so
+    /// nothing of it is passed.
     fn lend(&mut self) -> Option<Free<L>> {
         if self.has_ended() {
             return None;
         }
-        let free = self.free.pop()?;
+        let Free { seat, follower } = self.free.pop()?;
+        let (follower, passed) = follower.pass();
+        let free = Free { seat, follower };
+        if passed.is_err() {
+            let _ = self.free.push(free);
+            return None;
+        }
         self.lent = self.lent.saturating_add(1);
         Some(free)
     }
@@ -403,11 +390,10 @@ impl<R: Wait + Drop, L: Language> Kernels<R, L> {
         }
     }
 
-    /// Skips, for the recorder of a kernel, what was shown before. It says whether the recorder's follower may be lent.
+    /// Passes, for the recorder of a kernel, what was shown before. It says whether the recorder's follower may be lent.
     pub(crate) fn skip(&mut self, id: &str) -> bool {
-        let alloc = self.alloc;
         match self.ends_of(id) {
-            Some(ends) => ends.skip(alloc),
+            Some(ends) => ends.skip(),
             None => false,
         }
     }
