@@ -120,25 +120,6 @@ pub(crate) fn free_of<L: Language>(
     Ok(free)
 }
 
-/// How many entries are read at once.
-const ENTRIES: usize = 64;
-
-/// Reads on until a read finds nothing, or memory is refused. It says whether nothing is left.
-fn skip_all<L: Language>(alloc: Global, follower: Follower<L>) -> (Follower<L>, bool) {
-    let mut follower = follower;
-    for _ in 0..u64::MAX {
-        let (same, found) = follower.read(alloc, ENTRIES);
-        follower = same;
-        match found {
-            Ok(entries) => if entries.is_empty() {
-                return (follower, true);
-            },
-            Err(_) => return (follower, false),
-        }
-    }
-    (follower, false)
-}
-
 impl<L: Language> Ends<L> {
     /// Nothing came of the kernel yet.
     fn new(alloc: Global, left: Arc<AtomicBool, Global>) -> Ends<L> {
@@ -214,21 +195,29 @@ impl<L: Language> Ends<L> {
         let Some(follower) = self.recorder.take() else {
             return false;
         };
-        let (follower, skipped) = skip_all(alloc, follower);
-        if skipped {
+        let (follower, passed) = follower.pass();
+        let began = passed.is_ok();
+        if began {
             self.scribe = Some(Scribe::new(alloc, follower));
         } else {
             self.recorder = Some(follower);
         }
-        skipped
+        began
     }
 
-    /// Lends a seat.
+    /// Lends a seat, whose follower has passed what was shown before. What is shown to a connection comes after its join, so
+    /// nothing of it is passed.
     fn lend(&mut self) -> Option<Free<L>> {
         if self.has_ended() {
             return None;
         }
-        let free = self.free.pop()?;
+        let Free { seat, follower } = self.free.pop()?;
+        let (follower, passed) = follower.pass();
+        let free = Free { seat, follower };
+        if passed.is_err() {
+            let _ = self.free.push(free);
+            return None;
+        }
         self.lent = self.lent.saturating_add(1);
         Some(free)
     }
