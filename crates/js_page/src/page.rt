@@ -7,7 +7,7 @@ pub const PAGE: &str = r####"<!doctype html>
 <head>
 <meta charset="utf-8">
 <meta name="viewport" content="width=device-width, initial-scale=1">
-<meta http-equiv="Content-Security-Policy" content="default-src 'none'; style-src 'sha256-d8zSoJx3Hv0x56D//YsbQuy09cpjT/pXJ9gZ20RtaYk='; script-src 'sha256-V2UJh9IwuP/9VJdUMl9BVY+jAqo8VXtCy7xybQ/gkp4='; connect-src 'self' ws://127.0.0.1:* ws://localhost:*; img-src data:; base-uri 'none'; form-action 'none'">
+<meta http-equiv="Content-Security-Policy" content="default-src 'none'; style-src 'sha256-tgKnmVKpFLFuD9193RNLi2tdSMgHwW4Qk2rNxqXUJyY='; script-src 'sha256-4TNbuX/H8taL4rtTftVpuZFpqFoeC06VxPLIzT2k9aM='; connect-src 'self' ws://127.0.0.1:* ws://localhost:*; img-src data:; base-uri 'none'; form-action 'none'">
 <title>Oberon notebooks</title>
 <link rel="icon" href="data:image/svg+xml,%3Csvg xmlns='http://www.w3.org/2000/svg' viewBox='0 0 16 16'%3E%3Crect width='16' height='16' rx='4' fill='%232f6f5e'/%3E%3Ccircle cx='8' cy='8' r='4' fill='none' stroke='white' stroke-width='2'/%3E%3C/svg%3E">
 <style>
@@ -17,7 +17,7 @@ pub const PAGE: &str = r####"<!doctype html>
   --ground: #f5f5f2; --card: #ffffff; --ink: #1d2125; --soft: #646b73; --line: #dcdcd6; --accent: #2f6f5e; --on-accent: #ffffff;
   --code: #fafaf8; --word: #7a3e9d; --known: #1f5fa8; --string: #9a4a12; --note: #5f7a5f; --number: #1f6f6a;
   --bad: #b3261e; --bad-ground: #fdf0ee; --ask: #8a5a00; --ask-ground: #fff7e3; --good: #2f7d4f;
-  --mono: ui-monospace, "SF Mono", SFMono-Regular, Menlo, Consolas, "DejaVu Sans Mono", monospace;
+  --mono: ui-monospace, Menlo, Consolas, "DejaVu Sans Mono", monospace;
 }
 @media (prefers-color-scheme: dark) {
   :root {
@@ -29,7 +29,7 @@ pub const PAGE: &str = r####"<!doctype html>
 * { box-sizing: border-box; }
 [hidden] { display: none !important; }
 .unseen { position: absolute; width: 1px; height: 1px; margin: -1px; overflow: hidden; clip-path: inset(50%); white-space: nowrap; }
-body { margin: 0; background: var(--ground); color: var(--ink); font: 16px/1.5 system-ui, -apple-system, "Segoe UI", "DejaVu Sans", sans-serif; }
+body { margin: 0; background: var(--ground); color: var(--ink); font: 16px/1.5 system-ui, sans-serif; }
 a { color: var(--accent); }
 button, input, textarea { font: inherit; color: inherit; }
 button { background: var(--card); border: 1px solid var(--line); border-radius: 7px; padding: .25rem .7rem; cursor: pointer; white-space: nowrap; }
@@ -67,7 +67,7 @@ main { max-width: 62rem; margin: 0 auto; padding: 1rem 1rem 8rem; }
 .list li { display: flex; flex-wrap: wrap; align-items: center; gap: .5rem; padding: .5rem .8rem; border-top: 1px solid var(--line); } .list li:first-child { border-top: 0; }
 .list .name { flex: 1 1 12rem; overflow-wrap: anywhere; } .list .kind { width: 1.6rem; text-align: center; color: var(--soft); font-family: var(--mono); }
 .badge { font-size: .8rem; color: var(--good); border: 1px solid currentColor; border-radius: 99px; padding: 0 .5rem; }
-.empty { padding: 2.5rem 1rem; text-align: center; color: var(--soft); }
+.empty { padding: 2rem 1rem; text-align: center; color: var(--soft); } .empty button { margin: .2rem; }
 .crumbs { margin: 0 0 .8rem; color: var(--soft); }
 
 /* 4. Cells: gutter, editor, outputs, texts */
@@ -98,8 +98,7 @@ main { max-width: 62rem; margin: 0 auto; padding: 1rem 1rem 8rem; }
 .outputs pre { font: .92rem/1.45 var(--mono); white-space: pre-wrap; overflow-wrap: anywhere; max-height: 32rem; overflow-y: auto; margin-top: 0; } .outputs .typed { color: var(--ask); }
 .error { border-left: 3px solid var(--bad); background: var(--bad-ground); border-radius: 0 7px 7px 0; padding: .4rem .7rem !important; } .error b { color: var(--bad); }
 .error button { padding: 0 .3rem; border: 0; background: none; color: var(--accent); text-decoration: underline; }
-.more { color: var(--soft); font-style: italic; }
-.skipped { color: var(--soft); font-style: italic; }
+.more, .skipped { color: var(--soft); font-style: italic; }
 .asking { display: flex; gap: .5rem; align-items: center; background: var(--ask-ground); border-left: 3px solid var(--ask); border-radius: 0 7px 7px 0; padding: .4rem .7rem !important; }
 .asking input { flex: 1; min-width: 0; font: .92rem var(--mono); border: 1px solid var(--ask); border-radius: 6px; padding: .2rem .5rem; background: var(--card); }
 .text .body { padding: .4rem .8rem .4rem 0; } .text .shown { cursor: text; min-height: 2rem; overflow-wrap: anywhere; }
@@ -148,6 +147,7 @@ const MEANS = {
     15: "This has to be a constant.", 16: "This module isn't loaded: run its cell first.", 17: "The module imports itself.", 18: "The module (or record) shows no such name. Is a * missing there?",
     19: "This label stands twice, or the range is empty.", 20: "This is too large.", 21: "This part of Oberon-07 is left out here.",
   },
+  ends: { Interrupted: "What was loaded stays, with its values.", Restarted: "The kernel was restarted while this ran.", Memory: "There was no memory for this." },
   link: { 30: "This module isn't loaded: run its cell first.", 31: "The module has no such command: a procedure with * and without parameters.", 32: "This module has changed: run its client's cell again." },
   trap: {
     1: "The index is outside its array.", 2: "The divisor is 0 or less.", 3: "No case has this value.", 4: "An ASSERT doesn't hold.", 5: "No character has this number.",
@@ -163,6 +163,7 @@ const wait = ms => new Promise(done => setTimeout(done, ms));
 const joined = text => Array.isArray(text) ? text.join("") : (text || "");
 const urlPath = path => path.split("/").map(encodeURIComponent).join("/");
 const nameOf = path => path.split("/").pop();
+const bareName = path => nameOf(path).replace(/\.ipynb$/, "");
 const folderOf = path => path.split("/").slice(0, -1).join("/");
 
 // An element with attributes (on..: listeners) and children.
@@ -334,7 +335,10 @@ function markdown(text) {
 let nb = null;
 const KEPT = 4000000; // characters of one output that this page keeps as they come; the recorder keeps all
 const SHOWN = 60000; // of them that it shows
-const META = { kernelspec: { display_name: "Oberon-07", language: "oberon", name: "oberon" }, language_info: { file_extension: ".Mod", mimetype: "text/x-oberon", name: "oberon", pygments_lexer: "componentpascal", version: "07" } };
+const META = {
+  kernelspec: { display_name: "Oberon-07", language: "oberon", name: "oberon" },
+  language_info: { file_extension: ".Mod", mimetype: "text/x-oberon", name: "oberon", pygments_lexer: "componentpascal", version: "07" },
+};
 
 // A cell. `base` is the source that the server has (undefined: it has none yet); `request` what was last sent or seen for it;
 // `state` "", "waiting", "running" or "asking"; `whole` that all its outputs were seen here, so that the server's are not newer.
@@ -362,7 +366,8 @@ function makeView(cell) {
     icon("M8 3l5 6h-3.5v4h-3V9H3z", "Move up", () => move(cell, -1)), icon("M8 13l5-6H9.5V3h-3v4H3z", "Move down", () => move(cell, 1)),
     button(cell.type === "code" ? "to text" : "to code", "Make it a text or a code cell (m, y)", () => changeType(cell, cell.type === "code" ? "markdown" : "code"), "quiet"),
     icon("M5 2h6l.5 1.5H14V5H2V3.500h2.500zM3 6h10l-.8 8.500H3.800z", "Delete this cell (d d)", () => remove(cell)));
-  cell.view = el("section", { class: "cell " + (cell.type === "code" ? "code" : "text"), tabindex: "-1", role: "group", "data-id": cell.id, onmousedown: () => choose(cell, false), onfocus: event => { if (event.target === cell.view) choose(cell, false); } },
+  cell.view = el("section", { class: "cell " + (cell.type === "code" ? "code" : "text"), tabindex: "-1", role: "group", "data-id": cell.id,
+    onmousedown: () => choose(cell, false), onfocus: event => { if (event.target === cell.view) choose(cell, false); } },
     el("div", { class: "gutter" }, cell.type === "code" ? run : null, cell.type === "code" ? cell.number : null),
     el("div", { class: "body" }, cell.edit, ...(cell.type === "code" ? [cell.out, cell.asks] : [cell.shown])), tools);
 }
@@ -417,7 +422,7 @@ function typedParts(output) {
 const moreThan = length => `\n… ${(length - SHOWN).toLocaleString("en")} more characters are not shown; the saved notebook has them.\n`;
 function errorView(cell, output) {
   const evalue = output.evalue || "", found = /^(compile|link) error (\d+)|^(trap) (\d+)/.exec(evalue);
-  const meaning = found ? (MEANS[found[1] || found[3]] || {})[found[2] || found[4]] : { Interrupted: "What was loaded stays, with its values.", Restarted: "The kernel was restarted while this ran.", Memory: "There was no memory for this." }[output.ename];
+  const meaning = found ? (MEANS[found[1] || found[3]] || {})[found[2] || found[4]] : MEANS.ends[output.ename];
   const made = el("div", { class: "error", role: "group", "aria-label": "Error" }, el("b", {}, evalue || output.ename), meaning ? " " + meaning + " " : " ");
   const place = /^compile error \d+ at (\d+):(\d+)$/.exec(evalue), trap = /^trap \d+ in ([A-Za-z0-9]+), line (\d+)$/.exec(evalue);
   if (place) made.append(button("show", "Go to the place in the cell", () => goTo(cell, +place[1], +place[2])));
@@ -693,7 +698,7 @@ async function findAgain() {
 function movedTo(path) {
   nb.path = path;
   history.replaceState(null, "", "#/" + urlPath(path));
-  $("title").value = nameOf(path).replace(/\.ipynb$/, "");
+  $("title").value = bareName(path);
   showState();
 }
 // One connection, from its handshake to its end. Answers whether it was ever open.
@@ -812,7 +817,10 @@ function flushStream(cell, output) {
   if (below) pre.scrollTop = pre.scrollHeight;
 }
 function ask(cell, header) {
-  const line = el("input", { "aria-label": "Input for the cell", autocomplete: "off", autocapitalize: "off", spellcheck: "false", onkeydown: event => { if (event.key === "Enter" && !event.isComposing) { event.preventDefault(); answer(); } event.stopPropagation(); } });
+  const line = el("input", { "aria-label": "Input for the cell", autocomplete: "off", autocapitalize: "off", spellcheck: "false", onkeydown: event => {
+    if (event.key === "Enter" && !event.isComposing) { event.preventDefault(); answer(); }
+    event.stopPropagation();
+  } });
   const answer = () => {
     send("stdin", "input_reply", { value: line.value }, { parent: header });
     let last = cell.outputs[cell.outputs.length - 1];
@@ -842,7 +850,7 @@ function showState() {
   if (place.textContent !== text) place.textContent = text;
   place.className = "state " + kind;
   $("stop").disabled = kind !== "busy" && kind !== "ask";
-  document.title = (busy ? "● " : "") + nameOf(nb.path).replace(/\.ipynb$/, "");
+  document.title = (busy ? "● " : "") + bareName(nb.path);
 }
 
 // ---- 11. Running
@@ -907,14 +915,14 @@ async function restart(andRun = false) {
 }
 async function rename(to) {
   const path = (folderOf(nb.path) ? folderOf(nb.path) + "/" : "") + to.trim().replace(/\.ipynb$/, "") + ".ipynb";
-  if (path === nb.path || to.trim() === "") { $("title").value = nameOf(nb.path).replace(/\.ipynb$/, ""); return; }
+  if (path === nb.path || to.trim() === "") { $("title").value = bareName(nb.path); return; }
   try {
     await save();
     await api("PATCH", contents(nb.path), { path });
     movedTo(path);
     notice("name", "");
   } catch (fault) {
-    $("title").value = nameOf(nb.path).replace(/\.ipynb$/, "");
+    $("title").value = bareName(nb.path);
     notice("name", fault.status === 409 ? "There is a notebook of this name already." : "It could not be renamed: " + fault.message);
   }
 }
@@ -1120,7 +1128,8 @@ function showHelp() {
   paint(tour, MODULES.Tour, -1);
   const close = icon("M3 4l1-1 4 4 4-4 1 1-4 4 4 4-1 1-4-4-4 4-1-1 4-4z", "Close", () => $("help").close());
   $("help").replaceChildren(close, el("h2", { id: "help-title" }, "Help"),
-    el("p", {}, "A cell is one module, or a list of commands such as ", el("code", {}, "Hello.Show"), ". A module stays loaded until another of its name is run; modules that were run before can be imported. A command calls a procedure that has a * and no parameters."),
+    el("p", {}, "A cell is one module, or a list of commands such as ", el("code", {}, "Hello.Show"),
+      ". A module stays loaded until another of its name is run; modules that were run before can be imported. A command calls a procedure that has a * and no parameters."),
     el("div", { class: "two" }, el("div", {}, el("h3", {}, "The language"), tour, table(CALLS)),
       el("div", {}, el("h3", {}, "Examples"),
         el("ul", {}, ...EXAMPLES.map(example => el("li", {}, el("a", { href: "#/Examples/" + example[0] + ".ipynb", onclick: event => { event.preventDefault(); openExample(example); } }, example[0]), ": " + example[1]))),
@@ -1145,22 +1154,39 @@ async function makeExample(path, cells) {
 
 // ---- 14. The two views: a notebook, and a folder
 
-async function openNotebook(path) {
-  const book = nb = { path, cells: [], gone: [], chosen: null, session: null, socket: null, connected: false, open: new Set(), line: [], sent: null, strangers: 0, edits: 0, savedEdits: 0, savedOrder: "", modified: "", metadata: {}, timer: 0, turn: Promise.resolve(), restarting: false };
-  const title = el("input", { id: "title", class: "title", value: nameOf(path).replace(/\.ipynb$/, ""), "aria-label": "Name of the notebook", spellcheck: "false", onchange: event => rename(event.target.value), onkeydown: event => { if (event.key === "Enter") event.target.blur(); } });
-  $("bar").replaceChildren(icon("M9 3L4 8l5 5 1.500-1.500L7 8l3.500-3.500z", "To the list of notebooks", () => { location.hash = "#/" + urlPath(folderOf(path)) + (folderOf(path) ? "/" : ""); }, "back"), title,
+const freshBook = path => ({
+  path, cells: [], gone: [], chosen: null, session: null, socket: null, connected: false, restarting: false, open: new Set(), line: [], sent: null, strangers: 0,
+  edits: 0, savedEdits: 0, savedOrder: "", modified: "", metadata: {}, timer: 0, turn: Promise.resolve(),
+});
+function notebookBar(path) {
+  const back = () => { location.hash = "#/" + urlPath(folderOf(path)) + (folderOf(path) ? "/" : ""); };
+  const title = el("input", { id: "title", class: "title", value: bareName(path), "aria-label": "Name of the notebook", spellcheck: "false",
+    onchange: event => rename(event.target.value), onkeydown: event => { if (event.key === "Enter") event.target.blur(); } });
+  return [icon("M9 3L4 8l5 5 1.500-1.500L7 8l3.500-3.500z", "To the list of notebooks", back, "back"), title,
     el("span", { id: "saved", class: "saved" }), el("span", { class: "space" }), el("span", { id: "state", class: "state", role: "status" }, "connecting"),
-    button("Run all", "Run all cells from the top", () => runCells(nb.cells), "main"), el("button", { id: "stop", type: "button", title: "Interrupt what runs (i i)", disabled: true, onclick: interrupt }, "Stop"),
-    button("Restart", "Forget all modules (0 0)", () => restart()),
-    el("details", { class: "menu", onclick: event => { if (event.target.tagName === "BUTTON") event.currentTarget.open = false; }, onfocusout: event => { if (!event.currentTarget.contains(event.relatedTarget)) event.currentTarget.open = false; } },
-      el("summary", { "aria-label": "More", title: "More" }, "⋯"),
-      el("div", {}, button("Restart and run all", "", () => restart(true)), button("Clear outputs", "", clearOutputs), button("Download notebook", "As a file .ipynb", () => download(nameOf(nb.path), JSON.stringify(asDocument(), null, 2) + "\n")), button("Download modules", "Each as a file .Mod", downloadModules), button("Help", "The language, keys, examples (h)", showHelp))));
-  $("main").replaceChildren(el("div", { id: "cells" }), el("div", { class: "add" }, button("+ Code", "A code cell at the end", () => insert(nb.cells.length, "code")), button("+ Text", "A text cell at the end", () => insert(nb.cells.length, "markdown"))));
+    button("Run all", "Run all cells from the top", () => runCells(nb.cells), "main"),
+    el("button", { id: "stop", type: "button", title: "Interrupt what runs (i i)", disabled: true, onclick: interrupt }, "Stop"),
+    button("Restart", "Forget all modules (0 0)", () => restart()), menu()];
+}
+function menu() {
+  const shut = event => { if (event.target.tagName === "BUTTON") event.currentTarget.open = false; };
+  const left = event => { if (!event.currentTarget.contains(event.relatedTarget)) event.currentTarget.open = false; };
+  return el("details", { class: "menu", onclick: shut, onfocusout: left }, el("summary", { "aria-label": "More", title: "More" }, "\u22ef"), el("div", {},
+    button("Restart and run all", "", () => restart(true)), button("Clear outputs", "", clearOutputs),
+    button("Download notebook", "As a file .ipynb", () => download(nameOf(nb.path), JSON.stringify(asDocument(), null, 2) + "\n")),
+    button("Download modules", "Each as a file .Mod", downloadModules), button("Help", "The language, keys, examples (h)", showHelp)));
+}
+async function openNotebook(path) {
+  const book = nb = freshBook(path);
+  $("bar").replaceChildren(...notebookBar(path));
+  $("main").replaceChildren(el("div", { id: "cells" }), el("div", { class: "add" },
+    button("+ Code", "A code cell at the end", () => insert(nb.cells.length, "code")), button("+ Text", "A text cell at the end", () => insert(nb.cells.length, "markdown"))));
   try {
     await refresh();
   } catch (fault) {
     if (book !== nb) return;
-    notice("open", fault.status === 404 ? "There is no notebook " + path + "." : fault.status === 400 ? "This notebook can't be read: it is no notebook of version 4.5, or holds numbers with a fraction." : "It can't be opened: " + fault.message, { name: "To the list", run: () => { location.hash = "#/"; } });
+    const why = { 404: "There is no notebook " + path + ".", 400: "This notebook can't be read: it is none of version 4, or holds numbers with a fraction." }[fault.status];
+    notice("open", why || "It can't be opened: " + fault.message, { name: "To the list", run: () => { location.hash = "#/"; } });
     return;
   }
   showSaved();
@@ -1191,19 +1217,33 @@ async function openFolder(path) {
     notice("open", fault.message);
     return;
   }
-  const again = () => openFolder(path), running = new Map(sessions.map(session => [session.path, session]));
-  const rows = folder.content.filter(one => !one.name.startsWith(".")).map(one => {
-    const isBook = one.type === "notebook", session = running.get(one.path);
-    const link = one.type === "file" ? el("span", { class: "name" }, one.name) : el("a", { class: "name", href: "#/" + urlPath(one.path) + (isBook ? "" : "/") }, isBook ? one.name.replace(/\.ipynb$/, "") : one.name);
-    const act = async (what, run) => { try { await run(); notice("act", ""); await again(); } catch (fault) { notice("act", `${one.name} was not ${what}: ${fault.status === 400 && one.type === "directory" ? "the folder is not empty" : fault.message}`); } };
-    return el("li", {}, el("span", { class: "kind", "aria-hidden": "true" }, isBook ? "◉" : one.type === "directory" ? "▸" : "·"), link,
-      session ? el("span", { class: "badge" }, "running") : null,
-      session ? button("Stop", "End its kernel", () => act("stopped", () => api("DELETE", "/api/sessions/" + session.id)), "quiet") : null,
-      button("Rename", "", () => { const to = prompt("New name", one.name); if (to && to !== one.name) act("renamed", () => api("PATCH", contents(one.path), { path: (path ? path + "/" : "") + to })); }, "quiet"),
-      button("Delete", "", () => { if (confirm(`Delete ${one.name}?`)) act("deleted", async () => { if (session) await api("DELETE", "/api/sessions/" + session.id); await api("DELETE", contents(one.path)); }); }, "quiet"));
-  });
-  $("main").replaceChildren(crumbs, rows.length ? el("ul", { class: "list" }, ...rows) : el("div", { class: "list empty" }, "Nothing here yet. Make a notebook to begin, or open an example: ", ...EXAMPLES.map(example => button(example[0], example[1], () => openExample(example), "quiet"))));
+  const running = new Map(sessions.map(session => [session.path, session]));
+  const rows = folder.content.filter(one => !one.name.startsWith(".")).map(one => folderRow(path, one, running.get(one.path)));
+  $("main").replaceChildren(crumbs, rows.length ? el("ul", { class: "list" }, ...rows) : el("div", { class: "list empty" },
+    el("p", {}, "Nothing here yet. Make a notebook to begin, or open an example:"), ...EXAMPLES.map(one => button(one[0], one[1], () => openExample(one)))));
 }
+function folderRow(path, one, session) {
+  const isBook = one.type === "notebook", bare = isBook ? bareName(one.name) : one.name;
+  const act = async (what, run) => {
+    try {
+      await run();
+      notice("act", "");
+      await openFolder(path);
+    } catch (fault) { notice("act", `${one.name} was not ${what}: ${fault.status === 400 && one.type === "directory" ? "the folder is not empty" : fault.message}`); }
+  };
+  const stop = () => api("DELETE", "/api/sessions/" + session.id);
+  const rename = () => {
+    const to = prompt("New name", one.name);
+    if (to && to !== one.name) act("renamed", () => api("PATCH", contents(one.path), { path: (path ? path + "/" : "") + to }));
+  };
+  const remove = () => { if (confirm(`Delete ${one.name}?`)) act("deleted", async () => { if (session) await stop(); await api("DELETE", contents(one.path)); }); };
+  return el("li", {}, el("span", { class: "kind", "aria-hidden": "true" }, isBook ? "\u25c9" : one.type === "directory" ? "\u25b8" : "\u00b7"),
+    one.type === "file" ? el("span", { class: "name" }, bare) : el("a", { class: "name", href: "#/" + urlPath(one.path) + (isBook ? "" : "/") }, bare),
+    session ? el("span", { class: "badge" }, "running") : null,
+    session ? button("Stop", `End the kernel of ${bare}`, () => act("stopped", stop), "quiet") : null,
+    button("Rename", `Rename ${bare}`, rename, "quiet"), button("Delete", `Delete ${bare}`, remove, "quiet"));
+}
+
 // ---- 15. The place named behind `#` decides what is shown
 
 function route() {
