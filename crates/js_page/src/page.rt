@@ -7,7 +7,7 @@ pub const PAGE: &str = r####"<!doctype html>
 <head>
 <meta charset="utf-8">
 <meta name="viewport" content="width=device-width">
-<meta http-equiv="Content-Security-Policy" content="default-src 'none'; style-src 'sha256-XoLlu6tr+T23eBlreb/qMQUcjrU61+PTbjPLsaaRh9w='; script-src 'sha256-j+fVxwnEX4RmWDeg8YkFN2HcwBDKxo8g6VG6pZMdztk='; connect-src 'self' ws://127.0.0.1:* ws://localhost:*; img-src data:; base-uri 'none'; form-action 'none'">
+<meta http-equiv="Content-Security-Policy" content="default-src 'none'; style-src 'sha256-XoLlu6tr+T23eBlreb/qMQUcjrU61+PTbjPLsaaRh9w='; script-src 'sha256-640TYE0+u5f5qZXUz3iZcCQaYogHpKBgl/ZJVLls+qA='; connect-src 'self' ws://127.0.0.1:* ws://localhost:*; img-src data:; base-uri 'none'; form-action 'none'">
 <title>Oberon notebooks</title>
 <link rel="icon" href="data:image/svg+xml,%3Csvg xmlns='http://www.w3.org/2000/svg' viewBox='0 0 16 16'%3E%3Crect width='16' height='16' rx='4' fill='%232f6f5e'/%3E%3C/svg%3E">
 <style>
@@ -646,7 +646,7 @@ function lookAfterPut(book, modified, sources) {
 }
 // Until a PUT with a null count leaves a cell that runs alone: a cell that was sent is put with 0, and so are all without a
 // count while a cell runs that began before this window came. In a notebook that is read, 0 is null again.
-const countToPut = cell => cell.count === null && (cell.state || nb.strangers) ? 0 : cell.count;
+const countToPut = cell => cell.count === null && (cell.state || nb.others) ? 0 : cell.count;
 const countRead = count => count || null;
 // Until a GET of a notebook comes after what its recorder has read: reads it a moment after a cell has ended.
 const refreshLater = then => setTimeout(() => refresh().catch(() => {}).then(then), 400);
@@ -706,7 +706,7 @@ async function channel(book, session) {
   const socket = new WebSocket(`${location.protocol === "https:" ? "wss" : "ws"}://${location.host}/api/kernels/${session.kernel.id}/channels?session_id=${TAB}`);
   nb.socket = socket;
   nb.open = new Set();
-  nb.strangers = 1; // until no cell runs that may have begun before
+  nb.others = 1; // until no cell runs that may have begun before
   nb.before = nb.cells.filter(cell => cell.state && !nb.line.includes(cell)).map(cell => [cell, cell.request]);
   let wasOpen = false;
   socket.onopen = () => {
@@ -732,7 +732,7 @@ async function afterJoin() {
 }
 // No cell runs: what ran before this connection has ended, and its outputs are in the notebook.
 function afterRest() {
-  nb.strangers = 0;
+  nb.others = 0;
   const over = nb.before.filter(([cell, request]) => cell.state && cell.request === request).map(([cell]) => cell);
   for (const cell of over) { Object.assign(cell, { state: "", whole: false, question: null }); draw(cell); }
   if (over.length) refreshLater(() => over.forEach(lateAnswer));
@@ -759,7 +759,7 @@ function received(message) {
       break;
     }
     case "stream":
-      if (cell && cell.request !== id && !cell.state) { Object.assign(cell, { request: id, state: "running", outputs: [], whole: false }); nb.strangers = 0; draw(cell); }
+      if (cell && cell.request !== id && !cell.state) { Object.assign(cell, { request: id, state: "running", outputs: [], whole: false }); nb.others = 0; draw(cell); }
       if (cell && cell.request === id) streamed(cell, content);
       break;
     case "error":
@@ -793,7 +793,7 @@ function began(cell, id, content) {
   draw(cell);
 }
 function ended(cell, id) {
-  nb.strangers = 0;
+  nb.others = 0;
   if (!cell || cell.request !== id) { refreshLater(); return; }
   const seen = cell.whole || cell.skipped, fault = cell.outputs.find(output => output.output_type === "error");
   if (isMine(id)) say(`Cell ${nb.cells.indexOf(cell) + 1} ` + (cell.skipped ? "was not run" : fault ? "failed: " + (fault.evalue || fault.ename) : "has run"));
@@ -846,14 +846,14 @@ function ask(cell, header) {
   say(`Cell ${nb.cells.indexOf(cell) + 1} asks for a line`);
 }
 function kernelIsNew(text) {
-  Object.assign(nb, { open: new Set(), sent: null, line: [] });
+  Object.assign(nb, { open: new Set(), sent: null, line: [], others: 0, before: [] });
   for (const cell of nb.cells) if (cell.state) { Object.assign(cell, { state: "", question: null }); draw(cell); }
   notice("mild", text);
 }
 function showState() {
   const place = $("state");
   if (!place || !nb) return;
-  const busy = nb.connected && (nb.open.size > 0 || nb.strangers > 0 || nb.cells.some(cell => cell.state));
+  const busy = nb.connected && (nb.open.size > 0 || nb.others > 0 || nb.cells.some(cell => cell.state));
   const [kind, text] = nb.restarting ? ["busy", "restarting"] : !nb.connected ? ["lost", nb.session ? "connection lost" : "connecting"]
     : nb.cells.some(cell => cell.state === "asking") ? ["ask", "asks for input"] : busy ? ["busy", "running"] : ["ready", "ready"];
   if (place.textContent !== text) place.textContent = text;
@@ -1164,7 +1164,7 @@ async function makeExample(path, cells) {
 // ---- 14. The two views: a notebook, and a folder
 
 const freshBook = path => ({
-  path, cells: [], gone: [], chosen: null, session: null, socket: null, connected: false, restarting: false, open: new Set(), line: [], sent: null, strangers: 0,
+  path, cells: [], gone: [], chosen: null, session: null, socket: null, connected: false, restarting: false, open: new Set(), line: [], sent: null, others: 0,
   edits: 0, savedEdits: 0, savedOrder: "", modified: "", metadata: {}, timer: 0, turn: Promise.resolve(),
 });
 function notebookBar(path) {
