@@ -6,10 +6,10 @@ pub const PAGE: &str = r####"<!doctype html>
 <html lang="en">
 <head>
 <meta charset="utf-8">
-<meta name="viewport" content="width=device-width, initial-scale=1">
-<meta http-equiv="Content-Security-Policy" content="default-src 'none'; style-src 'sha256-tgKnmVKpFLFuD9193RNLi2tdSMgHwW4Qk2rNxqXUJyY='; script-src 'sha256-4TNbuX/H8taL4rtTftVpuZFpqFoeC06VxPLIzT2k9aM='; connect-src 'self' ws://127.0.0.1:* ws://localhost:*; img-src data:; base-uri 'none'; form-action 'none'">
+<meta name="viewport" content="width=device-width">
+<meta http-equiv="Content-Security-Policy" content="default-src 'none'; style-src 'sha256-XoLlu6tr+T23eBlreb/qMQUcjrU61+PTbjPLsaaRh9w='; script-src 'sha256-640TYE0+u5f5qZXUz3iZcCQaYogHpKBgl/ZJVLls+qA='; connect-src 'self' ws://127.0.0.1:* ws://localhost:*; img-src data:; base-uri 'none'; form-action 'none'">
 <title>Oberon notebooks</title>
-<link rel="icon" href="data:image/svg+xml,%3Csvg xmlns='http://www.w3.org/2000/svg' viewBox='0 0 16 16'%3E%3Crect width='16' height='16' rx='4' fill='%232f6f5e'/%3E%3Ccircle cx='8' cy='8' r='4' fill='none' stroke='white' stroke-width='2'/%3E%3C/svg%3E">
+<link rel="icon" href="data:image/svg+xml,%3Csvg xmlns='http://www.w3.org/2000/svg' viewBox='0 0 16 16'%3E%3Crect width='16' height='16' rx='4' fill='%232f6f5e'/%3E%3C/svg%3E">
 <style>
 /* 1. Colours, and what all parts share */
 :root {
@@ -79,7 +79,7 @@ main { max-width: 62rem; margin: 0 auto; padding: 1rem 1rem 8rem; }
 .gutter .run:hover { border-color: var(--accent); }
 .count { font: .8rem var(--mono); }
 .cell.running .count, .cell.waiting .count { color: var(--accent); font-weight: 700; }
-.tools { position: absolute; right: .6rem; top: -1rem; z-index: 1; display: flex; background: var(--card); border: 1px solid var(--line); border-radius: 7px; font-size: .85rem; opacity: 0; transition: opacity .1s; }
+.tools { position: absolute; right: .6rem; top: -1rem; z-index: 1; display: flex; background: var(--card); border: 1px solid var(--line); border-radius: 7px; font-size: .85rem; opacity: 0; }
 .cell:hover .tools, .cell:focus-within .tools, .cell.chosen .tools { opacity: 1; }
 .edit { display: grid; margin: .5rem .5rem .5rem 0; border-radius: 7px; background: var(--code); border: 1px solid transparent; }
 .edit:focus-within { border-color: var(--line); }
@@ -294,7 +294,7 @@ function inline(text) {
     if (match[1]) made.append(el("code", {}, match[1]));
     else if (match[2]) made.append(el("strong", {}, inline(match[2])));
     else if (match[3] || match[4]) made.append(el("em", {}, inline(match[3] || match[4])));
-    else made.append(el("a", { href: match[6], rel: "noopener noreferrer", target: match[6][0] === "#" ? null : "_blank" }, match[5]));
+    else made.append(el("a", { href: match[6], rel: "noopener", target: match[6][0] === "#" ? null : "_blank" }, match[5]));
     from = sign.lastIndex;
   }
   made.append(text.slice(from));
@@ -646,7 +646,7 @@ function lookAfterPut(book, modified, sources) {
 }
 // Until a PUT with a null count leaves a cell that runs alone: a cell that was sent is put with 0, and so are all without a
 // count while a cell runs that began before this window came. In a notebook that is read, 0 is null again.
-const countToPut = cell => cell.count === null && (cell.state || nb.strangers) ? 0 : cell.count;
+const countToPut = cell => cell.count === null && (cell.state || nb.others) ? 0 : cell.count;
 const countRead = count => count || null;
 // Until a GET of a notebook comes after what its recorder has read: reads it a moment after a cell has ended.
 const refreshLater = then => setTimeout(() => refresh().catch(() => {}).then(then), 400);
@@ -680,7 +680,7 @@ async function keepConnected(book) {
         if (cell.state === "asking") { Object.assign(cell, { state: "running", question: null }); draw(cell); }
       }
     } catch (fault) {
-      if (fault.status === 503) notice("kernel", "Sixteen kernels run already. Stop one in the list of notebooks, and this notebook starts by itself.");
+      if (fault.status === 503) notice("kernel", "Sixteen kernels run already. Stop one in the list, and this notebook starts by itself.");
       else if (fault.status >= 400) notice("kernel", "No kernel for this notebook: " + fault.message + ".");
     }
     if (book !== nb) return;
@@ -706,30 +706,38 @@ async function channel(book, session) {
   const socket = new WebSocket(`${location.protocol === "https:" ? "wss" : "ws"}://${location.host}/api/kernels/${session.kernel.id}/channels?session_id=${TAB}`);
   nb.socket = socket;
   nb.open = new Set();
-  nb.strangers = session.kernel.execution_state === "busy" ? 1 : 0;
-  const idle = session.kernel.execution_state === "idle";
+  nb.others = 1; // until no cell runs that may have begun before
+  nb.before = nb.cells.filter(cell => cell.state && !nb.line.includes(cell)).map(cell => [cell, cell.request]);
   let wasOpen = false;
-  socket.onopen = () => { wasOpen = true; send("control", "kernel_info_request", {}, { id: "joined:" + TAB }); };
-  socket.onmessage = event => { if (book === nb && nb.socket === socket) received(JSON.parse(event.data), idle); };
+  socket.onopen = () => {
+    wasOpen = true;
+    send("control", "kernel_info_request", {}, { id: "joined:" + TAB });
+    send("shell", "kernel_info_request", {}, { id: "rested:" + TAB }); // answered between cells alone
+  };
+  socket.onmessage = event => { if (book === nb && nb.socket === socket) received(JSON.parse(event.data)); };
   await new Promise(done => { socket.onclose = done; });
   if (!wasOpen && book === nb) {
     const kernel = await api("GET", "/api/kernels/" + session.kernel.id).catch(() => null);
-    notice("kernel", kernel && kernel.connections >= 7 ? "Seven windows share this kernel already. Close one, and this one connects by itself." : "");
+    notice("kernel", kernel && kernel.connections >= 7 ? "Seven windows share this kernel already. Close one, and this connects by itself." : "");
   }
   return wasOpen;
 }
-async function afterJoin(idle) {
+async function afterJoin() {
   nb.connected = true;
   notice("kernel", "");
-  const sent = nb.sent, over = idle && sent && !nb.open.has(sent.request);
-  if (idle) nb.cells.forEach(cell => { if (cell.state && !nb.open.has(cell.request) && !nb.line.includes(cell)) { cell.state = ""; cell.whole = false; } });
   await refresh().catch(() => {});
-  if (over) lateAnswer(sent);
   sendNext();
   showState();
   if (isEdited()) save().catch(() => {});
 }
-function received(message, idleAtStart) {
+// No cell runs: what ran before this connection has ended, and its outputs are in the notebook.
+function afterRest() {
+  nb.others = 0;
+  const over = nb.before.filter(([cell, request]) => cell.state && cell.request === request).map(([cell]) => cell);
+  for (const cell of over) { Object.assign(cell, { state: "", whole: false, question: null }); draw(cell); }
+  if (over.length) refreshLater(() => over.forEach(lateAnswer));
+}
+function received(message) {
   const parent = message.parent_header, id = parent.msg_id, content = message.content, kind = message.header.msg_type;
   const cell = parent.msg_type === "execute_request" ? cellOf(id) : undefined;
   switch (kind) {
@@ -742,7 +750,8 @@ function received(message, idleAtStart) {
       }
       break;
     case "kernel_info_reply":
-      if (id.startsWith("joined:")) afterJoin(idleAtStart);
+      if (id === "joined:" + TAB) afterJoin();
+      if (id === "rested:" + TAB) afterRest();
       break;
     case "execute_input": {
       const at = cell || (cellIdOf(id) ? insertForeign(cellIdOf(id), content.code) : undefined);
@@ -750,7 +759,7 @@ function received(message, idleAtStart) {
       break;
     }
     case "stream":
-      if (cell && cell.request !== id && !cell.state) { Object.assign(cell, { request: id, state: "running", outputs: [], whole: false }); nb.strangers = 0; draw(cell); }
+      if (cell && cell.request !== id && !cell.state) { Object.assign(cell, { request: id, state: "running", outputs: [], whole: false }); nb.others = 0; draw(cell); }
       if (cell && cell.request === id) streamed(cell, content);
       break;
     case "error":
@@ -784,7 +793,7 @@ function began(cell, id, content) {
   draw(cell);
 }
 function ended(cell, id) {
-  nb.strangers = 0;
+  nb.others = 0;
   if (!cell || cell.request !== id) { refreshLater(); return; }
   const seen = cell.whole || cell.skipped, fault = cell.outputs.find(output => output.output_type === "error");
   if (isMine(id)) say(`Cell ${nb.cells.indexOf(cell) + 1} ` + (cell.skipped ? "was not run" : fault ? "failed: " + (fault.evalue || fault.ename) : "has run"));
@@ -837,14 +846,14 @@ function ask(cell, header) {
   say(`Cell ${nb.cells.indexOf(cell) + 1} asks for a line`);
 }
 function kernelIsNew(text) {
-  Object.assign(nb, { open: new Set(), sent: null, line: [] });
+  Object.assign(nb, { open: new Set(), sent: null, line: [], others: 0, before: [] });
   for (const cell of nb.cells) if (cell.state) { Object.assign(cell, { state: "", question: null }); draw(cell); }
   notice("mild", text);
 }
 function showState() {
   const place = $("state");
   if (!place || !nb) return;
-  const busy = nb.connected && (nb.open.size > 0 || nb.strangers > 0 || nb.cells.some(cell => cell.state));
+  const busy = nb.connected && (nb.open.size > 0 || nb.others > 0 || nb.cells.some(cell => cell.state));
   const [kind, text] = nb.restarting ? ["busy", "restarting"] : !nb.connected ? ["lost", nb.session ? "connection lost" : "connecting"]
     : nb.cells.some(cell => cell.state === "asking") ? ["ask", "asks for input"] : busy ? ["busy", "running"] : ["ready", "ready"];
   if (place.textContent !== text) place.textContent = text;
@@ -1115,7 +1124,7 @@ const EXAMPLES = [
 ];
 const KEYS = [
   ["Shift-Enter", "run the cell, go to the next"], ["Ctrl-Enter", "run the cell, stay"], ["Alt-Enter", "run the cell, make one below"], ["Ctrl-S", "save"],
-  ["Esc", "leave the editor; then:"], ["Enter", "into the editor"], ["\u2191 \u2193", "the cell above, below"], ["a b", "new cell above, below"], ["Shift-K Shift-J", "move the cell up, down"],
+  ["Esc", "leave the editor; then:"], ["Enter", "into the editor"], ["↑ ↓", "the cell above, below"], ["a b", "new cell above, below"], ["Shift-K Shift-J", "move the cell up, down"],
   ["m y", "make it text, code"], ["d d", "delete the cell"], ["z", "undo that"], ["i i", "interrupt"], ["0 0", "restart"],
 ];
 const CALLS = [
@@ -1155,7 +1164,7 @@ async function makeExample(path, cells) {
 // ---- 14. The two views: a notebook, and a folder
 
 const freshBook = path => ({
-  path, cells: [], gone: [], chosen: null, session: null, socket: null, connected: false, restarting: false, open: new Set(), line: [], sent: null, strangers: 0,
+  path, cells: [], gone: [], chosen: null, session: null, socket: null, connected: false, restarting: false, open: new Set(), line: [], sent: null, others: 0,
   edits: 0, savedEdits: 0, savedOrder: "", modified: "", metadata: {}, timer: 0, turn: Promise.resolve(),
 });
 function notebookBar(path) {
@@ -1171,7 +1180,7 @@ function notebookBar(path) {
 function menu() {
   const shut = event => { if (event.target.tagName === "BUTTON") event.currentTarget.open = false; };
   const left = event => { if (!event.currentTarget.contains(event.relatedTarget)) event.currentTarget.open = false; };
-  return el("details", { class: "menu", onclick: shut, onfocusout: left }, el("summary", { "aria-label": "More", title: "More" }, "\u22ef"), el("div", {},
+  return el("details", { class: "menu", onclick: shut, onfocusout: left }, el("summary", { "aria-label": "More" }, "⋯"), el("div", {},
     button("Restart and run all", "", () => restart(true)), button("Clear outputs", "", clearOutputs),
     button("Download notebook", "As a file .ipynb", () => download(nameOf(nb.path), JSON.stringify(asDocument(), null, 2) + "\n")),
     button("Download modules", "Each as a file .Mod", downloadModules), button("Help", "The language, keys, examples (h)", showHelp)));
@@ -1237,7 +1246,7 @@ function folderRow(path, one, session) {
     if (to && to !== one.name) act("renamed", () => api("PATCH", contents(one.path), { path: (path ? path + "/" : "") + to }));
   };
   const remove = () => { if (confirm(`Delete ${one.name}?`)) act("deleted", async () => { if (session) await stop(); await api("DELETE", contents(one.path)); }); };
-  return el("li", {}, el("span", { class: "kind", "aria-hidden": "true" }, isBook ? "\u25c9" : one.type === "directory" ? "\u25b8" : "\u00b7"),
+  return el("li", {}, el("span", { class: "kind", "aria-hidden": "true" }, isBook ? "◉" : one.type === "directory" ? "▸" : "·"),
     one.type === "file" ? el("span", { class: "name" }, bare) : el("a", { class: "name", href: "#/" + urlPath(one.path) + (isBook ? "" : "/") }, bare),
     session ? el("span", { class: "badge" }, "running") : null,
     session ? button("Stop", `End the kernel of ${bare}`, () => act("stopped", stop), "quiet") : null,
