@@ -1,6 +1,6 @@
 //! The page that a browser gets: a notebook, as one text of HTML.
 #![tactic(auto)]
 
-mod page;
+mod text;
 
-pub use page::{PAGE, page};
+pub use text::{PAGE, page};
