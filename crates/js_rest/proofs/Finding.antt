@@ -1,5 +1,5 @@
 -- What was found for a request, by its route.
-use Rattle.std.proofs.Common.{◌≡◌, ℕ, Bool, true, false, List, Option, Some, None, Result, Ok, Err, refl, sym, subst}
+use Rattle.std.proofs.Common.{◌≡◌, ℕ, true, false, List, Option, Some, None, Result, Ok, Err, refl, sym, subst}
 use Rattle.js_http.specs.Origins.{is_own}
 use Rattle.js_http.specs.Targets.{segments_of}
 use Rattle.js_http.specs.declared.request.Request.{Request}
