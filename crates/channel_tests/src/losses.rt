@@ -8,7 +8,7 @@ use crate::socket::{End, Socket};
 use jk_board::{Board, Follower};
 use jk_core::{Kernel, Work};
 use jk_language::Language;
-use jk_log::ParsedCell;
+use jk_log::{Arrival, ParsedCell, What};
 use jk_queues::{Gate, Inbox, Pool, Seat, Seats, Taker, WorkerEnd, worker};
 use jk_run::{Driver, Parts, drive_some};
 use js_ws::{Channel, Turn, channel_turn};
@@ -51,9 +51,10 @@ struct Made<L: Language> {
     parsers: Vec<WorkerEnd<ParsedCell<L>>>,
 }
 
-/// A driver, seat 3 and its follower, and a parser.
+/// A driver, seat 3 and its follower, another seat, and a parser.
 struct Cast<L: Language> {
     driver: Driver<L>,
+    other: Seat,
     seat: Seat,
     follower: Follower<L>,
     parsers: Vec<WorkerEnd<ParsedCell<L>>>,
@@ -90,10 +91,12 @@ fn make_cast<R: Wait, L: Language>(rt: &R, alloc: Global) -> Result<Cast<L>, All
         parsers,
     } = made;
     let seat = seats.three;
+    let other = seats.one;
     let follower = followers.three;
     let driver = Driver::new(alloc, kernel, taker, pool, publisher);
     Ok(Cast {
         driver,
+        other,
         seat,
         follower,
         parsers,
@@ -115,9 +118,9 @@ fn finish<R: Wait, L: Language>(rt: &R, driver: Driver<L>) {
     publisher.end(rt);
 }
 
-/// Rounds of a kernel and turns of a channel, until the channel is closed and the kernel rests. How many entries the channel
-/// sent, or none where that never came.
-fn run<R, S, L>(rt: &R, driver: Driver<L>, channel: Channel<S, L>) -> Option<usize>
+/// At most so many rounds of a kernel and turns of a channel, until the channel is closed and the kernel rests. How many entries
+/// the channel sent, or none where that never came.
+fn run<R, S, L>(rt: &R, driver: Driver<L>, channel: Channel<S, L>, most: u32) -> Option<usize>
 where
     R: Wait,
     S: Read + Write + Drop,
@@ -127,7 +130,7 @@ where
     let mut channel = channel;
     let mut sent: usize = 0;
     let mut count = None;
-    for _ in 0..1_000_000 {
+    for _ in 0..most {
         let (same, answer) = channel_turn(rt, DATE, channel);
         channel = same;
         let (same, work) = drive_some(rt, 1, driver);
@@ -169,6 +172,7 @@ where
     let cast = make_cast::<R, TestLanguage>(&rt, alloc)?;
     let Cast {
         driver,
+        other: _,
         seat,
         follower,
         mut parsers,
@@ -178,7 +182,7 @@ where
         Some(end) => begin(rt, alloc, end).ok(),
         None => None,
     };
-    let count = run(&rt, driver, channel);
+    let count = run(&rt, driver, channel, 1_000_000);
     match parser {
         Some(parser) => {
             drop(parser.join(&rt));
@@ -197,5 +201,44 @@ fn channels_that_are_closed(rt: HostRuntime) -> Result<(), Fail> {
     assert_eq!(rt; lost, Some(3));
     let shut = sent(rt, rt.alloc(), Socket::new(SHUTDOWN, End::Waits))?;
     assert_eq!(rt; shut, Some(3));
+    Ok(())
+}
+
+/// Sends two thousand joins from a seat, and has the kernel show each.
+fn crowd<R: Wait, L: Language>(rt: &R, driver: Driver<L>, seat: Seat) -> Driver<L> {
+    let mut driver = driver;
+    let mut seat = seat;
+    for _ in 0..2_000 {
+        let join = Arrival {
+            seat: seat.place(),
+            number: seat.next_number(),
+            what: What::Join,
+        };
+        let (same, _) = seat.submit(rt, join);
+        seat = same;
+        let (same, _) = drive_some(rt, 1, driver);
+        driver = same;
+    }
+    driver
+}
+
+/// A screen that comes when two thousand entries were shown has its answers within eight turns, since its follower has passed
+/// what came before.
+#[test]
+fn second_screen(rt: HostRuntime) -> Result<(), Fail> {
+    let names = names(rt.alloc())?;
+    let cast = make_cast::<HostRuntime, TestLanguage>(&rt, rt.alloc())?;
+    let Cast {
+        driver,
+        other,
+        seat,
+        follower,
+        parsers: _,
+    } = cast;
+    let driver = crowd(&rt, driver, other);
+    let (follower, _) = follower.pass();
+    let socket = Socket::new(SHUTDOWN, End::Waits);
+    let channel = Channel::new(rt.alloc(), socket, names, seat, follower);
+    assert_eq!(rt; run(&rt, driver, channel, 8), Some(3));
     Ok(())
 }

@@ -10,6 +10,8 @@ mod messages;
 #[cfg(test)]
 mod notebooks;
 #[cfg(test)]
+mod origins;
+#[cfg(test)]
 mod requests;
 #[cfg(test)]
 mod shelves;

@@ -2,7 +2,7 @@
 
 use js_http::{
     Bytes, ErrorStatus, HttpRefusal, MAX_BODY_LEN, MAX_HEAD_LEN, Method, Response, Served, Stream,
-    Text, path_segments, query_value, read_request, serve_one, write_response,
+    Text, path_segments, query_value, read_request, serve_one, write_page, write_response,
 };
 use std::alloc::Global;
 use std::io;
@@ -304,6 +304,20 @@ fn responses_and_their_beginnings(rt: HostRuntime) -> Result<(), Fail> {
         &Response::Refused(ErrorStatus::NotFound),
         "HTTP/1.1 404 Not Found\r\nContent-Type: application/json\r\nContent-Length: 37\r\nConnection: close\r\n\r\n{\"message\":\"Not Found\",\"reason\":null}",
     );
+    Ok(())
+}
+
+// The page is no JSON, and its length is that of its bytes.
+#[test]
+fn a_page_and_its_beginning(rt: HostRuntime) -> Result<(), Fail> {
+    let text =
+        "HTTP/1.1 200 OK\r\nContent-Type: text/html\r\nContent-Length: 14\r\nConnection: close\r\n\r\n<p>\u{e9}, \u{2026}</p>";
+    let mut writer = writer_of(rt.alloc(), 1000, 0);
+    write_page(&mut writer, "<p>\u{e9}, \u{2026}</p>")?;
+    assert_eq!(rt; writer.written.as_slice(), text.as_bytes());
+    let mut writer = writer_of(rt.alloc(), 7, 4);
+    assert!(rt; write_page(&mut writer, "<p>").is_err());
+    assert_eq!(rt; writer.written.as_slice(), b"HTTP/1.1 200 OK".as_slice());
     Ok(())
 }
 

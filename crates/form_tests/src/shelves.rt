@@ -127,10 +127,14 @@ fn links_and_leftovers(rt: HostRuntime) -> Result<(), Fail> {
     fs::write(&rt, "shelf_of_links/outside/secret", "secret")?;
     symlink(&rt, "../outside", "shelf_of_links/root/way")?;
     symlink(&rt, "../outside/secret", "shelf_of_links/root/file")?;
-    // A crash left a half of a new file.
-    fs::write(&rt, "shelf_of_links/root/\\new", "half")?;
+    // Crashes left halves of new files, and somebody made a folder of such a name.
+    fs::write(&rt, "shelf_of_links/root/\\new1", "half")?;
+    fs::create_dir(&rt, "shelf_of_links/root/\\new2")?;
+    fs::create_dir(&rt, "shelf_of_links/root/d")?;
+    fs::write(&rt, "shelf_of_links/root/d/\\new7", "half")?;
     let mut shelf = FileShelf::new(rt.clone()?, "shelf_of_links/root")?;
-    expect_names(&rt, &mut shelf, "", &[]);
+    expect_names(&rt, &mut shelf, "", &["d"]);
+    assert_eq!(rt; shelf.delete("d"), Ok(()));
     assert_eq!(rt; shelf.get("way/secret").err(), Some(ShelfRefusal::Missing));
     assert_eq!(rt; shelf.get("file").err(), Some(ShelfRefusal::Missing));
     assert_eq!(rt; shelf.list("way").err(), Some(ShelfRefusal::Missing));

@@ -1,6 +1,6 @@
 -- How entries are copied, and what a follower has read.
-use Rattle.std.proofs.Common.{◌≡◌, ℕ, ◌+◌, ◌≤◌, min, List, ◌++◌, take, drop, length, sym, ap, ◌∙◌}
-use Rattle.std.proofs.lemmas.List.{take_all, take_min, length-take, take-append-le}
+use Rattle.std.proofs.Common.{◌≡◌, ℕ, ◌+◌, ◌≤◌, min, List, ◌++◌, take, drop, length, sym, ap, ◌∙◌, append_assoc}
+use Rattle.std.proofs.lemmas.List.{take_all, take_min, length-take, take-append-le, take-append-drop}
 use Rattle.jk_log.specs.declared.entry.Entry.{Entry}
 use Rattle.jk_board.specs.Boards.{StartsWith}
 use Rattle.jk_board.proofs.Lists.{take-add}
@@ -18,3 +18,10 @@ read_on old found got place now max n within starts is size sum =
     ∙ ap (λ l. l ++ take n (drop place found)) (ap (take place) starts.1 ∙ take-append-le place old starts.0 within)
     ∙ ap (λ k. take place old ++ take k (drop place found)) size'
     ∙ ap (λ l. take place old ++ l) (take_min max (drop place found) ∙ sym is)
+
+-- what a follower passes
+pub passed_on : (old found read : List Entry) (place : ℕ) → StartsWith found old → read ≡ found → StartsWith read (take place old)
+passed_on old found read place starts is = (
+  drop place old ++ starts.0,
+  is ∙ starts.1 ∙ ap (λ l. l ++ starts.0) (sym (take-append-drop place old)) ∙ append_assoc (take place old) (drop place old) starts.0,
+)

@@ -1,5 +1,6 @@
 //! A board: rows of what was published, which its copies share.
-ghost use Rattle.jk_board.specs.Levels.{AreWhole};
+ghost use Rattle.std.specs.Prelude.{◌≡◌, ◌++◌, length};
+ghost use Rattle.jk_board.specs.Levels.{of_newest, of_older, of_oldest, AreWhole};
 
 use jk_log::Entry;
 use std::alloc::{AllocError, Global};
@@ -41,5 +42,8 @@ pub struct Posted {
     older: Row<Row<Publication>>,
     /// At most 64 publications.
     newest: Row<Publication>,
+    /// How many entries these rows hold.
+    end: usize,
     ghost whole: { AreWhole oldest older newest },
+    ghost ended: { end ≡ length (of_oldest oldest ++ of_older older ++ of_newest newest) },
 }

@@ -21,6 +21,7 @@ use Rattle.jk_log.specs.Results.{Reading}
 use Rattle.jk_core.specs.State.{KernelState, is_cell}
 use Rattle.jk_core.specs.Steps.{aborting, answering, begun, broken, closed, closing, failing, first_after, flushed, gone_on, has_lines, limit, noted, sliced, with_result, with_waits, written, AnswersFirst, Closes, GoesOn, GoesWithout, Hands, Moves, Starts, StartsAs, StartsFirst, Works}
 use Rattle.jk_core.proofs.Keeps.{by_tasks, some_same}
+use Rattle.jk_queues.specs.declared.line.Hand.{Hand}
 use Rattle.jk_run.specs.Driver.{HasGiven}
 
 module _ {T : Type 0} where
@@ -99,9 +100,9 @@ module _ {T : Type 0} where
       subst AreGiven (sym e) (set_past old.given old.waits i w (with_result p.outcome w) there (ap is_cell (sym can.unread)) refl h)
   hands_given p old (Stranger back) new (b, e, none) h = subst AreGiven (sym e) h
 
-  pub given_hands : (p : Reading T) (old : KernelState T) (used : Used (Reading T)) (new : KernelState T) → Hands p old used new → (job : Option Job) → HasGiven job old → HasGiven job new
-  given_hands p old used new hands (Some job) h = tt
-  given_hands p old used new hands None h =
+  pub given_hands : (p : Reading T) (old : KernelState T) (used : Used (Reading T)) (new : KernelState T) → Hands p old used new → (job : Option Job) (jobs : Hand Job) → HasGiven job jobs old → HasGiven job jobs new
+  given_hands p old used new hands (Some job) jobs h = h
+  given_hands p old used new hands None jobs h =
       past_none new.given new.waits (hands_given p old used new hands (none_past old.given old.waits h))
 
 module _ {S T : Type 0} (spoken : Spoken S T) where
@@ -157,7 +158,7 @@ module _ {S T : Type 0} (spoken : Spoken S T) where
   works_given turns old NeedsLine new (asks, inr moves) h = moves_given turns old NeedsLine new moves h
   works_given turns old Ran new s h = moves_given turns old Ran new s h
 
-  pub given_works : (turns : ℕ) (old : KernelState T) (answer : Work) (new : KernelState T) → Works spoken turns old answer new → (job : Option Job) → HasGiven job old → HasGiven job new
-  given_works turns old answer new works (Some job) h = tt
-  given_works turns old answer new works None h =
+  pub given_works : (turns : ℕ) (old : KernelState T) (answer : Work) (new : KernelState T) → Works spoken turns old answer new → (job : Option Job) (jobs : Hand Job) → HasGiven job jobs old → HasGiven job jobs new
+  given_works turns old answer new works (Some job) jobs h = h
+  given_works turns old answer new works None jobs h =
       past_none new.given new.waits (works_given turns old answer new works (none_past old.given old.waits h))

@@ -22,7 +22,8 @@ use Rattle.jk_core.proofs.Shown.{IsShown, joined-append, shown_works, takes_work
 use Rattle.jk_board.specs.Boards.{IsBoard}
 use Rattle.jk_run.specs.declared.driver.Driver.{Driver}
 use Rattle.jk_run.specs.Acts.{driven, Leads, MovesKernel, GivesJobs, HandsResults, MovesBoard}
-use Rattle.jk_run.specs.Driver.{IsEmptied, Pends, Publishes, HasGiven, HasDriven, AreSameEnds}
+use Rattle.jk_queues.specs.declared.line.Hand.{Hand}
+use Rattle.jk_run.specs.Driver.{IsEmptied, Pends, Publishes, HasGiven, HasDriven, HasWorked, HasDone, IsRound, AreSameEnds, state_of}
 use Rattle.jk_run.specs.Hand.{hand_entries}
 use Rattle.jk_run.proofs.Acting.{leads_none, leads_on, leads_shown, leads_publish, leads_work, board_none}
 use Rattle.jk_run.proofs.Giving.{given_works}
@@ -63,12 +64,12 @@ module _ {T : Type 0} where
   pub none_shown : (board : List Entry) (entries : Option (Vec Entry Global)) (k : KernelState T) → entries ≡ None → board ++ (hand_entries entries ++ joined k.pending) ≡ render k.log → IsShown board k
   none_shown board entries k e h = subst (λ (o : Option (Vec Entry Global)). board ++ (hand_entries o ++ joined k.pending) ≡ render k.log) e h
 
-  none_pends : (entries : Option (Vec Entry Global)) (all now : KernelState T) → entries ≡ None → Pends entries all now → now ≡ all
+  pub none_pends : (entries : Option (Vec Entry Global)) (all now : KernelState T) → entries ≡ None → Pends entries all now → now ≡ all
   none_pends entries all now e h = subst (λ (o : Option (Vec Entry Global)). Pends o all now) e h
 
-  given_without : (n : ℕ) (k : KernelState T) (job : Option Job) → HasGiven job k → HasGiven job (without n k)
-  given_without n k None h = h
-  given_without n k (Some job) h = tt
+  given_without : (n : ℕ) (k : KernelState T) (job : Option Job) (jobs : Hand Job) → HasGiven job jobs k → HasGiven job jobs (without n k)
+  given_without n k None jobs h = h
+  given_without n k (Some job) jobs h = h
 
   -- all that was pending is pending no more
   pub none_left : (old new : KernelState T) → new ≡ without (length old.pending) old → new.pending ≡ []
@@ -119,13 +120,19 @@ module _ {S T : Type 0} (spoken : Spoken S T) where
       let three = leads_shown spoken (driven k2 board [] before) (driven k3 board [] results) (handed board []) two in
       shown_works spoken board 1000 k3 answer k4 works three
 
+  -- the acts of a round up to its slice
+  pub round_handed : (board : List Entry) (k0 k1 k2 k3 : KernelState T) (first jobs : List Job) (before middle results : List (Reading T)) → MovesKernel spoken k0 k1 → GivesJobs spoken k1 first k2 jobs → middle ≡ before → HandsResults spoken k2 middle k3 results → Leads spoken (driven k0 board first before) (driven k3 board jobs results)
+  round_handed board k0 k1 k2 k3 first jobs before middle results take give same handed =
+      let d = driven k0 board first before in
+      let one = leads_on spoken d (driven k1 board first before) (driven k2 board jobs before) (take board first before) (give board before) in
+      let results_from = subst (λ (l : List (Reading T)). Leads spoken (driven k2 board jobs l) (driven k3 board jobs results)) same (handed board jobs) in
+      leads_on spoken d (driven k2 board jobs before) (driven k3 board jobs results) one results_from
+
   -- the acts of a round
   pub round_acts : (board more : List Entry) (k0 k1 k2 k3 k4 k5 : KernelState T) (first jobs last : List Job) (before middle results : List (Reading T)) (answer : Work) (back : Option (Vec Entry Global)) → MovesKernel spoken k0 k1 → GivesJobs spoken k1 first k2 jobs → middle ≡ before → HandsResults spoken k2 middle k3 results → last ≡ jobs → Works spoken 1000 k3 answer k4 → Publishes spoken k4 board back k5 more → (m : KernelState T) × Pends back m k5 × Leads spoken (driven k0 board first before) (driven m more last results)
   round_acts board more k0 k1 k2 k3 k4 k5 first jobs last before middle results answer back take give same handed still works published =
       let d = driven k0 board first before in
-      let one = leads_on spoken d (driven k1 board first before) (driven k2 board jobs before) (take board first before) (give board before) in
-      let results_from = subst (λ (l : List (Reading T)). Leads spoken (driven k2 board jobs l) (driven k3 board jobs results)) same (handed board jobs) in
-      let two = leads_on spoken d (driven k2 board jobs before) (driven k3 board jobs results) one results_from in
+      let two = round_handed board k0 k1 k2 k3 first jobs before middle results take give same handed in
       let three = leads_on spoken d (driven k3 board jobs results) (driven k4 board jobs results) two (leads_work spoken 1000 answer k3 k4 board jobs results works) in
       let four = leads_on spoken d (driven k4 board jobs results) (driven published.0 more jobs results) three (published.2 jobs results) in
       (published.0, published.1, subst (λ (js : List Job). Leads spoken d (driven published.0 more js results)) (sym still) four)
@@ -149,10 +156,11 @@ module _ {S T : Type 0} (spoken : Spoken S T) where
   from_kernel entries back kernel k last board more given jobs handed results none pends acts =
       subst (λ (k : KernelState T). (m : KernelState T) × Pends back m last × Leads spoken (driven k board given handed) (driven m more jobs results)) (none_pends entries k kernel none pends) acts
 
-  -- each request that waits was given, or a job is in hand
-  pub round_given : (k2 k3 k4 k5 : KernelState T) (n : ℕ) (answer : Work) (job : Option Job) → HasGiven job k2 → ((job : Option Job) → HasGiven job k2 → HasGiven job k3) → Works spoken 1000 k3 answer k4 → k5 ≡ without n k4 → HasGiven job k5
-  round_given k2 k3 k4 k5 n answer job h handed works is =
-      subst (HasGiven job) (sym is) (given_without n k4 job (given_works spoken 1000 k3 answer k4 works job (handed job h)))
+  -- each request that waits was given, or a job is in hand for which the pool was full
+  pub round_given : (k2 k3 k4 k5 : KernelState T) (n : ℕ) (answer : Work) (job : Option Job) (before jobs : Hand Job) → HasGiven job before k2 → ((job : Option Job) (jobs : Hand Job) → HasGiven job jobs k2 → HasGiven job jobs k3) → jobs ≡ before → Works spoken 1000 k3 answer k4 → k5 ≡ without n k4 → HasGiven job jobs k5
+  round_given k2 k3 k4 k5 n answer job before jobs h handed same works is =
+      subst (λ (v : Hand Job). HasGiven job v k5) (sym same)
+      (subst (HasGiven job before) (sym is) (given_without n k4 job before (given_works spoken 1000 k3 answer k4 works job before (handed job before h))))
 
 module _ {L S T M : Type 0} (spoken : Spoken S T) where
   pub driven_none : (a : Driver L S T M) → HasDriven spoken a a
@@ -163,6 +171,27 @@ module _ {L S T M : Type 0} (spoken : Spoken S T) where
       let first = one k pends in
       let second = two first.0 first.1 in
       (second.0, second.1, leads_on spoken _ _ _ first.2 second.2)
+
+module _ {L S T M : Type 0} (spoken : Spoken S T) where
+  worked_on : (a b c : Driver L S T M) (answer : Work) → HasDriven spoken a b → HasWorked spoken answer b c → HasWorked spoken answer a c
+  worked_on a b c answer one two k pends =
+      let first = one k pends in
+      let second = two first.0 first.1 in
+      (second.0, second.1, leads_on spoken (state_of k a) (state_of first.0 b) second.0 first.2 second.2, second.3, second.4)
+
+  -- a round of a driver is one of the driver that it was before
+  pub round_on : (a b c : Driver L S T M) (answer : Work) → HasDriven spoken a b → IsRound spoken answer b c → IsRound spoken answer a c
+  round_on a b c answer one two ran =
+      let done = two ran in
+      record {
+        arrival = done.arrival;
+        inbox = done.inbox;
+        given = done.given;
+        results = done.results;
+        entries = done.entries;
+        pending = done.pending;
+        worked = worked_on a b c answer one done.worked;
+      }
 
 module _ {L S T M : Type 0} where
   pub ends_on : (a b c : Driver L S T M) → AreSameEnds a b → AreSameEnds b c → AreSameEnds a c

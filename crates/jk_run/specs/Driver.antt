@@ -1,6 +1,6 @@
 -- To be believed.
 -- What a clause sees of a driver.
-use Rattle.std.specs.Prelude.{◌≡◌, ◌≢◌, ◌⊎◌, true, List, [], ◌++◌, length, Option, None, Some}
+use Rattle.std.specs.Prelude.{◌≡◌, ◌≢◌, ◌⊎◌, true, ℕ, zero, suc, List, [], ◌++◌, length, Option, None, Some}
 use Rattle.std.specs.declared.vec.Vec.{Vec}
 use Rattle.std.specs.declared.alloc.Global.{Global}
 use Rattle.crossbeam_queue.specs.Fifo.{Held}
@@ -15,7 +15,9 @@ use Rattle.jk_log.specs.Pending.{joined}
 use Rattle.jk_core.specs.Steps.{Works, first_after, without}
 use Rattle.jk_queues.specs.Ends.{taker_view, taker_inbox}
 use Rattle.jk_queues.specs.Inbox.{Stands}
-use Rattle.jk_queues.specs.Pool.{offered_by, collected_by, IsSamePool}
+use Rattle.jk_queues.specs.Line.{StandsPushed, StandsTaken}
+use Rattle.jk_queues.specs.Pool.{offered_by, collected_by, jobs_view, results_view, IsSamePool}
+use Rattle.jk_queues.specs.declared.line.Hand.{Hand}
 use Rattle.jk_queues.specs.declared.part.Part.{Part}
 use Rattle.jk_board.specs.Ends.{published}
 use Rattle.jk_run.specs.declared.driver.Driver.{Driver}
@@ -36,16 +38,10 @@ Publishes {T = T} spoken old board entries new more =
 abbrev pub IsEmptied : Log → Part → Type 0
 IsEmptied log view = (ended log ≡ true) ⊎ Held 0 (Stands view)
 
--- each request that waits was given, or a job is in hand
-abbrev pub HasGiven : {T : Type 0} → Option Job → KernelState T → Type 0
-HasGiven None k = first_after k.given k.waits ≡ None
-HasGiven (Some job) k = Unit {0}
-
--- by a slice that answered this, and a publication of all that was pending
-abbrev pub HasWorked : {S T : Type 0} → Spoken S T → Work → KernelState T → Type 0
-HasWorked {T = T} spoken answer k =
-    (before : KernelState T) × (after : KernelState T)
-    × Works spoken 1000 before answer after × (k ≡ without (length after.pending) after)
+-- each request that waits was given, or a job is in hand that found 64 jobs in the queue at a moment
+abbrev pub HasGiven : {T : Type 0} → Option Job → Hand Job → KernelState T → Type 0
+HasGiven None jobs k = first_after k.given k.waits ≡ None
+HasGiven (Some job) jobs k = Held 64 (StandsPushed jobs)
 
 module _ {L S T M : Type 0} where
   -- what the driver has moved, where its kernel is this: a job in hand was given, an arrival in hand was not taken
@@ -63,17 +59,33 @@ module _ {L S T M : Type 0} where
     pub inbox : taker_inbox new.taker ≡ taker_inbox old.taker
     pub pool : IsSamePool old.pool new.pool
 
+  -- The last slice answered this. It was one of this driver's own kernel, where that stood after acts of the driver; and
+  -- all that was pending after it was published.
+  abbrev pub HasWorked : Spoken S T → Work → Driver L S T M → Driver L S T M → Type 0
+  HasWorked spoken answer old new =
+      (k : KernelState T) → Pends old.entries k old.kernel
+      → (d : DriverState T) × (after : KernelState T)
+      × Leads spoken (state_of k old) d × Works spoken 1000 d.kernel answer after × (new.kernel ≡ without (length after.pending) after)
+
   -- All that there was to do was done: nothing is in hand but perhaps a job, the inbox was empty at a moment or the
-  -- kernel was shut down, each request that waits was given or its job is in hand, nothing is pending, and the last
-  -- slice answered this.
-  pub record HasDone (spoken : Spoken S T) (answer : Work) (d : Driver L S T M) : Type 0 where
+  -- kernel was shut down, each request that waits was given or the pool was full for its job, no result stood in the
+  -- pool at a moment, nothing is pending, and the last slice answered this.
+  pub record HasDone (spoken : Spoken S T) (answer : Work) (old d : Driver L S T M) : Type 0 where
     pub arrival : d.arrival ≡ None
     pub inbox : IsEmptied d.kernel.log (taker_view d.taker)
-    pub given : HasGiven d.job d.kernel
+    pub given : HasGiven d.job (jobs_view d.pool) d.kernel
+    pub results : Held 0 (StandsTaken (results_view d.pool))
     pub entries : d.entries ≡ None
     pub pending : d.kernel.pending ≡ []
-    pub worked : HasWorked spoken answer d.kernel
+    pub worked : HasWorked spoken answer old d
 
   -- unless a call was refused for memory
-  abbrev pub IsRound : Spoken S T → Work → Driver L S T M → Type 0
-  IsRound spoken answer d = answer ≢ NoMemory → HasDone spoken answer d
+  abbrev pub IsRound : Spoken S T → Work → Driver L S T M → Driver L S T M → Type 0
+  IsRound spoken answer old d = answer ≢ NoMemory → HasDone spoken answer old d
+
+  -- so many rounds, one after the other, the last of which answered this
+  abbrev pub Rounds : Spoken S T → ℕ → Driver L S T M → Work → Driver L S T M → Type 0
+  Rounds spoken zero old answer new = new ≡ old
+  Rounds spoken (suc n) old answer new =
+      (mid : Driver L S T M) × (before : Work)
+      × Rounds spoken n old before mid × HasDriven spoken mid new × AreSameEnds mid new × IsRound spoken answer mid new

@@ -1,7 +1,10 @@
 //! Giving jobs to the pool, and handing its results to the kernel.
-ghost use Rattle.std.specs.Prelude.{◌≡◌, ◌++◌, true, Option};
+ghost use Rattle.std.specs.Prelude.{◌≡◌, ◌++◌, true, IfSome, Option};
 ghost use Rattle.jk_log.specs.declared.job.Job.{Job};
-ghost use Rattle.jk_queues.specs.Pool.{offered_by, collected_by, IsSamePool};
+ghost use Rattle.crossbeam_queue.specs.Fifo.{Held};
+ghost use Rattle.jk_queues.specs.Line.{StandsPushed, StandsTaken};
+ghost use Rattle.jk_queues.specs.declared.line.Hand.{Hand};
+ghost use Rattle.jk_queues.specs.Pool.{offered_by, collected_by, jobs_view, results_view, IsSamePool};
 ghost use Rattle.jk_run.specs.Acts.{GivesJobs, HandsResults};
 ghost use Rattle.jk_run.specs.Driver.{HasGiven};
 ghost use Rattle.jk_run.specs.Hand.{hand};
@@ -21,7 +24,7 @@ pub(crate) fn give_jobs<L: Language, R: Wait>(
     job: Option<Job>,
 ) -> (Option<Job>, bool)
     ensures log { kernel.new.log ≡ kernel.old.log }
-    ensures given { result.1 ≡ true → HasGiven result.0 kernel.new }
+    ensures given { result.1 ≡ true → HasGiven result.0 (jobs_view pool.new) kernel.new }
     ensures pool { IsSamePool pool.old pool.new × (collected_by pool.new ≡ collected_by pool.old) }
     ensures acts { GivesJobs L.spoken kernel.old (offered_by pool.old ++ hand job) kernel.new (offered_by pool.new ++ hand result.0) }
 {
@@ -38,7 +41,7 @@ fn give_all<L: Language, R: Wait>(
     pool: &mut Pool<ParsedCell<L>>,
 ) -> (Option<Job>, bool)
     ensures log { kernel.new.log ≡ kernel.old.log }
-    ensures given { result.1 ≡ true → HasGiven result.0 kernel.new }
+    ensures given { result.1 ≡ true → HasGiven result.0 (jobs_view pool.new) kernel.new }
     ensures pool { IsSamePool pool.old pool.new × (collected_by pool.new ≡ collected_by pool.old) }
     ensures acts { GivesJobs L.spoken kernel.old (offered_by pool.old) kernel.new (offered_by pool.new ++ hand result.0) }
 {
@@ -60,6 +63,7 @@ fn give_all<L: Language, R: Wait>(
 /// Offers the job in hand, if there is one. What comes back is in hand still.
 fn offer_hand<T: Drop, R: Wait>(rt: &R, pool: &mut Pool<T>, job: Option<Job>) -> Option<Job>
     ensures offered { offered_by pool.new ++ hand result ≡ offered_by pool.old ++ hand job }
+    ensures full { IfSome result (λ job. Held 64 (StandsPushed (jobs_view pool.new))) }
     ensures pool { IsSamePool pool.old pool.new × (collected_by pool.new ≡ collected_by pool.old) }
 {
     match job {
@@ -75,7 +79,9 @@ pub(crate) fn hand_results<L: Language, R: Wait>(
     pool: &mut Pool<ParsedCell<L>>,
 )
     ensures log { kernel.new.log ≡ kernel.old.log }
-    ensures given { (job : Option Job) → HasGiven job kernel.old → HasGiven job kernel.new }
+    ensures given { (job : Option Job) (jobs : Hand Job) → HasGiven job jobs kernel.old → HasGiven job jobs kernel.new }
+    ensures jobs { jobs_view pool.new ≡ jobs_view pool.old }
+    ensures results { Held 0 (StandsTaken (results_view pool.new)) }
     ensures pool { IsSamePool pool.old pool.new × (offered_by pool.new ≡ offered_by pool.old) }
     ensures acts { HandsResults L.spoken kernel.old (collected_by pool.old) kernel.new (collected_by pool.new) }
 {

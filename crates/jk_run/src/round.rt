@@ -2,7 +2,7 @@
 ghost use Rattle.std.specs.Prelude.{◌≡◌, ◌≢◌, ◌≤◌, true, None};
 ghost use Rattle.jk_log.specs.Legal.{IsLegal};
 ghost use Rattle.jk_core.specs.declared.kernel.Work.TheVariants.{NoMemory};
-ghost use Rattle.jk_run.specs.Driver.{HasDriven, AreSameEnds, IsRound};
+ghost use Rattle.jk_run.specs.Driver.{HasDriven, AreSameEnds, IsRound, Rounds};
 
 use crate::arrivals::take_arrivals;
 use crate::board::{publish_hand, publish_pending};
@@ -19,9 +19,10 @@ const SLICE: u64 = 1_000;
 /// memory. A round takes what arrived, gives jobs, hands results to the kernel, works one slice and publishes.
 pub fn drive_some<L: Language, R: Wait>(rt: &R, rounds: u64, driver: Driver<L>) -> (Driver<L>, Work)
     requires { 1 ≤ rounds }
+    ensures rounds { Rounds L.spoken rounds driver result.1 result.0 }
     ensures acts { HasDriven L.spoken driver result.0 }
     ensures same { AreSameEnds driver result.0 }
-    ensures done { IsRound L.spoken result.1 result.0 }
+    ensures done { IsRound L.spoken result.1 driver result.0 }
     ensures legal { IsLegal L.spoken result.0.kernel.log }
 {
     let (mut driver, mut work) = round(rt, driver);
@@ -38,7 +39,7 @@ pub fn drive_some<L: Language, R: Wait>(rt: &R, rounds: u64, driver: Driver<L>) 
 pub(crate) fn round<L: Language, R: Wait>(rt: &R, driver: Driver<L>) -> (Driver<L>, Work)
     ensures acts { HasDriven L.spoken driver result.0 }
     ensures same { AreSameEnds driver result.0 }
-    ensures done { IsRound L.spoken result.1 result.0 }
+    ensures done { IsRound L.spoken result.1 driver result.0 }
 {
     let driver = show_hand(rt, driver);
     if driver.entries.is_some() {
@@ -80,7 +81,7 @@ fn go_round<L: Language, R: Wait>(rt: &R, driver: Driver<L>) -> (Driver<L>, Work
     requires { driver.entries ≡ None }
     ensures acts { HasDriven L.spoken driver result.0 }
     ensures same { AreSameEnds driver result.0 }
-    ensures done { IsRound L.spoken result.1 result.0 }
+    ensures done { IsRound L.spoken result.1 driver result.0 }
 {
     let Driver {
         alloc,

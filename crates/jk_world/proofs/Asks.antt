@@ -60,7 +60,7 @@ module _ {S T : Type 0} (spoken : Spoken S T) where
   stopping_goes past (AnswerDue a ∷ ds) es at kind other may h = stopping_append ds es h
 
   -- a question comes only where nothing is owed
-  ask_may : (past : Log) (ds : List Due) (at : ℕ) → MayMark spoken past ds (record { at = at; kind = Ask }) → MayCome spoken past at Ask × (ds ≡ [])
+  pub ask_may : (past : Log) (ds : List Due) (at : ℕ) → MayMark spoken past ds (record { at = at; kind = Ask }) → MayCome spoken past at Ask × (ds ≡ [])
   ask_may past [] at may = (may, refl)
   ask_may past (MarkDue a due ∷ ds) at (same, forced) = absurd (subst IsForced (sym (ap (λ (m : Mark). m.kind) same)) forced)
   ask_may past (AnswerDue a ∷ ds) at (status, same, right) = let k : Ask ≡ Answer status = ap (λ (m : Mark). m.kind) same in cc

@@ -16,3 +16,6 @@ pub mod Counted
 pub mod Texts
 pub mod Asks
 pub mod Replied
+pub mod Shown
+pub mod Controls
+pub mod Prefixes

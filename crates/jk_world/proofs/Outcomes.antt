@@ -73,7 +73,7 @@ module _ {S T : Type 0} (spoken : Spoken S T) where
           subst (λ (t : ℕ). Stops spoken past r at t c n) et (subst (λ (k : ℕ). Stops spoken past r at t c k) ek (subst (λ (c : Cause). Stops spoken past r at t c k) ec s))
 
   -- the cell that runs was not closed
-  running_open : (past : Log) (at : ℕ) (r : Running) (kind : Kind) → EachFollows spoken past → running past ≡ Some r → at ≡ r.at → closed_as at past ≡ Some kind → ⊥
+  pub running_open : (past : Log) (at : ℕ) (r : Running) (kind : Kind) → EachFollows spoken past → running past ≡ Some r → at ≡ r.at → closed_as at past ≡ Some kind → ⊥
   running_open past at r kind each runs here e =
       let ended = closed_ended past at kind e in
       let few = begun_few past at in
@@ -83,7 +83,7 @@ module _ {S T : Type 0} (spoken : Spoken S T) where
       omega (arith, ended, few, once, is, all)
 
   -- what waits first was not closed
-  waiting_open : (past : Log) (at : ℕ) (kind : Kind) → EachFollows spoken past → slice_get (waiting past) 0 ≡ Some at → closed_as at past ≡ Some kind → ⊥
+  pub waiting_open : (past : Log) (at : ℕ) (kind : Kind) → EachFollows spoken past → slice_get (waiting past) 0 ≡ Some at → closed_as at past ≡ Some kind → ⊥
   waiting_open past at kind each first e =
       let ended = closed_ended past at kind e in
       let few = begun_few past at in

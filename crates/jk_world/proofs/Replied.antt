@@ -103,10 +103,10 @@ is_query (content.Request r) q h = subst (λ (x : Request). request_query x ≡ 
 is_query (content.Output o) q h = absurd (none-some q h)
 
 -- entries after a mark
-outputs_more : (xs ys : List Entry) → outputs_in (xs ++ ys) ≡ outputs_in xs ++ outputs_in ys
+pub outputs_more : (xs ys : List Entry) → outputs_in (xs ++ ys) ≡ outputs_in xs ++ outputs_in ys
 outputs_more xs ys = filter-append _ xs ys
 
-outputs_same : (xs ys : List Entry) → outputs_in ys ≡ [] → outputs_in (xs ++ ys) ≡ outputs_in xs
+pub outputs_same : (xs ys : List Entry) → outputs_in ys ≡ [] → outputs_in (xs ++ ys) ≡ outputs_in xs
 outputs_same xs ys none = outputs_more xs ys ∙ ap (λ (es : List Entry). outputs_in xs ++ es) none ∙ append-nil (outputs_in xs)
 
 none_if : (b : Bool) (es : List Entry) → (b ≡ true → outputs_in es ≡ []) → outputs_in (cond b es []) ≡ []

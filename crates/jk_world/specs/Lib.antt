@@ -7,3 +7,5 @@ pub mod Input
 pub mod Requests
 pub mod Parents
 pub mod Answers
+pub mod Shown
+pub mod Controls

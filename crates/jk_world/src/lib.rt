@@ -2,10 +2,10 @@
 //! log tells of each request.
 #![tactic(auto)]
 
-ghost use Rattle.std.specs.Prelude.{◌≡◌, ◌++◌, ◌||◌, List, ℕ, None, Some};
+ghost use Rattle.std.specs.Prelude.{◌≡◌, ◌++◌, ◌||◌, List, [], ℕ, None, Some};
 ghost use Rattle.jk_log.specs.declared.entry.Entry.{Entry};
 ghost use Rattle.jk_log.specs.Log.{Log};
-ghost use Rattle.jk_log.specs.Legal.{IsLegal};
+ghost use Rattle.jk_log.specs.Legal.{IsLegal, owed};
 ghost use Rattle.jk_log.specs.Render.{render};
 ghost use Rattle.jk_world.specs.World.{World, Event, opening, Run, IsTrueWorld, HasGoneOn};
 ghost use Rattle.jk_world.specs.Cells.{IsAnsweredOnce, begun_in, CellIsRight};
@@ -16,6 +16,8 @@ ghost use Rattle.jk_world.specs.Counts.{TellCounts};
 ghost use Rattle.jk_world.specs.Requests.{IsShownRight};
 ghost use Rattle.jk_world.specs.Parents.{ParentsFit};
 ghost use Rattle.jk_world.specs.Answers.{AreShownOnce};
+ghost use Rattle.jk_world.specs.Shown.{CellsAreShown};
+ghost use Rattle.jk_world.specs.Controls.{ControlsAreShown};
 ghost use Rattle.jk_log.specs.View.{view, part, has_joined};
 
 use jk_language::Language;
@@ -27,6 +29,12 @@ use jk_language::Language;
 pub fn world_law<L: Language>()
     ensures { (followers : ℕ) (events : List (Event L.Tree)) (w : World L.Tree)
         → Run L.spoken (opening followers) events w → IsTrueWorld L.spoken w }
+{}
+
+/// A beginning of a legal log at which nothing is owed is legal. So what the other laws say of a log holds of each such
+/// beginning of it: of the cells before a shutdown as of those after it.
+pub fn prefix_law<L: Language>()
+    ensures { (past more : Log) → IsLegal L.spoken (more ++ past) → owed past ≡ [] → IsLegal L.spoken past }
 {}
 
 /// In any list of steps nothing that was sent, taken, marked or published is lost or changed.
@@ -83,6 +91,21 @@ pub fn shown_law<L: Language>()
 /// is answered. Then busy, its one reply, to its asker on its channel, and idle stand together, and no other output of it.
 pub fn answer_law<L: Language>()
     ensures { (log : Log) → IsLegal L.spoken log → AreShownOnce L.spoken log }
+{}
+
+/// In what is shown of a legal log an execute request is one of three. It waits, and no output of it stands there. Or its
+/// cell was begun: then its outputs are busy, the cell with its count, streams that are not empty and questions for a line;
+/// and once it was ended or stopped the one error that this names, one reply with the same count, and idle, and nothing after.
+/// Of a silent cell cell, streams and error are left out. Or it was aborted, or refused for memory: busy, that reply, idle.
+pub fn cell_law<L: Language>()
+    ensures { (log : Log) → IsLegal L.spoken log → CellsAreShown log }
+{}
+
+/// In what is shown of a legal log, an interrupt, a question about the kernel and a shutdown on the control channel have busy,
+/// their one reply to the seat that asked, and idle, together, and no other entry; a connection that begins or ends has one
+/// notice.
+pub fn control_law<L: Language>()
+    ensures { (log : Log) → IsLegal L.spoken log → ControlsAreShown log }
 {}
 
 /// In what is shown of a legal log each stream and each error is for the request of the last `ExecuteInput` before it.

@@ -1,15 +1,18 @@
 -- To be believed.
 -- What stands at a path, as a look at it shows.
 use Rattle.std.specs.Prelude.{◌≡◌, ℕ, Bool, true, false, List, Option, Some, None, Result, Ok, Err}
+use Rattle.std.specs.Option.{option_map}
 use Rattle.js_http.specs.declared.response.ErrorStatus.{ErrorStatus}
 use Rattle.js_http.specs.declared.response.ErrorStatus.TheVariants.{InternalServerError}
 use Rattle.js_shelf.specs.declared.item.Item.{Item}
 use Rattle.js_shelf.specs.declared.item.Item.TheVariants.{File, Folder}
+use Rattle.js_shelf.specs.declared.item.ItemKind.{ItemKind}
+use Rattle.js_shelf.specs.declared.item.ItemKind.TheVariants as kind
 use Rattle.js_shelf.specs.declared.item.ShelfRefusal.{ShelfRefusal}
 use Rattle.js_shelf.specs.declared.item.ShelfRefusal.TheVariants.{Missing, Exists, BadPath, NotEmpty, Device, Memory}
-use Rattle.js_shelf.specs.Shelves.{Contents, Same, IsListing, get_fault, list_fault, is_folder}
+use Rattle.js_shelf.specs.Shelves.{Contents, Same, IsListing, get_fault, list_fault, is_folder, kind_of}
 use Rattle.js_tables.specs.declared.refusal.Refusal.{Refusal}
-use Rattle.js_tables.specs.Plans.{Gives, Found, status_of, of_shelf}
+use Rattle.js_tables.specs.Plans.{◌>>=◌, Gives, Found, status_of, of_shelf}
 
 -- ---- the definitions: by the first fault of a look at a path, and by what stands there
 
@@ -37,8 +40,16 @@ got_present (Some NotEmpty) item = Err (status_of (of_shelf NotEmpty))
 got_present (Some Device) item = Err (status_of (of_shelf Device))
 got_present (Some Memory) item = Err (status_of (of_shelf Memory))
 
-abbrev pub present_at : Contents → List ℕ → Result (Option Item) ErrorStatus
-present_at m path = got_present (get_fault m path) (m path)
+abbrev pub present_item_at : Contents → List ℕ → Result (Option Item) ErrorStatus
+present_item_at m path = got_present (get_fault m path) (m path)
+
+-- the kind of the item
+abbrev pub kind_at : Contents → List ℕ → Result ItemKind ErrorStatus
+kind_at m path = item_at m path >>= λ item. Ok (kind_of item)
+
+-- the kind of the item, if there is one
+abbrev pub present_at : Contents → List ℕ → Result (Option ItemKind) ErrorStatus
+present_at m path = present_item_at m path >>= λ item. Ok (option_map kind_of item)
 
 -- whether a folder stands there; at what is no path none does
 abbrev pub folder_by : Option ShelfRefusal → Option Item → Bool
@@ -63,8 +74,8 @@ abbrev pub shown_item : Result Item ShelfRefusal → Result Item Refusal
 shown_item (Ok item) = Ok item
 shown_item (Err e) = Err (of_shelf e)
 
-abbrev pub shown_present : Result Item ShelfRefusal → Result (Option Item) Refusal
-shown_present (Ok item) = Ok (Some item)
+abbrev pub shown_present : {A : Type 0} → Result A ShelfRefusal → Result (Option A) Refusal
+shown_present (Ok found) = Ok (Some found)
 shown_present (Err Missing) = Ok None
 shown_present (Err Exists) = Err (of_shelf Exists)
 shown_present (Err BadPath) = Err (of_shelf BadPath)
@@ -72,12 +83,16 @@ shown_present (Err NotEmpty) = Err (of_shelf NotEmpty)
 shown_present (Err Device) = Err (of_shelf Device)
 shown_present (Err Memory) = Err (of_shelf Memory)
 
-abbrev pub is_folder_item : Item → Bool
-is_folder_item (File bytes) = false
-is_folder_item Folder = true
+abbrev pub shown_kind : Result ItemKind ShelfRefusal → Result ItemKind Refusal
+shown_kind (Ok kind) = Ok kind
+shown_kind (Err e) = Err (of_shelf e)
 
-abbrev pub shown_folder : Result Item ShelfRefusal → Option Bool
-shown_folder (Ok item) = Some (is_folder_item item)
+abbrev pub is_folder_kind : ItemKind → Bool
+is_folder_kind (kind.File count) = false
+is_folder_kind kind.Folder = true
+
+abbrev pub shown_folder : Result ItemKind ShelfRefusal → Option Bool
+shown_folder (Ok kind) = Some (is_folder_kind kind)
 shown_folder (Err Missing) = Some false
 shown_folder (Err Exists) = Some false
 shown_folder (Err BadPath) = Some false
@@ -94,8 +109,14 @@ shown_names (Err e) = Err (of_shelf e)
 abbrev pub Looks : List ℕ → Result Item Refusal → Contents → Contents → Type 0
 Looks path result m n = Same m n × Gives result (item_at m path)
 
-abbrev pub Presents : List ℕ → Result (Option Item) Refusal → Contents → Contents → Type 0
+abbrev pub FindsKind : List ℕ → Result ItemKind Refusal → Contents → Contents → Type 0
+FindsKind path result m n = Same m n × Gives result (kind_at m path)
+
+abbrev pub Presents : List ℕ → Result (Option ItemKind) Refusal → Contents → Contents → Type 0
 Presents path result m n = Same m n × Gives result (present_at m path)
+
+abbrev pub PresentsItem : List ℕ → Result (Option Item) Refusal → Contents → Contents → Type 0
+PresentsItem path result m n = Same m n × Gives result (present_item_at m path)
 
 abbrev pub IfThere : Option Bool → Bool → Type 0
 IfThere None b = Unit {0}

@@ -19,7 +19,7 @@ use Rattle.js_shelf.specs.Shelves.{Contents, Same}
 use Rattle.js_tables.specs.declared.refusal.Refusal.{Refusal}
 use Rattle.js_tables.specs.declared.refusal.Refusal.TheVariants.{Status, Failed}
 use Rattle.js_tables.specs.Plans.{◌>>=◌, Gives, or_bad}
-use Rattle.js_contents.specs.Looks.{present_at}
+use Rattle.js_contents.specs.Looks.{present_item_at}
 
 -- what is no notebook is a bad request
 abbrev pub or_unreadable : Result Notebook NbFault → Result Notebook ErrorStatus
@@ -54,7 +54,7 @@ begun (Some Folder) = Err BadRequest
 begun (Some (File bytes)) = notebook_in bytes
 
 abbrev pub first_notebook : Contents → List ℕ → Result Notebook ErrorStatus
-first_notebook m path = present_at m path >>= begun
+first_notebook m path = present_item_at m path >>= begun
 
 abbrev pub Begins : List ℕ → Result Notebook Refusal → Contents → Contents → Type 0
 Begins path result m n = Same m n × Gives result (first_notebook m path)

@@ -1,6 +1,6 @@
 -- To be believed.
 -- GET of contents.
-use Rattle.std.specs.Prelude.{◌≡◌, ◌==◌, ℕ, Bool, false, List, Option, Some, None, Result, Ok, Err, if◌then◌else◌, codes}
+use Rattle.std.specs.Prelude.{◌≡◌, ◌==◌, ℕ, nat_le, Bool, false, List, Option, Some, None, Result, Ok, Err, if◌then◌else◌, codes}
 use Rattle.std.specs.List.{after_first}
 use Rattle.std.specs.Str.{bytes_eq}
 use Rattle.serde_json.specs.Data.{Data}
@@ -8,10 +8,12 @@ use Rattle.nb_doc.specs.Writing.{array_of, notebook_text}
 use Rattle.js_http.specs.Targets.{query_value}
 use Rattle.js_http.specs.declared.request.Request.{Request}
 use Rattle.js_http.specs.declared.response.ErrorStatus.{ErrorStatus}
-use Rattle.js_http.specs.declared.response.ErrorStatus.TheVariants.{BadRequest}
+use Rattle.js_http.specs.declared.response.ErrorStatus.TheVariants.{BadRequest, NotFound}
 use Rattle.js_http.specs.declared.response.Response.TheVariants.{Success}
 use Rattle.js_shelf.specs.declared.item.Item.{Item}
 use Rattle.js_shelf.specs.declared.item.Item.TheVariants as item
+use Rattle.js_shelf.specs.declared.item.ItemKind.{ItemKind}
+use Rattle.js_shelf.specs.declared.item.ItemKind.TheVariants as kinds
 use Rattle.js_shelf.specs.Shelves.{Contents, Same}
 use Rattle.js_tables.specs.declared.forms.About.{About}
 use Rattle.js_tables.specs.declared.forms.Kind.{Kind}
@@ -24,11 +26,11 @@ use Rattle.js_tables.specs.Plans.{◌>>=◌, Gives, Found, reply}
 use Rattle.js_tables.specs.Tables.{Rows}
 use Rattle.js_contents.specs.declared.place.Place.{Place}
 use Rattle.js_contents.specs.declared.read.Seen.{Seen}
-use Rattle.js_contents.specs.declared.read.Seen.TheVariants.{Shown, Folder}
+use Rattle.js_contents.specs.declared.read.Seen.TheVariants.{Shown, File, Folder}
 use Rattle.js_contents.specs.Forms.{bare_form, file_form, json_form}
 use Rattle.js_contents.specs.Kinds.{about}
 use Rattle.js_contents.specs.Lists.{objects}
-use Rattle.js_contents.specs.Looks.{item_at, IsListed, is_folder_item}
+use Rattle.js_contents.specs.Looks.{item_at, kind_at, IsListed, is_folder_kind}
 use Rattle.js_contents.specs.Notebooks.{notebook_in}
 use Rattle.js_contents.specs.Places.{place_of}
 
@@ -68,19 +70,20 @@ file_plan kind.Notebook about bytes = notebook_plan about bytes
 file_plan kind.File about bytes = Ok (shown (file_form about bytes))
 file_plan kind.Directory about bytes = Ok (shown (file_form about bytes))
 
--- what a look at an item comes to: a plan, or a folder that is to be listed
-abbrev pub full_seen : About → Item → Result Seen ErrorStatus
-full_seen about (item.File bytes) = file_plan about.kind about bytes >>= λ plan. Ok (Shown plan)
-full_seen about item.Folder = Ok (Folder about)
+-- what a look at a path comes to, by the kind of what stands there: a plan, a folder that is to be listed, or a file
+-- that is to be read, which has at most 67,108,864 bytes
+abbrev pub full_seen : About → ItemKind → Result Seen ErrorStatus
+full_seen about (kinds.File count) = if nat_le count 67108864 then Ok (File about) else Err BadRequest
+full_seen about kinds.Folder = Ok (Folder about)
 
-abbrev pub seen_item : Request → About → Item → Result Seen ErrorStatus
-seen_item request about item =
+abbrev pub seen_kind : Request → About → ItemKind → Result Seen ErrorStatus
+seen_kind request about kind =
     type_checked request about.kind >>= λ _.
-    (if asks_bare request then Ok (Shown (shown (bare_form about))) else full_seen about item)
+    (if asks_bare request then Ok (Shown (shown (bare_form about))) else full_seen about kind)
 
 abbrev pub seen_at : Contents → Rows → Request → Place → Result Seen ErrorStatus
 seen_at m r request place =
-    item_at m place.path >>= λ item. seen_item request (about r place (is_folder_item item)) item
+    kind_at m place.path >>= λ kind. seen_kind request (about r place (is_folder_kind kind)) kind
 
 abbrev pub seen_by : Contents → Rows → Request → List (List ℕ) → Result Seen ErrorStatus
 seen_by m r request segments = place_of segments >>= seen_at m r request
@@ -100,8 +103,17 @@ abbrev pub IsFolderPlan : Contents → Rows → About → Result Plan Refusal �
 IsFolderPlan m r about found =
     (names : Result (List (List ℕ)) Refusal) × Found (IsListed m about.path) names × IsNamedPlan m r about names found
 
+-- a file: its content
+abbrev pub item_plan : About → Item → Result Plan ErrorStatus
+item_plan about (item.File bytes) = file_plan about.kind about bytes
+item_plan about item.Folder = Err NotFound
+
+abbrev pub read_file : Contents → About → Result Plan ErrorStatus
+read_file m about = item_at m about.path >>= item_plan about
+
 abbrev pub IsSeenPlan : Contents → Rows → Seen → Result Plan Refusal → Type 0
 IsSeenPlan m r (Shown plan) found = found ≡ Ok plan
+IsSeenPlan m r (File about) found = Gives found (read_file m about)
 IsSeenPlan m r (Folder about) found = IsFolderPlan m r about found
 
 abbrev pub IsPlanAfter : Contents → Rows → Result Seen Refusal → Result Plan Refusal → Type 0
@@ -120,6 +132,9 @@ SeesAt r request place result m n = Same m n × Gives result (seen_at m r reques
 
 abbrev pub Sees : Rows → Request → List (List ℕ) → Result Seen Refusal → Contents → Contents → Type 0
 Sees r request segments result m n = Same m n × Gives result (seen_by m r request segments)
+
+abbrev pub ReadsFile : About → Result Plan Refusal → Contents → Contents → Type 0
+ReadsFile about result m n = Same m n × Gives result (read_file m about)
 
 abbrev pub ShowsNamed : Rows → About → List (List ℕ) → Result Plan Refusal → Contents → Contents → Type 0
 ShowsNamed r about names result m n = Same m n × Gives result (Ok (named_plan m r about names))

@@ -28,17 +28,24 @@ use Rattle.js_contents.specs.Puts.{putting, fitted}
 -- ---- DELETE /api/contents/{path}
 
 abbrev pub removal : Place → Plan
-removal place = record { change = change.Delete place.path; update = update.DropDate place.path; answer = Reply NoContent }
+removal place = record { change = change.Delete place.path; update = update.DropFile place.path; answer = Reply NoContent }
 
 abbrev pub remove_plan : List (List ℕ) → Result Plan ErrorStatus
 remove_plan segments = place_of segments >>= λ place. Ok (removal place)
 
 -- ---- PUT /api/contents/{path}
 
-abbrev pub change_of : List ℕ → Putting → Change
-change_of path put.Folder = change.Put path item.Folder
-change_of path (put.File bytes) = change.Put path (item.File bytes)
-change_of path (put.Notebook n) = change.Put path (notebook_file n)
+-- a notebook is put as one, since a recorder may keep the file
+abbrev pub put_change : List ℕ → Putting → Change
+put_change path put.Folder = change.Put path item.Folder
+put_change path (put.File bytes) = change.Put path (item.File bytes)
+put_change path (put.Notebook n) = change.PutBook path n
+
+-- something new is a file or a folder
+abbrev pub new_change : List ℕ → Putting → Change
+new_change path put.Folder = change.Put path item.Folder
+new_change path (put.File bytes) = change.Put path (item.File bytes)
+new_change path (put.Notebook n) = change.Put path (notebook_file n)
 
 abbrev pub is_folder_putting : Putting → Bool
 is_folder_putting put.Folder = true
@@ -49,15 +56,22 @@ is_folder_putting (put.Notebook n) = false
 abbrev pub stored : Bool → List ℕ → Response
 stored is_there content = if is_there then Success content else Created None content
 
-abbrev pub storing : Given → Putting → Place → Bool → Plan
-storing given p place is_there = record {
-  change = change_of place.path p;
+abbrev pub storing_by : Given → Change → Place → Bool → Bool → Plan
+storing_by given done place is_folder is_there = record {
+  change = done;
   update = update.SetDate place.path given.date;
-  answer = Reply (stored is_there (body_text (bare_form (about_at place (is_folder_putting p) given.date))));
+  answer = Reply (stored is_there (body_text (bare_form (about_at place is_folder given.date))));
 }
 
+-- something new at a place where nothing was
+abbrev pub storing : Given → Putting → Place → Plan
+storing given p place = storing_by given (new_change place.path p) place (is_folder_putting p) false
+
+abbrev pub replacing : Given → Putting → Place → Bool → Plan
+replacing given p place is_there = storing_by given (put_change place.path p) place (is_folder_putting p) is_there
+
 abbrev pub put_at : Contents → Given → Putting → Place → Result Plan ErrorStatus
-put_at m given p place = present_at m place.path >>= λ item. Ok (storing given p place (is_some item))
+put_at m given p place = present_at m place.path >>= λ item. Ok (replacing given p place (is_some item))
 
 abbrev pub put_plan : Contents → Given → List ℕ → List (List ℕ) → Result Plan ErrorStatus
 put_plan m given body segments =

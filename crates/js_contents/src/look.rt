@@ -3,7 +3,7 @@ ghost use Rattle.std.specs.Prelude.{◌≡◌};
 ghost use Rattle.js_shelf.specs.Shelves.{Tells};
 ghost use Rattle.js_contents.specs.Looks as spec;
 
-use js_shelf::{Item, Names, Shelf, ShelfRefusal};
+use js_shelf::{Item, ItemKind, Names, Shelf, ShelfRefusal};
 use js_tables::Refusal;
 
 fn shown_item(answer: Result<Item, ShelfRefusal>) -> Result<Item, Refusal>
@@ -15,30 +15,39 @@ fn shown_item(answer: Result<Item, ShelfRefusal>) -> Result<Item, Refusal>
     }
 }
 
-fn shown_present(answer: Result<Item, ShelfRefusal>) -> Result<Option<Item>, Refusal>
+fn shown_present<T: Drop>(answer: Result<T, ShelfRefusal>) -> Result<Option<T>, Refusal>
     ensures { result ≡ spec.shown_present answer }
 {
     match answer {
-        Ok(item) => Ok(Some(item)),
+        Ok(found) => Ok(Some(found)),
         Err(ShelfRefusal::Missing) => Ok(None),
         Err(cause) => Err(Refusal::from(cause)),
     }
 }
 
-pub(crate) fn is_folder(item: &Item) -> bool
-    ensures { result ≡ spec.is_folder_item item.now }
+fn shown_kind(answer: Result<ItemKind, ShelfRefusal>) -> Result<ItemKind, Refusal>
+    ensures { result ≡ spec.shown_kind answer }
 {
-    match item {
-        Item::File(_) => false,
-        Item::Folder => true,
+    match answer {
+        Ok(kind) => Ok(kind),
+        Err(cause) => Err(Refusal::from(cause)),
     }
 }
 
-fn shown_folder(answer: Result<Item, ShelfRefusal>) -> Option<bool>
+pub(crate) fn is_folder(kind: ItemKind) -> bool
+    ensures { result ≡ spec.is_folder_kind kind }
+{
+    match kind {
+        ItemKind::File(_) => false,
+        ItemKind::Folder => true,
+    }
+}
+
+fn shown_folder(answer: Result<ItemKind, ShelfRefusal>) -> Option<bool>
     ensures { result ≡ spec.shown_folder answer }
 {
     match answer {
-        Ok(item) => Some(is_folder(&item)),
+        Ok(kind) => Some(is_folder(kind)),
         Err(ShelfRefusal::Device) => None,
         Err(ShelfRefusal::Memory) => None,
         Err(_) => Some(false),
@@ -61,9 +70,23 @@ pub(crate) fn look<S: Shelf>(shelf: &mut S, path: &str) -> Result<Item, Refusal>
     shown_item(shelf.get(path))
 }
 
-/// What stands at a path, if something does.
-pub(crate) fn present<S: Shelf>(shelf: &mut S, path: &str) -> Result<Option<Item>, Refusal>
+/// The kind of what stands at a path, where something does.
+pub(crate) fn kind_at<S: Shelf>(shelf: &mut S, path: &str) -> Result<ItemKind, Refusal>
+    ensures { Tells (S.contents shelf.old) (S.contents shelf.new) (spec.FindsKind path.now result) }
+{
+    shown_kind(shelf.kind(path))
+}
+
+/// The kind of what stands at a path, if something does.
+pub(crate) fn present<S: Shelf>(shelf: &mut S, path: &str) -> Result<Option<ItemKind>, Refusal>
     ensures { Tells (S.contents shelf.old) (S.contents shelf.new) (spec.Presents path.now result) }
+{
+    shown_present(shelf.kind(path))
+}
+
+/// What stands at a path, if something does.
+pub(crate) fn present_item<S: Shelf>(shelf: &mut S, path: &str) -> Result<Option<Item>, Refusal>
+    ensures { Tells (S.contents shelf.old) (S.contents shelf.new) (spec.PresentsItem path.now result) }
 {
     shown_present(shelf.get(path))
 }
@@ -72,7 +95,7 @@ pub(crate) fn present<S: Shelf>(shelf: &mut S, path: &str) -> Result<Option<Item
 pub fn has_folder<S: Shelf>(shelf: &mut S, path: &str) -> Option<bool>
     ensures { Tells (S.contents shelf.old) (S.contents shelf.new) (spec.HasFolder path.now result) }
 {
-    shown_folder(shelf.get(path))
+    shown_folder(shelf.kind(path))
 }
 
 /// The names of what stands in a folder.

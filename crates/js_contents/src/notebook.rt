@@ -8,7 +8,7 @@ ghost use Rattle.js_shelf.specs.Shelves.{Tells};
 ghost use Rattle.js_tables.specs.Plans.{Gives};
 ghost use Rattle.js_contents.specs.Notebooks as spec;
 
-use crate::look::present;
+use crate::look::present_item;
 use js_http::ErrorStatus;
 use js_shelf::{Bytes, Item, Shelf};
 use js_tables::Refusal;
@@ -73,6 +73,6 @@ pub fn notebook_for<S: Shelf>(alloc: Global, shelf: &mut S, path: &str) -> Resul
     ensures document { IfOk result IsDocument }
     ensures shallow { IfOk result (λ n. depth (notebook_form n) ≤ max_depth) }
 {
-    let item = present(shelf, path)?;
+    let item = present_item(shelf, path)?;
     begun(alloc, item)
 }

@@ -9,9 +9,8 @@ use base64::DecodeAllocError;
 use base64::engine::general_purpose::STANDARD;
 use js_http::ErrorStatus;
 use js_shelf::Bytes;
-use js_tables::{Refusal, read_body, text_in};
+use js_tables::{ReadNotebook, Refusal, read_body, text_in};
 use json_form::{Json, Text, given_part};
-use nb_doc::Notebook;
 use std::alloc::{AllocError, Global};
 
 /// What is put.
@@ -19,7 +18,7 @@ use std::alloc::{AllocError, Global};
 pub enum Putting {
     Folder,
     File(Bytes),
-    Notebook(Notebook),
+    Notebook(ReadNotebook),
 }
 
 fn is_plain(byte: u8) -> bool
@@ -90,7 +89,8 @@ fn putting_in(alloc: Global, body: &Json) -> Result<Putting, Refusal>
     }
     if kind.as_str() == "notebook" {
         let content = content_in(alloc, body)?;
-        return Ok(Putting::Notebook(notebook_of(alloc, &content)?));
+        let notebook = notebook_of(alloc, &content)?;
+        return Ok(Putting::Notebook(ReadNotebook::new(notebook)));
     }
     Err(Refusal::Status(ErrorStatus::BadRequest))
 }
@@ -111,7 +111,8 @@ pub fn fitted(alloc: Global, name: &str, putting: Putting) -> Result<Putting, Re
         Putting::Folder => Ok(Putting::Folder),
         Putting::File(bytes) => {
             if is_notebook {
-                Ok(Putting::Notebook(notebook_in(alloc, bytes.as_slice())?))
+                let notebook = notebook_in(alloc, bytes.as_slice())?;
+                Ok(Putting::Notebook(ReadNotebook::new(notebook)))
             } else {
                 Ok(Putting::File(bytes))
             }

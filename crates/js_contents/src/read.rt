@@ -10,12 +10,12 @@ ghost use Rattle.js_contents.specs.Reads as spec;
 
 use crate::kind::about_now;
 use crate::list::objects;
-use crate::look::{is_folder, look, names_in};
+use crate::look::{is_folder, kind_at, look, names_in};
 use crate::notebook::notebook_in;
 use crate::place::{Place, place_of};
 use base64::engine::general_purpose::STANDARD;
 use js_http::{Bytes, ErrorStatus, Request, Response, query_value};
-use js_shelf::{Item, Name, Shelf};
+use js_shelf::{Item, ItemKind, Name, Shelf};
 use js_tables::{
     About, Kind, Plan, Refusal, Tables, json_body, model_value, read_body, reply, text_value,
 };
@@ -111,10 +111,14 @@ fn shown(alloc: Global, value: &Value) -> Result<Plan, AllocError>
     Ok(reply(Response::Success(json_body(alloc, value)?)))
 }
 
-/// What a look at a path comes to: a plan, or a folder that is to be listed.
+/// The content of a file of more bytes is not shown.
+const MAX_SHOWN: u64 = 64 << 20;
+
+/// What a look at a path comes to: a plan, a file that is to be read, or a folder that is to be listed.
 #[derive(Drop)]
 pub enum Seen {
     Shown(Plan),
+    File(About),
     Folder(About),
 }
 
@@ -145,16 +149,24 @@ fn bare_plan(alloc: Global, about: &About) -> Result<Plan, AllocError>
     shown(alloc, &value)
 }
 
-fn seen_item(alloc: Global, request: &Request, about: About, item: &Item) -> Result<Seen, Refusal>
-    ensures { Gives result (spec.seen_item request.now about item.now) }
+fn seen_kind(
+    alloc: Global,
+    request: &Request,
+    about: About,
+    kind: ItemKind,
+) -> Result<Seen, Refusal>
+    ensures { Gives result (spec.seen_kind request.now about kind) }
 {
     check_type(alloc, request, about.kind)?;
     if asks_bare(alloc, request)? {
         return Ok(Seen::Shown(bare_plan(alloc, &about)?));
     }
-    match item {
-        Item::File(bytes) => Ok(Seen::Shown(file_plan(alloc, &about, bytes.as_slice())?)),
-        Item::Folder => Ok(Seen::Folder(about)),
+    match kind {
+        ItemKind::File(count) if count > MAX_SHOWN => {
+            Err(Refusal::Status(ErrorStatus::BadRequest))
+        }
+        ItemKind::File(_) => Ok(Seen::File(about)),
+        ItemKind::Folder => Ok(Seen::Folder(about)),
     }
 }
 
@@ -167,9 +179,9 @@ fn seen_at<S: Shelf>(
 ) -> Result<Seen, Refusal>
     ensures { Tells (S.contents shelf.old) (S.contents shelf.new) (spec.SeesAt (rows tables.now) request.now place result) }
 {
-    let item = look(shelf, place.path.as_str())?;
-    let about = about_now(alloc, tables, place, is_folder(&item))?;
-    seen_item(alloc, request, about, &item)
+    let kind = kind_at(shelf, place.path.as_str())?;
+    let about = about_now(alloc, tables, place, is_folder(kind))?;
+    seen_kind(alloc, request, about, kind)
 }
 
 fn seen_by<S: Shelf>(
@@ -221,7 +233,23 @@ fn folder_plan<S: Shelf>(
     }
 }
 
-fn listed<S: Shelf>(
+fn item_plan(alloc: Global, about: &About, item: &Item) -> Result<Plan, Refusal>
+    ensures { Gives result (spec.item_plan about.now item.now) }
+{
+    match item {
+        Item::File(bytes) => file_plan(alloc, about, bytes.as_slice()),
+        Item::Folder => Err(Refusal::Status(ErrorStatus::NotFound)),
+    }
+}
+
+fn read_file<S: Shelf>(alloc: Global, shelf: &mut S, about: &About) -> Result<Plan, Refusal>
+    ensures { Tells (S.contents shelf.old) (S.contents shelf.new) (spec.ReadsFile about.now result) }
+{
+    let item = look(shelf, about.path.as_str())?;
+    item_plan(alloc, about, &item)
+}
+
+fn planned<S: Shelf>(
     alloc: Global,
     tables: &Tables,
     shelf: &mut S,
@@ -231,6 +259,7 @@ fn listed<S: Shelf>(
 {
     match seen {
         Seen::Shown(plan) => Ok(plan),
+        Seen::File(about) => read_file(alloc, shelf, &about),
         Seen::Folder(about) => folder_plan(alloc, tables, shelf, &about),
     }
 }
@@ -246,7 +275,7 @@ pub fn read_plan<S: Shelf>(
     ensures { Tells (S.contents shelf.old) (S.contents shelf.new) (spec.Reads (rows tables.now) request.now segments.now result) }
 {
     match seen_by(alloc, tables, shelf, request, segments) {
-        Ok(seen) => listed(alloc, tables, shelf, seen),
+        Ok(seen) => planned(alloc, tables, shelf, seen),
         Err(refusal) => Err(refusal),
     }
 }

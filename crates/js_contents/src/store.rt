@@ -23,7 +23,7 @@ fn removal(place: Place) -> Result<Plan, AllocError>
 {
     Ok(Plan {
         change: Change::Delete(place.path.copy()?),
-        update: Update::DropDate(place.path),
+        update: Update::DropFile(place.path),
         answer: Answer::Reply(Response::NoContent),
     })
 }
@@ -38,13 +38,25 @@ pub fn remove_plan(alloc: Global, segments: &[Bytes]) -> Result<Plan, Refusal>
 
 // ---- PUT
 
-fn change_of(alloc: Global, path: Text, putting: Putting) -> Result<Change, AllocError>
-    ensures { IfOk result (λ change. change ≡ spec.change_of path putting) }
+// What a PUT changes. A notebook is put as one, since a recorder may keep the file.
+fn put_change(path: Text, putting: Putting) -> Change
+    ensures { result ≡ spec.put_change path putting }
+{
+    match putting {
+        Putting::Folder => Change::Put(path, Item::Folder),
+        Putting::File(bytes) => Change::Put(path, Item::File(bytes)),
+        Putting::Notebook(book) => Change::PutBook(path, book),
+    }
+}
+
+// What puts a new file or folder.
+fn new_change(alloc: Global, path: Text, putting: Putting) -> Result<Change, AllocError>
+    ensures { IfOk result (λ change. change ≡ spec.new_change path putting) }
 {
     match putting {
         Putting::Folder => Ok(Change::Put(path, Item::Folder)),
         Putting::File(bytes) => Ok(Change::Put(path, Item::File(bytes))),
-        Putting::Notebook(notebook) => Ok(Change::Put(path, notebook_file(alloc, &notebook)?)),
+        Putting::Notebook(book) => Ok(Change::Put(path, notebook_file(alloc, book.notebook())?)),
     }
 }
 
@@ -64,24 +76,61 @@ fn stored(is_there: bool, content: Bytes) -> Response
     }
 }
 
-/// What stands at the place from now on is said without its content: 200 where something was there, else 201.
+// What stands at the place from now on is said without its content: 200 where something was there, else 201.
+fn storing_by(
+    alloc: Global,
+    given: &Given,
+    change: Change,
+    place: Place,
+    is_folder: bool,
+    is_there: bool,
+) -> Result<Plan, AllocError>
+    ensures { IfOk result (λ plan. plan ≡ spec.storing_by given.now change place is_folder is_there) }
+{
+    let path = place.path.copy()?;
+    let about = about_at(place, is_folder, given.date.copy()?);
+    let content = json_body(alloc, &bare_value(alloc, &about)?)?;
+    Ok(Plan {
+        change,
+        update: Update::SetDate(path, given.date.copy()?),
+        answer: Answer::Reply(stored(is_there, content)),
+    })
+}
+
+/// The plan by which something new stands at a place, where nothing was.
 pub fn storing(
+    alloc: Global,
+    given: &Given,
+    putting: Putting,
+    place: Place,
+) -> Result<Plan, AllocError>
+    ensures { IfOk result (λ plan. plan ≡ spec.storing given.now putting place) }
+{
+    let path = place.path.copy()?;
+    let is_folder = is_folder_putting(&putting);
+    let change = new_change(alloc, path, putting)?;
+    storing_by(alloc, given, change, place, is_folder, false)
+}
+
+fn replacing(
     alloc: Global,
     given: &Given,
     putting: Putting,
     place: Place,
     is_there: bool,
 ) -> Result<Plan, AllocError>
-    ensures { IfOk result (λ plan. plan ≡ spec.storing given.now putting place is_there) }
+    ensures { IfOk result (λ plan. plan ≡ spec.replacing given.now putting place is_there) }
 {
     let path = place.path.copy()?;
-    let about = about_at(place, is_folder_putting(&putting), given.date.copy()?);
-    let content = json_body(alloc, &bare_value(alloc, &about)?)?;
-    Ok(Plan {
-        change: change_of(alloc, path.copy()?, putting)?,
-        update: Update::SetDate(path, given.date.copy()?),
-        answer: Answer::Reply(stored(is_there, content)),
-    })
+    let is_folder = is_folder_putting(&putting);
+    storing_by(
+        alloc,
+        given,
+        put_change(path, putting),
+        place,
+        is_folder,
+        is_there,
+    )
 }
 
 fn put_at<S: Shelf>(
@@ -94,7 +143,7 @@ fn put_at<S: Shelf>(
     ensures { Tells (S.contents shelf.old) (S.contents shelf.new) (spec.PutsAt given.now putting place result) }
 {
     let item = present(shelf, place.path.as_str())?;
-    Ok(storing(alloc, given, putting, place, item.is_some())?)
+    Ok(replacing(alloc, given, putting, place, item.is_some())?)
 }
 
 /// The plan of a PUT. The first three segments are those of `/api/contents`.

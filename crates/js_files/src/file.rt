@@ -1,12 +1,12 @@
 //! A shelf over a device.
 ghost use Rattle.std.specs.Prelude.{◌≡◌, ◌&&◌, is_some, IfOk};
-ghost use Rattle.js_shelf.specs.Shelves.{HasCause, Tells, Gets, Lists, Puts, Renames, Deletes, is_folder, is_below};
+ghost use Rattle.js_shelf.specs.Shelves.{HasCause, Tells, Gets, Kinds, Lists, Puts, Renames, Deletes, is_folder, is_below};
 ghost use Rattle.js_shelf.specs.Devices.{Finds};
 
 use crate::system::SystemFolder;
 use js_shelf::{
-    Device, DeviceFault, Item, Kind, Names, Place, Shelf, ShelfRefusal, is_below, is_below_root,
-    is_path,
+    Device, DeviceFault, Item, ItemKind, Kind, Names, Place, Shelf, ShelfRefusal, is_below,
+    is_below_root, is_path,
 };
 use std::alloc::{AllocError, Global};
 use std::rt::Files;
@@ -67,8 +67,22 @@ fn read_item<D: Device>(device: &mut D, alloc: Global, path: &str) -> Result<Ite
     }
     let place = Place::new(alloc, path)?;
     match device.kind(&place)? {
-        Kind::File => Ok(Item::File(device.read(&place)?)),
+        Kind::File(_) => Ok(Item::File(device.read(&place)?)),
         Kind::Folder => Ok(Item::Folder),
+        Kind::Nothing | Kind::Other => Err(ShelfRefusal::Missing),
+    }
+}
+
+fn read_kind<D: Device>(device: &mut D, alloc: Global, path: &str) -> Result<ItemKind, ShelfRefusal>
+    ensures { Tells (D.contents device.old) (D.contents device.new) (Kinds path.now result) }
+{
+    if !is_path(path) {
+        return Err(ShelfRefusal::BadPath);
+    }
+    let place = Place::new(alloc, path)?;
+    match device.kind(&place)? {
+        Kind::File(count) => Ok(ItemKind::File(count)),
+        Kind::Folder => Ok(ItemKind::Folder),
         Kind::Nothing | Kind::Other => Err(ShelfRefusal::Missing),
     }
 }
@@ -82,7 +96,7 @@ fn read_names<D: Device>(device: &mut D, alloc: Global, path: &str) -> Result<Na
     let place = Place::new(alloc, path)?;
     match device.kind(&place)? {
         Kind::Folder => Ok(device.names(&place)?),
-        Kind::Nothing | Kind::File | Kind::Other => Err(ShelfRefusal::Missing),
+        Kind::Nothing | Kind::File(_) | Kind::Other => Err(ShelfRefusal::Missing),
     }
 }
 
@@ -103,7 +117,7 @@ fn write_item<D: Device>(
         return Err(ShelfRefusal::Missing);
     }
     match (device.kind(&place)?, item) {
-        (Kind::Nothing | Kind::File, Item::File(bytes)) => {
+        (Kind::Nothing | Kind::File(_), Item::File(bytes)) => {
             Ok(device.write(&place, bytes.as_slice())?)
         }
         (Kind::Nothing, Item::Folder) => Ok(device.make_folder(&place)?),
@@ -122,7 +136,7 @@ fn has_folder<D: Device>(device: &mut D, place: &Place) -> Result<bool, DeviceFa
 fn has_item<D: Device>(device: &mut D, place: &Place) -> Result<bool, DeviceFault>
     ensures { Tells (D.contents device.old) (D.contents device.new) (Finds (λ m found. found ≡ is_some (m place.now)) result) }
 {
-    Ok(matches!(device.kind(place)?, Kind::File | Kind::Folder))
+    Ok(matches!(device.kind(place)?, Kind::File(_) | Kind::Folder))
 }
 
 // Whether anything stands at the place, a link too.
@@ -180,7 +194,7 @@ fn remove_item<D: Device>(device: &mut D, alloc: Global, path: &str) -> Result<(
     }
     let place = Place::new(alloc, path)?;
     match device.kind(&place)? {
-        Kind::File => Ok(device.remove_file(&place)?),
+        Kind::File(_) => Ok(device.remove_file(&place)?),
         Kind::Folder => {
             if device.remove_folder(&place)? {
                 Ok(())
@@ -199,6 +213,11 @@ impl<D: Device + Drop> Shelf for FileShelf<D> {
 
     fn get(&mut self, path: &str) -> Result<Item, ShelfRefusal> {
         let result = read_item(&mut self.device, self.alloc, path);
+        counted(&mut self.failures, result)
+    }
+
+    fn kind(&mut self, path: &str) -> Result<ItemKind, ShelfRefusal> {
+        let result = read_kind(&mut self.device, self.alloc, path);
         counted(&mut self.failures, result)
     }
 

@@ -5,4 +5,4 @@ mod following;
 mod putting;
 
 pub use following::{follow, is_due};
-pub use putting::{Booked, book_for, file_put, put_booked};
+pub use putting::put_book;

@@ -2,6 +2,7 @@ pub mod Framing
 pub mod Headers
 pub mod Heads
 pub mod Methods
+pub mod Origins
 pub mod Reading
 pub mod Requests
 pub mod Responses

@@ -1,11 +1,11 @@
 //! The parts of a request target: the segments of its path and the fields of its query.
-ghost use Rattle.std.specs.Prelude.{◌≡◌, ◌≤◌, ◌==◌, length, IfOk, string_bytes};
-ghost use Rattle.std.specs.List.{position_or_len};
+ghost use Rattle.std.specs.Prelude.{◌≡◌, ◌==◌, IfOk, string_bytes};
 ghost use Rattle.std.specs.Option.{option_copied, option_map};
 ghost use Rattle.std.specs.Str.{bytes_eq};
 ghost use Rattle.percent_encoding.specs.Percent.{percent_decode as percent_decoded};
 ghost use Rattle.js_http.specs.Targets as spec;
 
+use crate::places::byte_place;
 use crate::{Bytes, Text};
 use percent_encoding::percent_decode;
 use std::alloc::{AllocError, Global};
@@ -43,17 +43,6 @@ fn decoded(alloc: Global, segment: &[u8]) -> Result<Bytes, AllocError>
     Ok(Bytes::from(bytes))
 }
 
-// The place of the first slash, or the length.
-fn slash_place(path: &[u8]) -> usize
-    ensures first { result ≡ position_or_len (λ byte. byte == 47) path.now }
-    ensures within { result ≤ length path.now }
-{
-    match path.iter().position(|&byte| byte == b'/') {
-        Some(place) => place,
-        None => path.len(),
-    }
-}
-
 /// The pieces of a path between its slashes, each with its escapes read: `/a%20b/c` has an empty one, `a b` and `c`.
 /// They are bytes, and may be no UTF-8. Want of memory is the only error.
 pub fn path_segments(alloc: Global, path: &str) -> Result<Segments, AllocError>
@@ -62,7 +51,7 @@ pub fn path_segments(alloc: Global, path: &str) -> Result<Segments, AllocError>
     let mut items = Vec::new(alloc);
     let mut rest = path.as_bytes();
     'segments: loop {
-        let (segment, behind) = rest.split_at(slash_place(rest));
+        let (segment, behind) = rest.split_at(byte_place(rest, b'/'));
         items.push(decoded(alloc, segment)?)?;
         if behind.is_empty() {
             return Ok(Segments { items });

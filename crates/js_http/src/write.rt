@@ -1,8 +1,8 @@
 //! Responses to a writer.
-ghost use Rattle.std.specs.Prelude.{◌≡◌, ◌+◌, ◌<◌, ◌++◌, ℕ, List, [], Some, None, length};
+ghost use Rattle.std.specs.Prelude.{◌≡◌, ◌+◌, ◌<◌, ◌++◌, ℕ, List, [], Some, None, length, codes};
 ghost use Rattle.std.specs.List.{flat_map};
 ghost use Rattle.js_http.specs.Writing.{WritesFront};
-ghost use Rattle.js_http.specs.Responses.{location_line, lines_text, content_text, switch_text, response_text};
+ghost use Rattle.js_http.specs.Responses.{location_line, lines_text, content_text, page_text, switch_text, response_text};
 
 use crate::Response;
 use itoa::Buffer;
@@ -34,21 +34,24 @@ fn write_parts<W: Write>(writer: &mut W, parts: &[&[u8]]) -> io::Result<()>
     Ok(())
 }
 
-// Writes a response whose content has `len` bytes, in digits.
+// Writes a response whose content is of that type and has `len` bytes, in digits.
 fn write_lines<'t, W: Write>(
     writer: &mut W,
     status_line: &'t str,
+    kind: &'t str,
     len: &'t str,
     body: &'t [u8],
 ) -> io::Result<()>
     ensures { WritesFront (W.contents writer.old) (W.contents writer.new)
-        (lines_text status_line.now [] len.now body.now) result }
+        (lines_text status_line.now kind.now [] len.now body.now) result }
 {
     write_parts(
         writer,
         &[
             status_line.as_bytes(),
-            b"\r\nContent-Type: application/json\r\nContent-Length: ",
+            b"\r\nContent-Type: ",
+            kind.as_bytes(),
+            b"\r\nContent-Length: ",
             len.as_bytes(),
             b"\r\nConnection: close\r\n\r\n",
             body,
@@ -56,7 +59,7 @@ fn write_lines<'t, W: Write>(
     )
 }
 
-// The same with a line that says where a new thing is.
+// The same for JSON, with a line that says where a new thing is.
 fn write_located_lines<'t, W: Write>(
     writer: &mut W,
     status_line: &'t str,
@@ -65,7 +68,7 @@ fn write_located_lines<'t, W: Write>(
     body: &'t [u8],
 ) -> io::Result<()>
     ensures { WritesFront (W.contents writer.old) (W.contents writer.new)
-        (lines_text status_line.now (location_line (Some location.now)) len.now body.now) result }
+        (lines_text status_line.now (codes "application/json") (location_line (Some location.now)) len.now body.now) result }
 {
     write_parts(
         writer,
@@ -86,7 +89,8 @@ fn write_content<W: Write>(writer: &mut W, status_line: &str, body: &[u8]) -> io
         (content_text status_line.now None body.now) result }
 {
     let mut buffer = Buffer::new();
-    write_lines(writer, status_line, buffer.format(body.len()), body)
+    let len = buffer.format(body.len());
+    write_lines(writer, status_line, "application/json", len, body)
 }
 
 fn write_located<W: Write>(
@@ -114,6 +118,15 @@ fn write_switch<W: Write>(writer: &mut W, accept: &str) -> io::Result<()>
             b"\r\n\r\n",
         ],
     )
+}
+
+/// Writes the response whose content is a page for a browser, as `write_response` writes one.
+pub fn write_page<W: Write>(writer: &mut W, page: &str) -> io::Result<()>
+    ensures { WritesFront (W.contents writer.old) (W.contents writer.new) (page_text page.now) result }
+{
+    let mut buffer = Buffer::new();
+    let len = buffer.format(page.len());
+    write_lines(writer, "HTTP/1.1 200 OK", "text/html", len, page.as_bytes())
 }
 
 /// Writes the bytes of a response, and takes no memory. Where a write fails, is interrupted or takes nothing, that is

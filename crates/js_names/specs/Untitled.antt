@@ -102,7 +102,7 @@ empty_putting kind.Directory = put.Folder
 abbrev pub made : Given → Making → List (List ℕ) → Result Plan ErrorStatus
 made given v names =
     if_path (child v.folder (first_free v.kind v.ending names)) >>= λ place.
-    (fitted place.name (empty_putting v.kind) >>= λ p. Ok (storing given p place false))
+    (fitted place.name (empty_putting v.kind) >>= λ p. Ok (storing given p place))
 
 abbrev pub IsMadeOf : Given → Making → Result (List (List ℕ)) Refusal → Result Plan Refusal → Type 0
 IsMadeOf given v (Err e) found = found ≡ Err e

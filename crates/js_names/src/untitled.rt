@@ -10,9 +10,8 @@ use itoa::Buffer;
 use js_contents::{Putting, below, fitted, if_path, names_in, place_of, storing};
 use js_http::ErrorStatus;
 use js_shelf::{Bytes, Name, Shelf, is_step};
-use js_tables::{Given, Kind, Plan, Refusal, optional_text_in, read_body};
+use js_tables::{Given, Kind, Plan, ReadNotebook, Refusal, optional_text_in, read_body};
 use json_form::{Json, Text, given_part};
-use nb_doc::Notebook;
 use std::alloc::{AllocError, Global};
 
 /// A new thing that is asked for: its kind, what its name ends in, and the folder.
@@ -160,7 +159,7 @@ fn empty_putting(alloc: Global, kind: Kind) -> Putting
 {
     match kind {
         Kind::File => Putting::File(Bytes::from(Vec::new(alloc))),
-        Kind::Notebook => Putting::Notebook(Notebook::empty(alloc)),
+        Kind::Notebook => Putting::Notebook(ReadNotebook::empty(alloc)),
         Kind::Directory => Putting::Folder,
     }
 }
@@ -175,7 +174,7 @@ fn made(alloc: Global, given: &Given, making: &Making, names: &[Name]) -> Result
         place.name.as_str(),
         empty_putting(alloc, making.kind),
     )?;
-    Ok(storing(alloc, given, putting, place, false)?)
+    Ok(storing(alloc, given, putting, place)?)
 }
 
 fn made_in<S: Shelf>(

@@ -23,6 +23,7 @@ failed_by Other m r given request segments = tt
 
 pub found_failed : (path : Option Route) (m : Contents) (r : Rows) (given : Given) (request : Request) → IsFoundAt path m r given request (Err Failed)
 found_failed None m r given request = tt
+found_failed (Some route.Page) m r given request = tt
 found_failed (Some route.Version) m r given request = tt
 found_failed (Some route.Kernelspecs) m r given request = tt
 found_failed (Some route.Kernels) m r given request = tt
@@ -45,6 +46,7 @@ sessions_failed Other r = tt
 
 pub found_failed_alone : (path : Option Route) (r : Rows) (given : Given) (request : Request) → IsFoundAlone path r given request (Err Failed)
 found_failed_alone None r given request = tt
+found_failed_alone (Some route.Page) r given request = tt
 found_failed_alone (Some route.Version) r given request = tt
 found_failed_alone (Some route.Kernelspecs) r given request = tt
 found_failed_alone (Some route.Kernels) r given request = tt

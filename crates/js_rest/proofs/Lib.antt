@@ -2,3 +2,4 @@ pub mod Telling
 pub mod Failing
 pub mod Finding
 pub mod Fresh
+pub mod Putting

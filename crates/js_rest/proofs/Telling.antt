@@ -1,5 +1,5 @@
 -- What a shelf tells over two calls, of which the first only reads.
-use Rattle.std.proofs.Common.{◌≡◌, ℕ, List, Option, Some, None, Result, Ok, Err, subst}
+use Rattle.std.proofs.Common.{◌≡◌, ℕ, List, Option, Some, None, Result, Ok, Err, inr, subst}
 use Rattle.js_http.specs.declared.request.Request.{Request}
 use Rattle.js_shelf.specs.Shelves.{Contents, Same, Tells}
 use Rattle.js_tables.specs.declared.given.Given.{Given}
@@ -8,7 +8,9 @@ use Rattle.js_tables.specs.declared.plan.Command.{Command}
 use Rattle.js_tables.specs.declared.plan.Plan.{Plan}
 use Rattle.js_tables.specs.Tables.{Rows}
 use Rattle.js_rest.specs.declared.untold.Untold.{Untold}
-use Rattle.js_rest.specs.Answers.{Finds, CarriesOut, IsAnswer}
+use Rattle.js_rest.specs.Answers.{Finds, Ends, CarriesOut, CarriesOutAlone, IsAnswer}
+use Rattle.js_rest.specs.Changes.{Tries, TriesAlone}
+use Rattle.js_http.specs.declared.response.ErrorStatus.{ErrorStatus}
 
 -- what holds over both, where the shelf tells
 pub tells_then : (c d e : Option Contents) (P Q R : Contents → Contents → Type 0) → Tells c d P → Tells d e Q → ((m k n : Contents) → P m k → Q k n → R m n) → Tells c e R
@@ -34,3 +36,12 @@ module _ {L : Type 0} (begins : L → List ℕ → L → Type 0) (tells : L → 
   pub answered : (given : Given) (request : Request) (plan : Plan) (r s : Rows) (l k : L) (answer : Answer) (m o n : Contents) → Finds r given request (Ok plan) m o → CarriesOut begins tells plan r s l k answer o n → IsAnswer begins tells given request r s l k answer m n
   answered given request plan r s l k answer m o n f h =
       (Ok plan, f.1, subst (λ x. CarriesOut begins tells plan r s l k answer x n) (same_is m o f.0) h)
+
+  -- a change that was tried after room had been made, which changes no row
+  pub carried : (plan : Plan) (done : Result (Unit {0}) ErrorStatus) (r q t s : Rows) (l k : L) (answer : Answer) (m n : Contents)
+      → q ≡ r → Ends plan done t s answer → Tries begins tells plan.change done q t l k m n → CarriesOut begins tells plan r s l k answer m n
+  carried plan done r q t s l k answer m n e j h = inr (done, t, subst (λ x. Tries begins tells plan.change done x t l k m n) e h, j)
+
+  pub carried_alone : (plan : Plan) (done : Result (Unit {0}) ErrorStatus) (r q t s : Rows) (l k : L) (answer : Answer)
+      → q ≡ r → Ends plan done t s answer → TriesAlone begins tells plan.change done q t l k → CarriesOutAlone begins tells plan r s l k answer
+  carried_alone plan done r q t s l k answer e j h = inr (done, t, subst (λ x. TriesAlone begins tells plan.change done x t l k) e h, j)

@@ -1,21 +1,24 @@
 -- To be believed.
 -- Which answer a request has, over the tables, the kernels that run and the shelf.
-use Rattle.std.specs.Prelude.{◌≡◌, ◌⊎◌, ◌==◌, ℕ, List, [], Option, Some, None, Result, Ok, Err, get_or}
+use Rattle.std.specs.Prelude.{◌≡◌, ◌⊎◌, ◌==◌, ℕ, Bool, true, false, List, [], Option, Some, None, Result, Ok, Err, get_or}
 use Rattle.std.specs.List.{before_first}
+use Rattle.js_http.specs.Origins.{is_own}
 use Rattle.js_http.specs.Targets.{segments_of}
 use Rattle.js_http.specs.declared.method.Method.{Method}
 use Rattle.js_http.specs.declared.method.Method.TheVariants.{Get, Post, Put, Patch, Delete, Other}
 use Rattle.js_http.specs.declared.request.Request.{Request}
 use Rattle.js_http.specs.declared.response.ErrorStatus.{ErrorStatus}
-use Rattle.js_http.specs.declared.response.ErrorStatus.TheVariants.{NotFound, MethodNotAllowed, InternalServerError}
+use Rattle.js_http.specs.declared.response.ErrorStatus.TheVariants.{Forbidden, NotFound, MethodNotAllowed, InternalServerError}
 use Rattle.js_http.specs.declared.response.Response.TheVariants.{Refused}
 use Rattle.js_shelf.specs.Shelves.{Contents, Same}
 use Rattle.js_rest.specs.Contents as contents
 use Rattle.js_tables.specs.declared.given.Given.{Given}
 use Rattle.js_tables.specs.declared.plan.Answer.{Answer}
-use Rattle.js_tables.specs.declared.plan.Answer.TheVariants.{Reply}
+use Rattle.js_tables.specs.declared.plan.Answer.TheVariants.{Reply, Page}
 use Rattle.js_tables.specs.declared.plan.Command.{Command}
+use Rattle.js_tables.specs.declared.plan.Change.TheVariants as change
 use Rattle.js_tables.specs.declared.plan.Plan.{Plan}
+use Rattle.js_tables.specs.declared.plan.Update.TheVariants as update
 use Rattle.js_tables.specs.declared.refusal.Refusal.{Refusal}
 use Rattle.js_tables.specs.Plans.{Gives, updated, status_of}
 use Rattle.js_tables.specs.Tables.{Rows}
@@ -36,6 +39,14 @@ abbrev pub segment : Request → ℕ → List ℕ
 segment request place = get_or (segments_of (path_of request)) place []
 
 -- ---- the methods of each route: what is not named is 405
+
+abbrev pub page_plan : Method → Result Plan ErrorStatus
+page_plan Get = Ok (record { change = change.Nothing; update = update.Same; answer = Page })
+page_plan Post = Err MethodNotAllowed
+page_plan Put = Err MethodNotAllowed
+page_plan Patch = Err MethodNotAllowed
+page_plan Delete = Err MethodNotAllowed
+page_plan Other = Err MethodNotAllowed
 
 abbrev pub version_plan : Method → Result Plan ErrorStatus
 version_plan Get = kernels.version_plan
@@ -112,6 +123,7 @@ session_plan Other id body r = Err MethodNotAllowed
 -- ---- all routes
 
 abbrev pub tables_plan : Route → Rows → Given → Request → Result Plan ErrorStatus
+tables_plan route.Page r given request = page_plan request.method
 tables_plan route.Version r given request = version_plan request.method
 tables_plan route.Kernelspecs r given request = kernelspecs_plan request.method
 tables_plan route.Kernels r given request = kernels_plan request.method r given request
@@ -125,6 +137,7 @@ tables_plan route.Contents r given request = Err MethodNotAllowed
 
 -- what is found for a request on a route: its plan, the status that refuses it, or that the device or memory failed
 abbrev pub IsFoundOn : Route → Contents → Rows → Given → Request → Result Plan Refusal → Type 0
+IsFoundOn route.Page m r given request found = Gives found (tables_plan route.Page r given request)
 IsFoundOn route.Version m r given request found = Gives found (tables_plan route.Version r given request)
 IsFoundOn route.Kernelspecs m r given request found = Gives found (tables_plan route.Kernelspecs r given request)
 IsFoundOn route.Kernels m r given request found = Gives found (tables_plan route.Kernels r given request)
@@ -142,8 +155,13 @@ abbrev pub IsFoundAt : Option Route → Contents → Rows → Given → Request 
 IsFoundAt None m r given request found = Gives found (Err NotFound)
 IsFoundAt (Some route) m r given request found = IsFoundOn route m r given request found
 
+-- a request that is not this server's own is 403, whatever it is about
+abbrev pub IsFoundIf : Bool → Contents → Rows → Given → Request → Result Plan Refusal → Type 0
+IsFoundIf false m r given request found = Gives found (Err Forbidden)
+IsFoundIf true m r given request found = IsFoundAt (route_of (path_of request)) m r given request found
+
 abbrev pub IsFound : Contents → Rows → Given → Request → Result Plan Refusal → Type 0
-IsFound m r given request found = IsFoundAt (route_of (path_of request)) m r given request found
+IsFound m r given request found = IsFoundIf (is_own request.headers) m r given request found
 
 -- the same without a word on the shelf, but for contents and a new session
 abbrev pub IsSessionsAlone : Method → Rows → Result Plan Refusal → Type 0
@@ -156,6 +174,7 @@ IsSessionsAlone Other r found = Gives found (Err MethodNotAllowed)
 
 abbrev pub IsFoundAlone : Option Route → Rows → Given → Request → Result Plan Refusal → Type 0
 IsFoundAlone None r given request found = Gives found (Err NotFound)
+IsFoundAlone (Some route.Page) r given request found = Gives found (tables_plan route.Page r given request)
 IsFoundAlone (Some route.Version) r given request found = Gives found (tables_plan route.Version r given request)
 IsFoundAlone (Some route.Kernelspecs) r given request found = Gives found (tables_plan route.Kernelspecs r given request)
 IsFoundAlone (Some route.Kernels) r given request found = Gives found (tables_plan route.Kernels r given request)
@@ -167,8 +186,15 @@ IsFoundAlone (Some route.Sessions) r given request found = IsSessionsAlone reque
 IsFoundAlone (Some route.Session) r given request found = Gives found (tables_plan route.Session r given request)
 IsFoundAlone (Some route.Contents) r given request found = Unit {0}
 
+abbrev pub IsFoundAloneIf : Bool → Option Route → Rows → Given → Request → Result Plan Refusal → Type 0
+IsFoundAloneIf false path r given request found = Gives found (Err Forbidden)
+IsFoundAloneIf true path r given request found = IsFoundAlone path r given request found
+
 abbrev pub Finds : Rows → Given → Request → Result Plan Refusal → Contents → Contents → Type 0
 Finds r given request result m n = Same m n × IsFound m r given request result
+
+abbrev pub FindsAt : Option Route → Rows → Given → Request → Result Plan Refusal → Contents → Contents → Type 0
+FindsAt path r given request result m n = Same m n × IsFoundAt path m r given request result
 
 abbrev pub FindsOn : Route → Rows → Given → Request → Result Plan Refusal → Contents → Contents → Type 0
 FindsOn route r given request result m n = Same m n × IsFoundOn route m r given request result
@@ -178,7 +204,7 @@ FindsSessions r given request result m n = Same m n × Gives result (sessions_pl
 
 -- ---- what becomes of a plan
 
--- where the change succeeded the tables change too, and else nothing has changed but what the change says
+-- where the change succeeded the tables are updated too, and else nothing has changed but what the change says
 abbrev pub Ends : Plan → Result (Unit {0}) ErrorStatus → Rows → Rows → Answer → Type 0
 Ends plan (Ok done) r s answer = (s ≡ updated plan.update r) × (answer ≡ plan.answer)
 Ends plan (Err status) r s answer = (s ≡ r) × (answer ≡ Reply (Refused status))
@@ -188,11 +214,11 @@ module _ {L : Type 0} (begins : L → List ℕ → L → Type 0) (tells : L → 
   abbrev pub Stays : Rows → Rows → L → L → Contents → Contents → Type 0
   Stays r s l k m n = (s ≡ r) × (k ≡ l) × Same m n
 
-  -- there was no memory, or the change was tried
+  -- there was no memory, or the change was tried; `t` are the tables then
   abbrev pub CarriesOut : Plan → Rows → Rows → L → L → Answer → Contents → Contents → Type 0
   CarriesOut plan r s l k answer m n =
       ((answer ≡ Reply (Refused InternalServerError)) × Stays r s l k m n)
-      ⊎ ((done : Result (Unit {0}) ErrorStatus) × Tries begins tells plan.change done l k m n × Ends plan done r s answer)
+      ⊎ ((done : Result (Unit {0}) ErrorStatus) × (t : Rows) × Tries begins tells plan.change done r t l k m n × Ends plan done t s answer)
 
   -- what was found is carried out, or its status is the answer
   abbrev pub Follows : Result Plan Refusal → Rows → Rows → L → L → Answer → Contents → Contents → Type 0
@@ -211,7 +237,7 @@ module _ {L : Type 0} (begins : L → List ℕ → L → Type 0) (tells : L → 
   abbrev pub CarriesOutAlone : Plan → Rows → Rows → L → L → Answer → Type 0
   CarriesOutAlone plan r s l k answer =
       ((answer ≡ Reply (Refused InternalServerError)) × StaysAlone r s l k)
-      ⊎ ((done : Result (Unit {0}) ErrorStatus) × TriesAlone begins tells plan.change done l k × Ends plan done r s answer)
+      ⊎ ((done : Result (Unit {0}) ErrorStatus) × (t : Rows) × TriesAlone begins tells plan.change done r t l k × Ends plan done t s answer)
 
   abbrev pub FollowsAlone : Result Plan Refusal → Rows → Rows → L → L → Answer → Type 0
   FollowsAlone (Ok plan) r s l k answer = CarriesOutAlone plan r s l k answer
@@ -219,4 +245,4 @@ module _ {L : Type 0} (begins : L → List ℕ → L → Type 0) (tells : L → 
 
   abbrev pub IsAnswerAlone : Option Route → Given → Request → Rows → Rows → L → L → Answer → Type 0
   IsAnswerAlone path given request r s l k answer =
-      (found : Result Plan Refusal) × IsFoundAlone path r given request found × FollowsAlone found r s l k answer
+      (found : Result Plan Refusal) × IsFoundAloneIf (is_own request.headers) path r given request found × FollowsAlone found r s l k answer

@@ -5,7 +5,7 @@ use Rattle.js_http.specs.declared.response.ErrorStatus.{ErrorStatus}
 use Rattle.js_http.specs.declared.response.ErrorStatus.TheVariants.{NotFound, ServiceUnavailable}
 use Rattle.js_http.specs.declared.response.Response.TheVariants.{Success, Created, NoContent}
 use Rattle.js_tables.specs.declared.given.Given.{Given}
-use Rattle.js_tables.specs.declared.plan.Answer.TheVariants.{Reply, Channels}
+use Rattle.js_tables.specs.declared.plan.Answer.TheVariants.{Reply, Channels, Ends}
 use Rattle.js_tables.specs.declared.plan.Plan.{Plan}
 use Rattle.js_tables.specs.declared.plan.Update.TheVariants as update
 use Rattle.js_tables.specs.declared.plan.Change.TheVariants.{Begin, Tell}
@@ -17,7 +17,7 @@ use Rattle.js_tables.specs.Bodies.{body_of, name_checked}
 use Rattle.js_tables.specs.Forms.{body_text, version_form, kernelspecs_form, kernel_form, kernels_form}
 use Rattle.js_tables.specs.Given.{first_id}
 use Rattle.js_tables.specs.Plans.{◌>>=◌, reply}
-use Rattle.js_tables.specs.Tables.{Rows, find_kernel}
+use Rattle.js_tables.specs.Tables.{Rows, find_kernel, has_recorder}
 
 -- GET /api
 abbrev pub version_plan : Result Plan ErrorStatus
@@ -40,13 +40,15 @@ known (Some k) = Ok k
 abbrev pub one_plan : List ℕ → Rows → Result Plan ErrorStatus
 one_plan id r = known (find_kernel id r.kernels) >>= λ k. Ok (reply (Success (body_text (kernel_form k))))
 
--- a kernel is told to shut down, and goes with its session and its recorder
-abbrev pub ending : Kernel → Plan
-ending k = record { change = Tell k.id command.Shutdown; update = update.DropKernel k.id; answer = Reply NoContent }
+-- a kernel is told to shut down, and goes with its session; one with a recorder stays until that has saved all that it showed
+abbrev pub ending : Kernel → Rows → Plan
+ending k r =
+    if has_recorder k.id r then record { change = Tell k.id command.Shutdown; update = update.Same; answer = Ends k.id }
+    else record { change = Tell k.id command.Shutdown; update = update.DropKernel k.id; answer = Reply NoContent }
 
 -- DELETE /api/kernels/{id}
 abbrev pub end_plan : List ℕ → Rows → Result Plan ErrorStatus
-end_plan id r = known (find_kernel id r.kernels) >>= λ k. Ok (ending k)
+end_plan id r = known (find_kernel id r.kernels) >>= λ k. Ok (ending k r)
 
 -- POST /api/kernels/{id}/interrupt
 abbrev pub interrupt_plan : List ℕ → Rows → Result Plan ErrorStatus

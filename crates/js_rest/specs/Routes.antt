@@ -29,6 +29,7 @@ with_routes (entry ∷ entries) rows = with_routes entries (with_route entry.0 e
 unfoldable pub table : RouteRows
 table =
     with_routes (
+    (codes "/", route.Page) ∷
     (codes "/api", route.Version) ∷
     (codes "/api/kernelspecs", route.Kernelspecs) ∷
     (codes "/api/kernels", route.Kernels) ∷

@@ -42,7 +42,7 @@ one_plan id r = known (find_by_session id r.kernels) >>= one_shown
 
 -- DELETE /api/sessions/{id}
 abbrev pub end_plan : List ℕ → Rows → Result Plan ErrorStatus
-end_plan id r = known (find_by_session id r.kernels) >>= λ k. Ok (ending k)
+end_plan id r = known (find_by_session id r.kernels) >>= λ k. Ok (ending k r)
 
 -- ---- PATCH /api/sessions/{id}
 

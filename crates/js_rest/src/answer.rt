@@ -1,5 +1,6 @@
 //! The answer to a request.
 ghost use Rattle.std.specs.Prelude.{◌≡◌, get_or, [], Some, IfOk};
+ghost use Rattle.js_http.specs.Origins.{is_own as is_own_request};
 ghost use Rattle.js_http.specs.Targets.{segments_of};
 ghost use Rattle.js_shelf.specs.Shelves.{Tells};
 ghost use Rattle.js_rest.specs.Answers as spec;
@@ -7,7 +8,8 @@ ghost use Rattle.js_rest.specs.Changes.{Tries, TriesAlone, told, told_command};
 ghost use Rattle.js_rest.specs.Routes.{table, route_of};
 ghost use Rattle.js_tables.specs.Moments.{IsDate};
 ghost use Rattle.js_tables.specs.Plans.{Gives};
-ghost use Rattle.js_tables.specs.Tables.{rows, no_rows};
+ghost use Rattle.js_tables.specs.Tables.{rows, no_rows, HasRoom};
+ghost use Rattle.js_tables.specs.declared.plan.Change.TheVariants as variant;
 
 use crate::contents::contents_plan;
 use crate::opening::open;
@@ -15,9 +17,10 @@ use crate::route::{Route, find, routes};
 use crate::running::Running;
 use crate::untold::Untold;
 use crate::{kernels, sessions};
-use js_http::{ErrorStatus, Method, Request, Response, path_segments};
+use js_follow::put_book;
+use js_http::{ErrorStatus, Method, Request, Response, is_own, path_segments};
 use js_shelf::{Shelf, ShelfRefusal};
-use js_tables::{Answer, Change, Given, Plan, Refusal, Tables};
+use js_tables::{Answer, Change, Given, Plan, ReadNotebook, Refusal, Tables, Update};
 use json_form::Text;
 use matchit::{InsertError, Router};
 use std::alloc::Global;
@@ -52,18 +55,42 @@ fn status_of(answer: Result<(), Untold>) -> Result<(), ErrorStatus>
     }
 }
 
+// A notebook is put at a path.
+#[tactic(auto, using(crate::proofs::Putting::tries_book))]
+fn try_book<L: Running, S: Shelf>(
+    alloc: Global,
+    tables: &mut Tables,
+    running: &mut L,
+    shelf: &mut S,
+    path: Text,
+    book: ReadNotebook,
+) -> Result<(), ErrorStatus>
+    requires { HasRoom tables.old }
+    ensures shelf { Tells (S.contents shelf.old) (S.contents shelf.new)
+        (Tries L.begins L.tells (variant.PutBook path book) result (rows tables.old) (rows tables.new) running.old running.new) }
+    ensures alone { TriesAlone L.begins L.tells (variant.PutBook path book) result (rows tables.old) (rows tables.new) running.old running.new }
+    ensures room { HasRoom tables.new }
+{
+    told_of(put_book(alloc, tables, shelf, path, book))
+}
+
 fn try_change<L: Running, S: Shelf>(
+    alloc: Global,
+    tables: &mut Tables,
     running: &mut L,
     shelf: &mut S,
     change: Change,
 ) -> Result<(), ErrorStatus>
+    requires { HasRoom tables.old }
     ensures shelf { Tells (S.contents shelf.old) (S.contents shelf.new)
-        (Tries L.begins L.tells change result running.old running.new) }
-    ensures alone { TriesAlone L.begins L.tells change result running.old running.new }
+        (Tries L.begins L.tells change result (rows tables.old) (rows tables.new) running.old running.new) }
+    ensures alone { TriesAlone L.begins L.tells change result (rows tables.old) (rows tables.new) running.old running.new }
+    ensures room { HasRoom tables.new }
 {
     match change {
         Change::Nothing => Ok(()),
         Change::Put(path, item) => told_of(shelf.put(path.as_str(), item)),
+        Change::PutBook(path, book) => try_book(alloc, tables, running, shelf, path, book),
         Change::Delete(path) => told_of(shelf.delete(path.as_str())),
         Change::Rename(from, to) => told_of(shelf.rename(from.as_str(), to.as_str())),
         Change::Begin(id) => match running.begin(id.as_str()) {
@@ -75,6 +102,19 @@ fn try_change<L: Running, S: Shelf>(
 }
 
 // ---- finding the plan
+
+fn page(method: Method) -> Result<Plan, Refusal>
+    ensures { Gives result (spec.page_plan method) }
+{
+    match method {
+        Method::Get => Ok(Plan {
+            change: Change::Nothing,
+            update: Update::Same,
+            answer: Answer::Page,
+        }),
+        _ => Err(Refusal::Status(ErrorStatus::MethodNotAllowed)),
+    }
+}
 
 fn version(alloc: Global, method: Method) -> Result<Plan, Refusal>
     ensures { Gives result (spec.version_plan method) }
@@ -205,6 +245,7 @@ fn tables_plan(
 {
     let id = segment(segments, 3);
     match route {
+        Route::Page => page(request.method),
         Route::Version => version(alloc, request.method),
         Route::Kernelspecs => kernelspecs(alloc, request.method),
         Route::Kernels => all_kernels(alloc, tables, given, request),
@@ -241,9 +282,9 @@ fn route_plan<S: Shelf>(
     }
 }
 
-// The plan of a request, which reads the shelf and changes nothing.
+// The plan of a request by its path, which reads the shelf and changes nothing.
 #[tactic(auto, using(crate::proofs::Telling::tells_same, crate::proofs::Failing::found_failed, crate::proofs::Failing::found_failed_alone))]
-fn find_plan<S: Shelf>(
+fn path_plan<S: Shelf>(
     alloc: Global,
     router: &Router<Route>,
     tables: &Tables,
@@ -253,7 +294,7 @@ fn find_plan<S: Shelf>(
 ) -> Result<Plan, Refusal>
     requires { router.now ≡ table }
     ensures shelf { Tells (S.contents shelf.old) (S.contents shelf.new)
-        (spec.Finds (rows tables.now) given.now request.now result) }
+        (spec.FindsAt (route_of (spec.path_of request.now)) (rows tables.now) given.now request.now result) }
     ensures alone { spec.IsFoundAlone (route_of (spec.path_of request.now)) (rows tables.now) given.now request.now result }
 {
     let segments = path_segments(alloc, request.path())?;
@@ -268,6 +309,28 @@ fn find_plan<S: Shelf>(
             request,
             segments.as_slice(),
         ),
+    }
+}
+
+// The plan of a request, which reads the shelf and changes nothing.
+#[tactic(auto, using(crate::proofs::Telling::tells_same))]
+fn find_plan<S: Shelf>(
+    alloc: Global,
+    router: &Router<Route>,
+    tables: &Tables,
+    shelf: &mut S,
+    given: &Given,
+    request: &Request,
+) -> Result<Plan, Refusal>
+    requires { router.now ≡ table }
+    ensures shelf { Tells (S.contents shelf.old) (S.contents shelf.new)
+        (spec.Finds (rows tables.now) given.now request.now result) }
+    ensures alone { spec.IsFoundAloneIf (is_own_request request.now.headers) (route_of (spec.path_of request.now)) (rows tables.now) given.now request.now result }
+{
+    if is_own(&request.headers) {
+        path_plan(alloc, router, tables, shelf, given, request)
+    } else {
+        Err(Refusal::Status(ErrorStatus::Forbidden))
     }
 }
 
@@ -287,7 +350,7 @@ impl<L: Running> Manager<L> {
         })
     }
 
-    fn carry_out<S: Shelf>(&mut self, shelf: &mut S, plan: Plan) -> Answer
+    fn carry_out<S: Shelf>(&mut self, alloc: Global, shelf: &mut S, plan: Plan) -> Answer
         ensures shelf { Tells (S.contents shelf.old) (S.contents shelf.new)
             (spec.CarriesOut L.begins L.tells plan (rows self.old.tables) (rows self.new.tables) self.old.running self.new.running result) }
         ensures alone { spec.CarriesOutAlone L.begins L.tells plan (rows self.old.tables) (rows self.new.tables) self.old.running self.new.running result }
@@ -300,7 +363,7 @@ impl<L: Running> Manager<L> {
         if self.tables.make_room().is_err() {
             return Answer::Reply(Response::Refused(ErrorStatus::InternalServerError));
         }
-        match try_change(&mut self.running, shelf, change) {
+        match try_change(alloc, &mut self.tables, &mut self.running, shelf, change) {
             Ok(()) => {
                 self.tables.update(update);
                 answer
@@ -323,7 +386,7 @@ impl<L: Running> Manager<L> {
         ensures alone { spec.IsAnswerAlone L.begins L.tells (route_of (spec.path_of request.now)) given.now request.now (rows self.old.tables) (rows self.new.tables) self.old.running self.new.running result }
     {
         match find_plan(alloc, &self.router, &self.tables, shelf, given, request) {
-            Ok(plan) => self.carry_out(shelf, plan),
+            Ok(plan) => self.carry_out(alloc, shelf, plan),
             Err(refusal) => Answer::Reply(Response::Refused(refusal.status())),
         }
     }

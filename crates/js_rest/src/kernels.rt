@@ -52,15 +52,26 @@ pub(crate) fn one(alloc: Global, tables: &Tables, id: &[u8]) -> Result<Plan, Ref
     }
 }
 
-/// A kernel is told to shut down, and goes with its session and its recorder.
-pub(crate) fn ending(kernel: &Kernel) -> Result<Plan, AllocError>
-    ensures { IfOk result (λ plan. plan ≡ spec.ending kernel.now) }
+/// A kernel is told to shut down, and goes with its session. Where it has a recorder it stays until the recorder has saved all
+/// that it showed.
+pub(crate) fn ending(tables: &Tables, kernel: &Kernel) -> Result<Plan, AllocError>
+    ensures { IfOk result (λ plan. plan ≡ spec.ending kernel.now (rows tables.now)) }
 {
-    Ok(Plan {
-        change: Change::Tell(kernel.id.copy()?, Command::Shutdown),
-        update: Update::DropKernel(kernel.id.copy()?),
-        answer: Answer::Reply(Response::NoContent),
-    })
+    let change = Change::Tell(kernel.id.copy()?, Command::Shutdown);
+    let id = kernel.id.copy()?;
+    if tables.has_recorder(kernel.id.as_str()) {
+        Ok(Plan {
+            change,
+            update: Update::Same,
+            answer: Answer::Ends(id),
+        })
+    } else {
+        Ok(Plan {
+            change,
+            update: Update::DropKernel(id),
+            answer: Answer::Reply(Response::NoContent),
+        })
+    }
 }
 
 /// A kernel is to end.
@@ -69,7 +80,7 @@ pub(crate) fn end(tables: &Tables, id: &[u8]) -> Result<Plan, Refusal>
 {
     match find_kernel(&tables.kernels, id) {
         None => Err(Refusal::Status(ErrorStatus::NotFound)),
-        Some(kernel) => Ok(ending(kernel)?),
+        Some(kernel) => Ok(ending(tables, kernel)?),
     }
 }
 

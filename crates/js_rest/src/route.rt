@@ -12,6 +12,7 @@ use std::alloc::Global;
 /// What a path is about.
 #[derive(Clone, Copy, Debug, PartialEq, Eq)]
 pub enum Route {
+    Page,
     Version,
     Kernelspecs,
     Kernels,
@@ -36,6 +37,7 @@ pub(crate) fn routes(alloc: Global) -> Result<Router<Route>, InsertError>
     ensures { IfOk result (λ router. router ≡ spec.table) }
 {
     let mut router = Router::new(alloc);
+    add(&mut router, "/", Route::Page)?;
     add(&mut router, "/api", Route::Version)?;
     add(&mut router, "/api/kernelspecs", Route::Kernelspecs)?;
     add(&mut router, "/api/kernels", Route::Kernels)?;
@@ -63,6 +65,7 @@ pub(crate) fn find(router: &Router<Route>, path: &str) -> Option<Route>
 
 /// A law: what some paths are about.
 pub fn routes_law()
+    ensures page { route_of (codes "/") ≡ Some Route.Page }
     ensures version { route_of (codes "/api") ≡ Some Route.Version }
     ensures specs { route_of (codes "/api/kernelspecs") ≡ Some Route.Kernelspecs }
     ensures kernels { route_of (codes "/api/kernels") ≡ Some Route.Kernels }
@@ -74,6 +77,8 @@ pub fn routes_law()
     ensures session { route_of (codes "/api/sessions/x-1") ≡ Some Route.Session }
     ensures root { route_of (codes "/api/contents/") ≡ Some Route.Contents }
     ensures below { route_of (codes "/api/contents/a/b%20c") ≡ Some Route.Contents }
+    ensures nothing { route_of (codes "") ≡ None }
+    ensures icon { route_of (codes "/favicon.ico") ≡ None }
     ensures none { route_of (codes "/api/kernels/") ≡ None }
     ensures other { route_of (codes "/api/kernels/x/y") ≡ None }
 {}

@@ -54,7 +54,7 @@ pub(crate) fn end(tables: &Tables, id: &[u8]) -> Result<Plan, Refusal>
 {
     match find_by_session(&tables.kernels, id) {
         None => Err(Refusal::Status(ErrorStatus::NotFound)),
-        Some(kernel) => Ok(ending(kernel)?),
+        Some(kernel) => Ok(ending(tables, kernel)?),
     }
 }
 

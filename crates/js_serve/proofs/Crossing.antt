@@ -2,15 +2,18 @@
 use denote.Param.Send.{IsSend, sendable}
 use denote.Param.SendFields.{declared_send, variants_send}
 use denote.RattleType.{RattleType}
-use Rattle.std.proofs.Crossing.{crosses, frees, send, sync, Vec-send}
+use denote.Struct.Field.{u64-field}
+use Rattle.std.proofs.Crossing.{crosses, frees, send, sync}
 use Rattle.std.specs.contracts.alloc.Global as Heap
 use Rattle.std.specs.contracts.impls.GlobalAllocator.TheImpl as heap
 use Rattle.std.specs.contracts.net.tcp.TcpListener as TcpListener
 use Rattle.std.specs.contracts.net.tcp.TcpStream as TcpStream
 use Rattle.std.specs.contracts.sync.Arc as Arc
 use Rattle.std.specs.contracts.sync.atomic.AtomicBool as AtomicBool
+use Rattle.crossbeam_channel.specs.contracts.channel.Receiver as Receiver
 use Rattle.std.specs.contracts.sync.atomic.AtomicU64 as AtomicU64
 use Rattle.crossbeam_channel.specs.contracts.channel.Sender as Sender
+use Rattle.crossbeam_channel.proofs.channel.Receiver.TheSendSync as receiver
 use Rattle.crossbeam_channel.proofs.channel.Sender.TheSendSync as sender
 use Rattle.jk_language.specs.declared.language.Language as language
 use Rattle.json_form.proofs.text.Text.TheSendSync as text
@@ -21,14 +24,12 @@ use Rattle.jk_queues.proofs.Crossing.{seat_send}
 use Rattle.jk_board.proofs.Crossing.{follower_send}
 use Rattle.jk_log.proofs.job.ParsedCell.TheSendSync as parsed
 use Rattle.jk_log.specs.contracts.job.ParsedCell as ParsedCell
-use Rattle.jk_log.proofs.Crossing.{entry_send}
 use Rattle.jk_queues.proofs.pool.WorkerEnd.TheSendSync as end
 use Rattle.jk_queues.specs.contracts.pool.WorkerEnd as WorkerEnd
 use Rattle.std.specs.contracts.timed.Parker as Parker
 use Rattle.js_serve.specs.contracts.bell.Bell as Bell
 use Rattle.js_serve.specs.contracts.call.Call as Call
 use Rattle.js_serve.specs.contracts.call.Place as Place
-use Rattle.js_serve.specs.contracts.call.Reading as Reading
 use Rattle.js_serve.specs.contracts.call.Reply as Reply
 use Rattle.js_serve.specs.contracts.crowd.Guest as Guest
 use Rattle.js_serve.specs.contracts.crowd.Ticket as Ticket
@@ -40,6 +41,9 @@ use Rattle.js_serve.specs.contracts.kernels.Free as Free
 
 sender_send : (R : RattleType) → IsSend R → IsSend (Sender.the_row R Heap.the_row heap.ghosts)
 sender_send R sent = sender.the_send R Heap.the_row heap.ghosts sent send sync frees
+
+pauses_send : IsSend (Receiver.the_row u64-field.row Heap.the_row heap.ghosts)
+pauses_send = receiver.the_send u64-field.row Heap.the_row heap.ghosts (search (crosses, sendable) depth 60 fits 20000) send sync frees
 
 tcp_send : IsSend TcpStream.the_row
 tcp_send = search (crosses, sendable) depth 60 fits 20000
@@ -69,20 +73,14 @@ pub place_send : (L S T M : RattleType) (g : language.Ghosts L.Denot S.Denot T.D
 place_send L S T M g = declared_send (Place.the_type L S T M g) (text.the_send, (seat_send, (follower_send L S T M g, (bell_send, tt))))
 
 reply_send : (L S T M : RattleType) (g : language.Ghosts L.Denot S.Denot T.Denot M.Denot) → IsSend (Reply.the_row L S T M g)
-reply_send L S T M g = variants_send (Reply.enum L S T M g) ((response.the_send, tt), ((response.the_send, (place_send L S T M g, (names.the_send, tt))), tt))
-
-reading_send : (L S T M : RattleType) (g : language.Ghosts L.Denot S.Denot T.Denot M.Denot) → IsSend (Reading.the_row L S T M g)
-reading_send L S T M g = declared_send (Reading.the_type L S T M g) (text.the_send, (follower_send L S T M g, (Vec-send _ entry_send, search (crosses, sendable) depth 60 fits 20000)))
+reply_send L S T M g = variants_send (Reply.enum L S T M g) ((response.the_send, tt), ((response.the_send, (place_send L S T M g, (names.the_send, tt))), (tt, tt)))
 
 call_send : (L S T M : RattleType) (g : language.Ghosts L.Denot S.Denot T.Denot M.Denot) → IsSend (Call.the_row L S T M g)
 call_send L S T M g = variants_send (Call.enum L S T M g) (
   (guest_send, tt),
   (
     (request.the_send, (sender_send (Reply.the_row L S T M g) (reply_send L S T M g), tt)),
-    (
-      (place_send L S T M g, tt),
-      ((text.the_send, (sender_send (Reading.the_row L S T M g) (reading_send L S T M g), tt)), ((reading_send L S T M g, (sender_send (Reading.the_row L S T M g) (reading_send L S T M g), tt)), ((reading_send L S T M g, tt), tt))),
-    ),
+    ((place_send L S T M g, tt), (tt, tt)),
   ),
 )
 
@@ -110,6 +108,6 @@ job_send L S T M g =
       (listener_send, (calls, tt)),
       (
         (guest_send, (calls, tt)),
-        ((opening_send L S T M g, tt), ((text.the_send, (calls, tt)), tt)),
+        ((opening_send L S T M g, tt), ((calls, (pauses_send, tt)), tt)),
       ),
     )

@@ -5,7 +5,6 @@ use crate::crowd::Guest;
 use crossbeam_channel::Sender;
 use jk_board::Follower;
 use jk_language::Language;
-use jk_log::Entry;
 use jk_queues::Seat;
 use js_http::{Request, Response};
 use js_ws::Names;
@@ -22,26 +21,14 @@ pub struct Place<L: Language> {
     pub bell: Bell,
 }
 
-/// What is read for the recorder of a kernel's session. It goes from the desk to one thread and back.
-#[derive(Drop)]
-pub struct Reading<L: Language> {
-    /// The kernel's identifier.
-    pub kernel: Text,
-    pub follower: Follower<L>,
-    /// What was read, and the recorder was not told yet.
-    pub entries: Vec<Entry>,
-    /// Whether the recorder is still to be saved.
-    pub due: bool,
-    /// Whether the kernel was shut down, not to start again.
-    pub ended: bool,
-}
-
 /// What the desk answers to a request.
 #[derive(Drop)]
 pub enum Reply<L: Language> {
     Response(Response),
     /// The switch to a WebSocket, and the place of its channel.
     Channel(Response, Place<L>, Names),
+    /// The page for a browser.
+    Page,
 }
 
 /// What threads tell the desk.
@@ -53,10 +40,6 @@ pub enum Call<L: Language> {
     Asked(Request, Sender<Reply<L>>),
     /// A channel was closed, and gives its place back.
     Back(Place<L>),
-    /// A thread would read for the recorder of the kernel of that identifier. Where it may, that goes to the sender.
-    Reads(Text, Sender<Reading<L>>),
-    /// The recorder is to be told what was read. What is left goes to the sender, unless the recorder is gone.
-    Shown(Reading<L>, Sender<Reading<L>>),
-    /// The thread of a recorder has ended.
-    Read(Reading<L>),
+    /// The pause between two reads for recorders is over.
+    Pulse,
 }

@@ -7,7 +7,9 @@ use crate::limits::Limits;
 use crate::telling::tell;
 use crossbeam_channel::{Sender, bounded};
 use jk_language::Language;
-use js_http::{ErrorStatus, HttpRefusal, Request, Response, read_request, write_response};
+use js_http::{
+    ErrorStatus, HttpRefusal, Request, Response, read_request, write_page, write_response,
+};
 use js_paced::{Limited, end_of_answer};
 use std::alloc::Global;
 use std::net::{Shutdown, TcpListener, TcpStream};
@@ -79,14 +81,20 @@ fn respond<R: Clock + Drop>(stream: &mut Limited<'_, R>, response: &Response) {
     let _ = write_response(stream, response);
 }
 
-/// Serves one connection: reads its request, asks the desk, and writes the response or serves the channel. A channel leaves the
-/// crowd of connections, and what comes after its end is dropped, so that its last message arrives.
+/// Writes the page for a browser. Where that fails, nobody is there any more.
+fn respond_page<R: Clock + Drop>(stream: &mut Limited<'_, R>, page: &str) {
+    let _ = write_page(stream, page);
+}
+
+/// Serves one connection: reads its request, asks the desk, and writes the response or the page, or serves the channel. A channel
+/// leaves the crowd of connections, and what comes after its end is dropped, so that its last message arrives.
 pub(crate) fn serve_connection<L: Language, R: Wait + Clock + Copy + Drop>(
     rt: &R,
     alloc: Global,
     limits: Limits,
     guest: Guest,
     calls: &Sender<Call<L>>,
+    page: &str,
 ) {
     let Guest { stream, ticket } = guest;
     let _ = stream.set_nodelay(true);
@@ -106,6 +114,7 @@ pub(crate) fn serve_connection<L: Language, R: Wait + Clock + Copy + Drop>(
                 serve_channel(rt, alloc, line, calls, place, names);
                 end_of_answer(*rt, &stream, REST);
             }
+            Some(Reply::Page) => respond_page(&mut limited, page),
             None => respond(
                 &mut limited,
                 &Response::Refused(ErrorStatus::InternalServerError),

@@ -1,27 +1,36 @@
 //! The desk: the one thread that has the tables, the kernels and the files, and answers requests one after the other.
 
-use crate::call::{Call, Place, Reading, Reply};
+use crate::call::{Call, Place, Reply};
 use crate::clock::{date_now, given_now};
+use crate::concern::{Concern, concern_of, id_in, is_within};
 use crate::driving::Opened;
+use crate::ending::Endings;
 use crate::job::Job;
 use crate::kernels::{Kernels, Unopened};
+use crate::pulse::{Found, QUICK, Rhythm};
 use crossbeam_channel::{Receiver, Sender, unbounded};
 use jk_language::Language;
-use js_follow::{file_put, follow, is_due};
+use js_follow::is_due;
 use js_http::{ErrorStatus, Method, Request, Response};
 use js_rest::{Manager, Running};
 use js_shelf::Shelf;
-use js_tables::{Answer, Given, Kernel, Tables, Update};
+use js_tables::{Answer, Given, Kernel, Update, find_by_session, find_kernel};
 use js_ws::{Names, handshake};
 use json_form::Text;
 use std::alloc::Global;
 use std::net::TcpListener;
 use std::random::RandomSource;
 use std::sync::Wait;
-use std::time::Clock;
+use std::time::{Clock, Instant};
 
-/// How many jobs may wait with no memory for more: the threads of recorders.
+/// How many jobs may wait with no memory for more: the thread that calls for recorders, and some more.
 const ROOM: usize = 4;
+
+/// How often a kernel's follower is read before a request on its notebook is answered, at most: 262,144 entries.
+const READS: u32 = 4_096;
+
+/// How often that of a kernel that is ending is read between two other calls, at most.
+const FEW_READS: u32 = 64;
 
 /// A kernel whose thread was given out, and the reply that waits for its ends.
 #[derive(Drop)]
@@ -47,6 +56,34 @@ where
     awaited: Option<Awaited<L>>,
     /// What is to be started next, the last one first.
     jobs: Vec<Job<L>>,
+    /// Where the thread that calls for recorders is told how long it pauses, in milliseconds. There is none where that thread could
+    /// not be started.
+    pauses: Option<Sender<u64>>,
+    /// Whether that thread has called.
+    beats: bool,
+    rhythm: Rhythm,
+    /// The kernels that are ending, and the replies that wait for their ends.
+    endings: Endings<Sender<Reply<L>>>,
+    /// Requests that wait for kernels that are ending, in their order, and how many of the first are to be looked at again.
+    held: Vec<Held<L>>,
+    again: usize,
+}
+
+/// A request that waits, and where its reply goes.
+#[derive(Drop)]
+struct Held<L: Language> {
+    request: Request,
+    reply: Sender<Reply<L>>,
+}
+
+/// Whether a request has to wait for a kernel that is ending.
+#[derive(Drop)]
+enum Delay {
+    No,
+    /// As one that ends that kernel.
+    Join(Text),
+    /// Until it has ended.
+    Hold,
 }
 
 impl<L, R, S> Desk<L, R, S>
@@ -73,6 +110,12 @@ where
             calls,
             awaited: None,
             jobs,
+            pauses: None,
+            beats: false,
+            rhythm: Rhythm::new(),
+            endings: Endings::new(alloc),
+            held: Vec::new(alloc),
+            again: 0,
         })
     }
 
@@ -86,6 +129,9 @@ where
             self.await_ends(awaited);
             return None;
         }
+        if let Some(held) = self.next_held() {
+            return self.reply_to(held.request, held.reply);
+        }
         let call = self.calls.recv(&self.rt).ok()?;
         self.take(call)
     }
@@ -96,21 +142,13 @@ where
                 let calls = self.sender.clone().ok()?;
                 Some(Job::Connection(stream, calls))
             }
-            Call::Asked(request, reply) => self.reply_to(&request, reply),
+            Call::Asked(request, reply) => self.reply_to(request, reply),
             Call::Back(place) => {
                 self.take_back(place);
                 None
             }
-            Call::Reads(kernel, reply) => {
-                self.lend_reading(kernel, reply);
-                None
-            }
-            Call::Shown(reading, reply) => {
-                self.record(reading, reply);
-                None
-            }
-            Call::Read(reading) => {
-                self.end_reading(reading);
+            Call::Pulse => {
+                self.beat();
                 None
             }
         }
@@ -123,90 +161,123 @@ where
         self.manager.running.drop_left();
     }
 
-    /// Lends what is to be read for a recorder, where nobody has it.
-    fn lend_reading(&mut self, kernel: Text, reply: Sender<Reading<L>>) {
-        if let Some(reading) = self.manager.running.take_reading(kernel) {
-            let _ = reply.send(&self.rt, reading);
-        }
-    }
+    // ---- recorders
 
-    /// Lets a kernel's recorder follow what was read, and replies what is left. There is no reply where the recorder is gone.
-    fn record(&mut self, reading: Reading<L>, reply: Sender<Reading<L>>) {
-        let Some(date) = date_now(&self.rt, self.alloc) else {
-            let _ = reply.send(&self.rt, reading);
-            return;
+    /// Lets the recorder of a kernel follow what the kernel has shown, by one read, and tries its save where that is due. It says
+    /// what was found.
+    fn follow_once(&mut self, kernel: &str, date: &Text, saves: bool) -> Found {
+        let Some(scribe) = self.manager.running.take_scribe(kernel) else {
+            return Found::Nothing;
         };
-        let Reading {
-            kernel,
-            follower,
-            entries,
-            due: _,
-            ended,
-        } = reading;
+        let scribe = scribe.read(self.alloc);
+        let found = if scribe.full {
+            Found::More
+        } else if scribe.holds() {
+            Found::Entries
+        } else {
+            Found::Nothing
+        };
         let tables = &mut self.manager.tables;
-        match follow(tables, &mut self.shelf, &date, kernel.as_str(), entries) {
-            Some(rest) => {
-                let left = Reading {
-                    due: is_due(&self.manager.tables, kernel.as_str()),
-                    kernel,
-                    follower,
-                    entries: rest.into_vec(),
-                    ended,
-                };
-                let _ = reply.send(&self.rt, left);
-            }
-            None => self.forget_reading(kernel.as_str()),
-        }
+        let scribe = if scribe.holds() || (saves && is_due(tables, kernel)) {
+            scribe.tell(self.alloc, tables, &mut self.shelf, date, kernel)
+        } else {
+            scribe
+        };
+        self.manager.running.give_scribe(kernel, scribe);
+        found
     }
 
-    /// The thread of a recorder has ended.
-    fn end_reading(&mut self, reading: Reading<L>) {
-        self.forget_reading(reading.kernel.as_str());
-    }
-
-    fn forget_reading(&mut self, kernel: &str) {
-        self.manager.running.give_reading(kernel);
-        self.manager.running.follow();
-        self.manager.running.drop_left();
-    }
-
-    /// Gives the recorder of a session whose file was put at this moment the notebook that was put. Where that can't be had the
-    /// recorder goes, so that it does not write over the file.
-    fn tell_put(&mut self, date: &Text) {
-        if let Some(place) = put_place(&self.manager.tables, date) {
-            if self.give_put(place).is_none() {
-                self.stop_recorder(place);
+    /// Lets the recorder of a kernel follow all that the kernel has shown, by so many reads at most, and tries its save where that is
+    /// due.
+    fn catch_up(&mut self, kernel: &str, date: &Text, reads: u32) {
+        for _ in 0..reads {
+            if self.follow_once(kernel, date, true) != Found::More {
+                return;
             }
         }
     }
 
-    /// Gives the recorder of the kernel in a row the notebook at its session's path. There is nothing where memory is refused,
-    /// or the file can't be read.
-    fn give_put(&mut self, place: usize) -> Option<()> {
-        let session = self.manager.tables.kernels.get(place)?.session.as_ref()?;
-        let path = session.path.copy().ok()?;
-        let item = self.shelf.get(path.as_str()).ok()?;
-        let tables = &mut self.manager.tables;
-        file_put(self.alloc, tables, &mut self.shelf, path, item).ok()
-    }
-
-    /// Drops the recorder of the kernel in a row.
-    fn stop_recorder(&mut self, place: usize) {
-        let tables = &mut self.manager.tables;
-        if let Some(kernel) = tables.kernels.get(place) {
-            let id = kernel.id.as_str();
-            tables
-                .recordings
-                .retain(|recording| recording.kernel.as_str() != id);
+    /// Lets the recorders follow whose notebooks are at a path or below it.
+    fn catch_up_at(&mut self, path: &str, date: &Text) {
+        for place in 0..self.manager.tables.kernels.len() {
+            if let Some(id) = self.kernel_within(place, path) {
+                self.catch_up(id.as_str(), date, READS);
+            }
         }
     }
 
-    /// Lets each recorder that nobody reads for skip what was shown before, and adds the job of its thread.
-    fn start_recorders(&mut self) {
+    /// The kernel in a row, where the path of its session is this or below it.
+    fn kernel_within(&self, place: usize, path: &str) -> Option<Text> {
+        let kernel = self.manager.tables.kernels.get(place)?;
+        let session = kernel.session.as_ref()?;
+        if !is_within(session.path.as_str(), path) {
+            return None;
+        }
+        kernel.id.copy().ok()
+    }
+
+    /// Lets each recorder read on, ends what has ended, and says when the next call is due.
+    fn beat(&mut self) {
+        self.beats = true;
+        let found = match date_now(&self.rt, self.alloc) {
+            Some(date) => self.follow_all(&date),
+            None => Found::Nothing,
+        };
+        let pause = self.rhythm.next(found);
+        self.ring(pause);
+    }
+
+    /// One read for each recorder. The answer is the most urgent that was found.
+    fn follow_all(&mut self, date: &Text) -> Found {
+        let saves = self.rhythm.is_time_to_save();
+        let mut most = Found::NoRecorder;
         for place in 0..self.manager.tables.recordings.len() {
-            if let Some(job) = self.recorder_job(place) {
-                let _ = self.jobs.push(job);
+            if let Some(kernel) = self.recorded_kernel(place) {
+                let found = self.follow_once(kernel.as_str(), date, saves);
+                most = most.or(found);
             }
+        }
+        self.end_ended(date);
+        if self.endings.is_empty() {
+            most
+        } else {
+            most.or(Found::Ending)
+        }
+    }
+
+    /// Says how long the thread that calls for recorders pauses. Where it is not there, it is started.
+    fn ring(&mut self, pause: u64) {
+        if let Some(pauses) = &self.pauses {
+            if pauses.send(&self.rt, pause).is_ok() {
+                return;
+            }
+        }
+        self.pauses = None;
+        self.beats = false;
+        let _ = self.add_pulse(pause);
+    }
+
+    /// Adds the job of the thread that calls for recorders.
+    fn add_pulse(&mut self, pause: u64) -> Option<()> {
+        let calls = self.sender.clone().ok()?;
+        let (sender, receiver) = unbounded::<u64, Global>(self.alloc).ok()?;
+        sender.send(&self.rt, pause).ok()?;
+        self.jobs.push(Job::Pulse(calls, receiver)).ok()?;
+        self.pauses = Some(sender);
+        Some(())
+    }
+
+    /// Begins to read for each recorder that is new, after what was shown before, and ends that for those that are gone.
+    fn start_recorders(&mut self) {
+        self.manager.running.end_readings(&self.manager.tables);
+        let mut begun = false;
+        for place in 0..self.manager.tables.recordings.len() {
+            if let Some(kernel) = self.recorded_kernel(place) {
+                begun = self.manager.running.begin_reading(kernel.as_str()) || begun;
+            }
+        }
+        if begun || (!self.manager.tables.recordings.is_empty() && !self.beats) {
+            self.ring(0);
         }
     }
 
@@ -216,36 +287,189 @@ where
         recording.kernel.copy().ok()
     }
 
-    /// The job of the thread of a recorder, where nobody reads for it.
-    fn recorder_job(&mut self, place: usize) -> Option<Job<L>> {
-        let kernel = self.recorded_kernel(place)?;
-        if !self.manager.running.skip(kernel.as_str()) {
-            return None;
+    // ---- kernels that end
+
+    /// Ends the kernels whose recorders were told all that they show. Those who have waited long enough for another are answered.
+    fn end_ended(&mut self, date: &Text) {
+        for place in (0..self.endings.len()).rev() {
+            let Some(kernel) = self.ending_at(place) else {
+                continue;
+            };
+            self.catch_up(kernel.as_str(), date, FEW_READS);
+            if self.manager.running.is_read(kernel.as_str()) {
+                self.end_at(place, kernel);
+            } else if self.endings.is_late(&self.rt, place) {
+                self.tell_waiters(place);
+            }
         }
-        let calls = self.sender.clone().ok()?;
-        Some(Job::Record(kernel, calls))
     }
 
+    /// The kernel that is ending in a row.
+    fn ending_at(&self, place: usize) -> Option<Text> {
+        self.endings.kernel(place)?.copy().ok()
+    }
+
+    /// The kernel that is ending in a row goes, with its recorder, and those who wait for that are answered.
+    fn end_at(&mut self, place: usize, kernel: Text) {
+        self.manager.running.end_reading(kernel.as_str());
+        if !self.drop_row(kernel) {
+            return;
+        }
+        self.tell_waiters(place);
+        self.endings.end(place);
+        self.again = self.held.len();
+        self.manager.running.follow();
+        self.manager.running.drop_left();
+    }
+
+    /// Answers those who wait for the end of the kernel in a row.
+    fn tell_waiters(&mut self, place: usize) {
+        for _ in self.rt.forever() {
+            match self.endings.take(place) {
+                Some(reply) => self.send(reply, Reply::Response(Response::NoContent)),
+                None => return,
+            }
+        }
+    }
+
+    /// The kernel of that identifier was told to shut down. The reply waits until its recorder was told all that it shows.
+    fn end_later(&mut self, id: &str, reply: Sender<Reply<L>>) {
+        let _ = self.endings.begin(self.alloc, id);
+        let now = Instant::now(&self.rt).ok();
+        if let Some(reply) = self.endings.join(id, reply, now) {
+            self.send(reply, refused(ErrorStatus::InternalServerError));
+        }
+        self.ring(QUICK);
+    }
+
+    /// Whether a request has to wait for a kernel that is ending.
+    fn turn_of(&self, method: Method, concern: &Concern) -> Delay {
+        if self.endings.is_empty() {
+            return Delay::No;
+        }
+        let kernels = &self.manager.tables.kernels;
+        match concern {
+            Concern::Other => Delay::No,
+            Concern::Kernel(segments) => self.turn_at(
+                method,
+                find_kernel(kernels, id_in(segments)),
+            ),
+            Concern::Session(segments) => {
+                self.turn_at(method, find_by_session(kernels, id_in(segments)))
+            }
+            Concern::File(path) => {
+                if self.is_ending_within(path.as_str()) {
+                    Delay::Hold
+                } else {
+                    Delay::No
+                }
+            }
+            Concern::Paths => Delay::Hold,
+        }
+    }
+
+    fn turn_at(&self, method: Method, kernel: Option<&Kernel>) -> Delay {
+        let Some(kernel) = kernel else {
+            return Delay::No;
+        };
+        if !self.endings.has(kernel.id.as_str()) {
+            return Delay::No;
+        }
+        match kernel.id.copy() {
+            Ok(id) => if matches!(method, Method::Delete) {
+                Delay::Join(id)
+            } else {
+                Delay::Hold
+            },
+            Err(_) => Delay::Hold,
+        }
+    }
+
+    /// Whether a kernel is ending whose session's path is this or below it.
+    fn is_ending_within(&self, path: &str) -> bool {
+        self.manager.tables.kernels.iter().any(|kernel| {
+            match &kernel.session {
+                Some(session) => {
+                    self.endings.has(kernel.id.as_str()) && is_within(session.path.as_str(), path)
+                }
+                None => false,
+            }
+        })
+    }
+
+    /// Lets a request wait for a kernel that is ending.
+    fn hold(&mut self, request: Request, reply: Sender<Reply<L>>) {
+        if self.held.reserve(1).is_err() {
+            self.send(reply, refused(ErrorStatus::InternalServerError));
+            return;
+        }
+        self.held.push_reserved(Held { request, reply });
+    }
+
+    /// The next of the requests that have waited, where one is to be looked at again.
+    fn next_held(&mut self) -> Option<Held<L>> {
+        if self.again == 0 || self.held.is_empty() {
+            return None;
+        }
+        self.again = self.again.saturating_sub(1);
+        Some(self.held.remove(0))
+    }
+
+    // ---- requests
+
     /// Replies to a request, after a look at what the kernels have published. Where it made a kernel, the answer is the job of
-    /// its thread, and the reply waits for it.
-    fn reply_to(&mut self, request: &Request, reply: Sender<Reply<L>>) -> Option<Job<L>> {
+    /// its thread, and the reply waits for it. A request that is about a kernel that is ending, its session or its notebook waits for
+    /// that end.
+    fn reply_to(&mut self, request: Request, reply: Sender<Reply<L>>) -> Option<Job<L>> {
         let Some(given) = given_now(&self.rt, self.alloc) else {
             self.send(reply, refused(ErrorStatus::InternalServerError));
             return None;
         };
         self.look(&given.date);
+        let concern = concern_of(self.alloc, &request);
+        match self.turn_of(request.method, &concern) {
+            Delay::No => self.answer(request, &concern, &given, reply),
+            Delay::Join(id) => {
+                self.end_later(id.as_str(), reply);
+                None
+            }
+            Delay::Hold => {
+                self.hold(request, reply);
+                None
+            }
+        }
+    }
+
+    /// Replies to a request now. The recorders of the notebooks that it is about have followed what was shown before.
+    fn answer(
+        &mut self,
+        request: Request,
+        concern: &Concern,
+        given: &Given,
+        reply: Sender<Reply<L>>,
+    ) -> Option<Job<L>> {
+        match concern {
+            Concern::File(path) => self.catch_up_at(path.as_str(), &given.date),
+            Concern::Paths => self.catch_up_at("", &given.date),
+            _ => {}
+        }
         let answer = self
             .manager
-            .answer(self.alloc, &mut self.shelf, &given, request);
-        if matches!(request.method, Method::Put) {
-            self.tell_put(&given.date);
-        }
+            .answer(self.alloc, &mut self.shelf, given, &request);
         self.start_recorders();
         match answer {
             Answer::Reply(response) => self.respond(response, reply),
             Answer::Channels(id) => {
-                let channel = self.channel_for(request, id, &given);
+                let channel = self.channel_for(&request, id, given);
                 self.send(reply, channel);
+                None
+            }
+            Answer::Ends(id) => {
+                self.end_later(id.as_str(), reply);
+                None
+            }
+            Answer::Page => {
+                self.send(reply, Reply::Page);
                 None
             }
         }
@@ -312,37 +536,42 @@ where
         self.manager.running.drop_left();
     }
 
-    /// Drops the rows of the kernels that were shut down or are gone.
+    /// Drops the rows of the kernels that were shut down or are gone. One with a recorder stays until that was told all that it shows.
     fn drop_ended(&mut self) {
-        for _ in 0..self.manager.tables.kernels.len() {
-            let Some(id) = self.ended_id() else {
-                return;
-            };
-            self.drop_row(id);
-        }
-    }
-
-    /// The identifier of a kernel that was shut down or is gone, and has a row.
-    fn ended_id(&mut self) -> Option<Text> {
-        for place in 0..self.manager.tables.kernels.len() {
-            let id = self.id_at(place)?;
-            if self.manager.running.has_ended(id.as_str()) {
-                return Some(id);
+        for place in (0..self.manager.tables.kernels.len()).rev() {
+            if let Some(id) = self.ended_at(place) {
+                if self.is_recorded(id.as_str()) {
+                    if self.endings.begin(self.alloc, id.as_str()).is_ok() {
+                        self.ring(QUICK);
+                    }
+                } else {
+                    let _ = self.drop_row(id);
+                }
             }
         }
-        None
     }
 
-    /// The identifier in a row.
-    fn id_at(&self, place: usize) -> Option<Text> {
-        self.manager.tables.kernels.get(place)?.id.copy().ok()
+    /// Whether something is still read for the recorder of a kernel.
+    fn is_recorded(&self, id: &str) -> bool {
+        self.manager.tables.has_recorder(id) && self.manager.running.is_there(id)
     }
 
-    /// Drops the row of a kernel.
-    fn drop_row(&mut self, id: Text) {
-        if self.manager.tables.make_room().is_ok() {
-            self.manager.tables.update(Update::DropKernel(id));
+    /// The identifier of the kernel in a row that was shut down or is gone, and is not ending already.
+    fn ended_at(&mut self, place: usize) -> Option<Text> {
+        let id = self.manager.tables.kernels.get(place)?.id.copy().ok()?;
+        if self.endings.has(id.as_str()) || !self.manager.running.has_ended(id.as_str()) {
+            return None;
         }
+        Some(id)
+    }
+
+    /// Drops the row of a kernel. It says whether there was memory for that.
+    fn drop_row(&mut self, id: Text) -> bool {
+        if self.manager.tables.make_room().is_err() {
+            return false;
+        }
+        self.manager.tables.update(Update::DropKernel(id));
+        true
     }
 
     /// The reply where the channels of a kernel are asked for.
@@ -367,24 +596,6 @@ where
             Ok(None) => refused(ErrorStatus::ServiceUnavailable),
             Err(_) => refused(ErrorStatus::InternalServerError),
         }
-    }
-}
-
-/// The row of the kernel whose session's file was put at this moment.
-fn put_place(tables: &Tables, date: &Text) -> Option<usize> {
-    for (place, kernel) in tables.kernels.iter().enumerate() {
-        if is_put(tables, kernel, date) {
-            return Some(place);
-        }
-    }
-    None
-}
-
-/// Whether the file of a kernel's session was put at this moment.
-fn is_put(tables: &Tables, kernel: &Kernel, date: &Text) -> bool {
-    match &kernel.session {
-        Some(session) => tables.date_of(session.path.as_str()) == date.as_str(),
-        None => false,
     }
 }
 

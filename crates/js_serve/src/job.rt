@@ -6,12 +6,11 @@ use crate::connection::{accept_all, serve_connection};
 use crate::crowd::Guest;
 use crate::driving::{Opening, drive_kernel};
 use crate::limits::Limits;
-use crate::recording::record;
-use crossbeam_channel::Sender;
+use crate::pulse::pulse;
+use crossbeam_channel::{Receiver, Sender};
 use jk_language::Language;
 use jk_log::ParsedCell;
 use jk_queues::{Gate, WorkerEnd, worker};
-use json_form::Text;
 use std::alloc::Global;
 use std::net::TcpListener;
 use std::sync::Wait;
@@ -26,8 +25,8 @@ pub enum Job<L: Language> {
     Connection(Guest, Sender<Call<L>>),
     /// Drives one kernel, which it makes.
     Drive(Opening<L>),
-    /// Follows what the kernel of that identifier shows, for the recorder of its session.
-    Record(Text, Sender<Call<L>>),
+    /// Calls the desk after each pause that it says, so that it reads for recorders.
+    Pulse(Sender<Call<L>>, Receiver<u64>),
 }
 
 /// The end of a kernel's parser, the bell by which it rests, and that of its driver.
@@ -66,18 +65,19 @@ pub fn parse<L: Language, R: Wait + Clock>(rt: &R, alloc: Global, parser: Parser
     drop(worker::<L, Belled<'_, R>, Rings>(&belled, alloc, &rings, end));
 }
 
-/// Does a job.
+/// Does a job. A browser that asks for the page is sent that one.
 pub fn work<L: Language, R: Wait + Clock + Copy + Drop, H: Host<L>>(
     rt: &R,
     alloc: Global,
     limits: Limits,
     host: &H,
     job: Job<L>,
+    page: &str,
 ) {
     match job {
         Job::Accept(listener, calls) => accept_all(rt, alloc, limits, &listener, &calls),
-        Job::Connection(guest, calls) => serve_connection(rt, alloc, limits, guest, &calls),
+        Job::Connection(guest, calls) => serve_connection(rt, alloc, limits, guest, &calls, page),
         Job::Drive(opening) => drive_kernel(rt, alloc, host, opening),
-        Job::Record(kernel, calls) => record(rt, alloc, &calls, kernel),
+        Job::Pulse(calls, pauses) => pulse(rt, &calls, &pauses),
     }
 }

@@ -2,8 +2,9 @@
 ghost use Rattle.std.specs.Prelude.{◌≡◌, ◌++◌, ◌∷◌, [], OnOk, OnErr, Some};
 
 use crate::bell::Bell;
-use crate::call::{Place, Reading};
+use crate::call::Place;
 use crate::driving::{Opened, Opening};
+use crate::recording::Scribe;
 use crate::watch::Watch;
 use crossbeam_channel::{Receiver, bounded};
 use jk_board::Follower;
@@ -12,7 +13,7 @@ use jk_log::{Arrival, What};
 use jk_queues::Seat;
 use jp_msg::read_message;
 use js_rest::{Running, Untold};
-use js_tables::{Command, Kernel as Row};
+use js_tables::{Command, Kernel as Row, Tables};
 use json_form::{Shared, Text};
 use std::alloc::{AllocError, Global};
 use std::marker::Model;
@@ -50,12 +51,10 @@ struct Ends<L: Language> {
     free: Vec<Free<L>>,
     /// How many seats are lent.
     lent: u64,
-    /// The follower for a recorder of the session, where it is not lent.
+    /// The follower for a recorder of the session, until there is one.
     recorder: Option<Follower<L>>,
-    /// Whether that follower has read all that was shown before there was a recorder.
-    skipped: bool,
-    /// Whether that follower is lent.
-    recording: bool,
+    /// What is read for the recorder of the session, once there is one.
+    scribe: Option<Scribe<L>>,
     /// Set once nobody follows the kernel any more.
     left: Arc<AtomicBool, Global>,
 }
@@ -121,25 +120,6 @@ pub(crate) fn free_of<L: Language>(
     Ok(free)
 }
 
-/// How many entries are read at once.
-const ENTRIES: usize = 64;
-
-/// Reads on until a read finds nothing, or memory is refused. It says whether nothing is left.
-fn skip_all<L: Language>(alloc: Global, follower: Follower<L>) -> (Follower<L>, bool) {
-    let mut follower = follower;
-    for _ in 0..u64::MAX {
-        let (same, found) = follower.read(alloc, ENTRIES);
-        follower = same;
-        match found {
-            Ok(entries) => if entries.is_empty() {
-                return (follower, true);
-            },
-            Err(_) => return (follower, false),
-        }
-    }
-    (follower, false)
-}
-
 impl<L: Language> Ends<L> {
     /// Nothing came of the kernel yet.
     fn new(alloc: Global, left: Arc<AtomicBool, Global>) -> Ends<L> {
@@ -151,8 +131,7 @@ impl<L: Language> Ends<L> {
             free: Vec::new(alloc),
             lent: 0,
             recorder: None,
-            skipped: false,
-            recording: false,
+            scribe: None,
             left,
         }
     }
@@ -205,43 +184,40 @@ impl<L: Language> Ends<L> {
         }
     }
 
-    /// Whether the kernel was shut down, and neither a seat of it nor the follower for a recorder is lent.
+    /// Whether the kernel was shut down, no seat of it is lent, and nothing is read for a recorder.
     fn is_left(&self) -> bool {
-        self.has_ended() && self.lent == 0 && !self.recording
+        self.has_ended() && self.lent == 0 && self.scribe.is_none()
     }
 
-    /// Reads what was shown before there was a recorder, until a read finds nothing. It says whether the follower for the
-    /// recorder may be lent then.
-    fn skip(&mut self, alloc: Global) -> bool {
+    /// Begins to read for a recorder, after what was shown before it was there. It says whether it began now; where there is no
+    /// memory, it begins later.
+    fn begin_reading(&mut self, alloc: Global) -> bool {
         let Some(follower) = self.recorder.take() else {
             return false;
         };
-        if self.skipped {
+        let (follower, passed) = follower.pass();
+        let began = passed.is_ok();
+        if began {
+            self.scribe = Some(Scribe::new(alloc, follower));
+        } else {
             self.recorder = Some(follower);
-            return true;
         }
-        let (follower, skipped) = skip_all(alloc, follower);
-        self.recorder = Some(follower);
-        self.skipped = skipped;
-        skipped
+        began
     }
 
-    /// Lends the follower for a recorder.
-    fn lend_recorder(&mut self) -> Option<Follower<L>> {
-        if !self.skipped {
-            return None;
-        }
-        let follower = self.recorder.take()?;
-        self.recording = true;
-        Some(follower)
-    }
-
-    /// Lends a seat.
+    /// Lends a seat, whose follower has passed what was shown before. What is shown to a connection comes after its join, so
+    /// nothing of it is passed.
     fn lend(&mut self) -> Option<Free<L>> {
         if self.has_ended() {
             return None;
         }
-        let free = self.free.pop()?;
+        let Free { seat, follower } = self.free.pop()?;
+        let (follower, passed) = follower.pass();
+        let free = Free { seat, follower };
+        if passed.is_err() {
+            let _ = self.free.push(free);
+            return None;
+        }
         self.lent = self.lent.saturating_add(1);
         Some(free)
     }
@@ -398,32 +374,56 @@ impl<R: Wait + Drop, L: Language> Kernels<R, L> {
         }
     }
 
-    /// Skips, for the recorder of a kernel, what was shown before. It says whether the recorder's follower may be lent.
-    pub(crate) fn skip(&mut self, id: &str) -> bool {
+    /// Begins to read for the recorder of a kernel, after what was shown before it was there. It says whether it began now.
+    pub(crate) fn begin_reading(&mut self, id: &str) -> bool {
         let alloc = self.alloc;
         match self.ends_of(id) {
-            Some(ends) => ends.skip(alloc),
+            Some(ends) => ends.begin_reading(alloc),
             None => false,
         }
     }
 
-    /// Lends the follower for the recorder of a kernel. There is none where it is lent already.
-    pub(crate) fn take_reading(&mut self, kernel: Text) -> Option<Reading<L>> {
-        let alloc = self.alloc;
-        let follower = self.ends_of(kernel.as_str())?.lend_recorder()?;
-        Some(Reading {
-            kernel,
-            follower,
-            entries: Vec::new(alloc),
-            due: false,
-            ended: false,
-        })
+    /// What is read for the recorder of a kernel, which is to be given back.
+    pub(crate) fn take_scribe(&mut self, id: &str) -> Option<Scribe<L>> {
+        self.ends_of(id)?.scribe.take()
     }
 
-    /// Takes the follower for a recorder back. It is not lent again, since its kernel or its recorder has ended.
-    pub(crate) fn give_reading(&mut self, kernel: &str) {
-        if let Some(ends) = self.ends_of(kernel) {
-            ends.recording = false;
+    /// Takes back what is read for the recorder of a kernel.
+    pub(crate) fn give_scribe(&mut self, id: &str, scribe: Scribe<L>) {
+        if let Some(ends) = self.ends_of(id) {
+            ends.scribe = Some(scribe);
+        }
+    }
+
+    /// Whether the recorder of a kernel was told all that the kernel will ever show, or nothing is read for it.
+    pub(crate) fn is_read(&mut self, id: &str) -> bool {
+        match self.ends_of(id) {
+            Some(ends) => match &ends.scribe {
+                Some(scribe) => scribe.is_over(),
+                None => true,
+            },
+            None => true,
+        }
+    }
+
+    /// Whether a kernel is there.
+    pub(crate) fn is_there(&self, id: &str) -> bool {
+        self.place_of(id).is_some()
+    }
+
+    /// Reads for the recorder of a kernel no more.
+    pub(crate) fn end_reading(&mut self, id: &str) {
+        if let Some(ends) = self.ends_of(id) {
+            ends.scribe = None;
+        }
+    }
+
+    /// Reads no more for the recorders that are gone.
+    pub(crate) fn end_readings(&mut self, tables: &Tables) {
+        for (id, ends) in self.ids.iter().zip(self.ends.iter_mut()) {
+            if !tables.has_recorder(id.as_str()) {
+                ends.scribe = None;
+            }
         }
     }
 

@@ -1,163 +1,159 @@
-//! The thread of a recorder: it reads what a kernel shows, and hands it to the desk.
+//! What is read for the recorder of a kernel's session.
+ghost use Rattle.std.specs.Prelude.{◌≡◌, ◌++◌, ◌||◌, []};
+ghost use Rattle.std.specs.List.{list_any};
+ghost use Rattle.jk_board.specs.Ends.{read_by};
+ghost use Rattle.js_serve.specs.Recording as spec;
+ghost use Rattle.js_tables.specs.Tables.{rows};
+ghost use Rattle.js_ws.specs.Shutdowns as last;
 
-use crate::call::{Call, Reading};
-use crossbeam_channel::{SendError, Sender, bounded};
+use jk_board::Follower;
 use jk_language::Language;
 use jk_log::{Entry, Told};
-use jp_msg::Output;
+use jp_msg::{Content, Message, Output, Request, State};
+use js_follow::follow;
+use js_shelf::Shelf;
+use js_tables::Tables;
 use json_form::Text;
 use std::alloc::Global;
-use std::sync::Wait;
-use std::thread;
-use std::time::{Clock, Duration};
 
 /// How many entries are read at once.
 const ENTRIES: usize = 64;
 
-/// How many milliseconds pass between two reads.
-const PAUSE: u64 = 20;
-
-/// How many reads in a row may find nothing before the pauses are long. They take about a second.
-const QUIET_READS: u32 = 50;
-
-/// How many milliseconds pass between two reads where nothing came for a while, or memory was refused.
-const LONG_PAUSE: u64 = 100;
-
-/// How many milliseconds pass before a refused save is tried again.
-const SAVE_PAUSE: u64 = 1_000;
-
-/// Whether an entry says that the kernel was shut down, not to start again.
-fn ends_kernel(entry: &Entry) -> bool {
-    matches!(
-        entry.content,
-        Told::Output(Output::ShutdownReply { restart: false })
-    )
+/// What is read for the recorder of a kernel's session.
+#[derive(Drop)]
+pub struct Scribe<L: Language> {
+    pub follower: Follower<L>,
+    /// What was read, and the recorder was not told yet.
+    pub held: Vec<Entry>,
+    /// Whether the last entry that the kernel will ever show was read: the idle of a shutdown without restart.
+    pub over: bool,
+    /// Whether the last read found as much as it could take, so that there may be more.
+    pub full: bool,
 }
 
-impl<L: Language> Reading<L> {
-    /// Reads on, where all that was read before was told.
-    fn read(self, alloc: Global) -> Reading<L> {
-        let Reading {
-            kernel,
+/// Whether it tells that the kernel is idle.
+fn tells_idle(told: &Told) -> bool
+    ensures { result ≡ last.tells_idle told.now }
+{
+    match told {
+        Told::Output(Output::Status(State::Idle)) => true,
+        _ => false,
+    }
+}
+
+/// Whether the request asks the kernel to end and not to start again.
+fn ends_kernel(message: &Message) -> bool
+    ensures { result ≡ last.content_ends message.now.content }
+{
+    match &message.content {
+        Content::Request(Request::Shutdown { restart }) => !*restart,
+        _ => false,
+    }
+}
+
+/// Whether the entry is the idle of a shutdown without restart.
+fn is_last(entry: &Entry) -> bool
+    ensures { result ≡ last.is_last entry.now }
+{
+    tells_idle(&entry.content)
+        && match &entry.parent {
+            Some(parent) => ends_kernel(parent.value()),
+            None => false,
+        }
+}
+
+/// Whether the last entry of a kernel is among them.
+fn has_last(entries: &[Entry]) -> bool
+    ensures { result ≡ list_any last.is_last entries.now }
+{
+    entries.iter().any(|entry| is_last(entry))
+}
+
+impl<L: Language> Scribe<L> {
+    /// Nothing was read yet.
+    pub(crate) fn new(alloc: Global, follower: Follower<L>) -> Scribe<L>
+        ensures { (result.follower ≡ follower) × (result.held.items ≡ []) }
+    {
+        Scribe {
             follower,
-            entries,
-            due,
-            ended,
+            held: Vec::new(alloc),
+            over: false,
+            full: false,
+        }
+    }
+
+    /// Reads on, where the recorder was told all that was read before.
+    pub(crate) fn read(self, alloc: Global) -> Scribe<L>
+        ensures { spec.Reads self result }
+    {
+        let Scribe {
+            follower,
+            held,
+            over,
+            full: _,
         } = self;
-        if !entries.is_empty() {
-            return Reading {
-                kernel,
+        if !held.is_empty() {
+            return Scribe {
                 follower,
-                entries,
-                due,
-                ended,
+                held,
+                over,
+                full: false,
             };
         }
         let (follower, found) = follower.read(alloc, ENTRIES);
-        let entries = found.unwrap_or(entries);
-        let ended = ended || entries.iter().any(|entry| ends_kernel(entry));
-        Reading {
-            kernel,
+        match found {
+            Ok(entries) => Scribe {
+                follower,
+                over: over || has_last(entries.as_slice()),
+                full: entries.len() == ENTRIES,
+                held: entries,
+            },
+            Err(_) => Scribe {
+                follower,
+                held,
+                over,
+                full: false,
+            },
+        }
+    }
+
+    /// Whether the recorder is still to be told something.
+    pub(crate) fn holds(&self) -> bool {
+        !self.held.is_empty()
+    }
+
+    /// Whether the recorder was told all that the kernel will ever show.
+    pub(crate) fn is_over(&self) -> bool {
+        self.over && self.held.is_empty()
+    }
+
+    /// Tells the recorder of a kernel what was read, and saves it where that is due. What there is no memory for is held. Where the
+    /// kernel has no recorder, nothing is.
+    pub(crate) fn tell<S: Shelf>(
+        self,
+        alloc: Global,
+        tables: &mut Tables,
+        shelf: &mut S,
+        date: &Text,
+        kernel: &str,
+    ) -> Scribe<L>
+        ensures { spec.Tells (S.contents shelf.old) (S.contents shelf.new) (S.faults shelf.old) (S.faults shelf.new) kernel.now date.now self result (rows tables.old) (rows tables.new) }
+    {
+        let Scribe {
             follower,
-            entries,
-            due,
-            ended,
-        }
-    }
-
-    /// Whether the desk has something to do.
-    fn waits(&self) -> bool {
-        self.due || !self.entries.is_empty()
-    }
-
-    /// How many milliseconds pass before the next read, where the last one found so many entries, and so many in a row
-    /// found nothing.
-    fn pause(&self, count: usize, quiet: u32) -> u64 {
-        if !self.entries.is_empty() {
-            LONG_PAUSE
-        } else if count == ENTRIES {
-            0
-        } else if self.due {
-            SAVE_PAUSE
-        } else if quiet < QUIET_READS {
-            PAUSE
-        } else {
-            LONG_PAUSE
-        }
-    }
-}
-
-/// Reads what a kernel shows, until the kernel was shut down or its recorder is gone.
-pub(crate) fn record<L: Language, R: Wait + Clock>(
-    rt: &R,
-    alloc: Global,
-    calls: &Sender<Call<L>>,
-    kernel: Text,
-) {
-    let Some(begun) = begin(rt, alloc, calls, kernel) else {
-        return;
-    };
-    let mut reading = begun;
-    let mut quiet: u32 = 0;
-    for _ in rt.forever() {
-        reading = reading.read(alloc);
-        let count = reading.entries.len();
-        quiet = if count == 0 {
-            quiet.saturating_add(1)
-        } else {
-            0
+            held,
+            over,
+            full,
+        } = self;
+        let held = match follow(tables, shelf, date, kernel, held) {
+            Some(rest) => rest.into_vec(),
+            None => Vec::new(alloc),
         };
-        let Some(left) = show(rt, alloc, calls, reading) else {
-            return;
-        };
-        reading = left;
-        if reading.ended && reading.entries.is_empty() {
-            send(rt, calls, Call::Read(reading));
-            return;
-        }
-        thread::sleep(rt, Duration::from_millis(reading.pause(count, quiet)));
-    }
-}
-
-/// Asks the desk for what is to be read. There is nothing where another thread has it, or memory was refused.
-fn begin<L: Language, R: Wait + Clock>(
-    rt: &R,
-    alloc: Global,
-    calls: &Sender<Call<L>>,
-    kernel: Text,
-) -> Option<Reading<L>> {
-    let (sender, receiver) = bounded(alloc, 1).ok()?;
-    send(rt, calls, Call::Reads(kernel, sender));
-    receiver.recv(rt).ok()
-}
-
-/// Hands what was read to the desk, and answers what is left. There is nothing where the recorder is gone.
-fn show<L: Language, R: Wait + Clock>(
-    rt: &R,
-    alloc: Global,
-    calls: &Sender<Call<L>>,
-    reading: Reading<L>,
-) -> Option<Reading<L>> {
-    if !reading.waits() {
-        return Some(reading);
-    }
-    let Ok((sender, receiver)) = bounded(alloc, 1) else {
-        return Some(reading);
-    };
-    send(rt, calls, Call::Shown(reading, sender));
-    receiver.recv(rt).ok()
-}
-
-/// Tells the desk a call, unless the desk is gone. Where memory is refused it is tried again.
-fn send<L: Language, R: Wait + Clock>(rt: &R, calls: &Sender<Call<L>>, call: Call<L>) {
-    let mut call = call;
-    for _ in rt.forever() {
-        match calls.send(rt, call) {
-            Err(SendError::OutOfMemory(back)) => {
-                call = back;
-                thread::sleep(rt, Duration::from_millis(LONG_PAUSE));
-            }
-            _ => return,
+        Scribe {
+            follower,
+            held,
+            over,
+            full,
         }
     }
 }

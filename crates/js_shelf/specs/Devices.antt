@@ -1,6 +1,6 @@
 -- To be believed.
 -- What a device does to the files and folders that it keeps.
-use Rattle.std.specs.Prelude.{◌≡◌, ℕ, Bool, true, false, ◌||◌, List, Option, Some, None, IsSome, is_some, Result, Ok, Err}
+use Rattle.std.specs.Prelude.{◌≡◌, ℕ, Bool, true, false, ◌||◌, List, length, Option, Some, None, IsSome, is_some, Result, Ok, Err}
 use Rattle.js_shelf.specs.declared.item.Item.{Item}
 use Rattle.js_shelf.specs.declared.item.Item.TheVariants.{File, Folder}
 use Rattle.js_shelf.specs.declared.item.ShelfRefusal.{ShelfRefusal}
@@ -20,7 +20,7 @@ refusal_of Memory = refusal.Memory
 -- this kind of thing stands there; on a device that tells its contents nothing else is there
 abbrev pub IsKind : Kind → Option Item → Type 0
 IsKind kind.Nothing item = item ≡ None
-IsKind kind.File item = (bytes : List ℕ) × (item ≡ Some (File bytes))
+IsKind (kind.File count) item = (bytes : List ℕ) × (item ≡ Some (File bytes)) × (count ≡ length bytes)
 IsKind kind.Folder item = item ≡ Some Folder
 IsKind kind.Other item = ⊥
 

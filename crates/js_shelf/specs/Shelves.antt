@@ -1,11 +1,13 @@
 -- To be believed.
 -- A shelf as a map from paths to items, and what each call does to it.
-use Rattle.std.specs.Prelude.{◌≡◌, ℕ, ◌^◌, ◌-◌, ◌<◌, ◌≤◌, ◌⊎◌, ⊤, Bool, true, false, not, ◌&&◌, ◌||◌, List, [], ◌∷◌, if◌then◌else◌, Option, Some, None, IsSome, is_some, Result, Ok, Err}
+use Rattle.std.specs.Prelude.{◌≡◌, ℕ, ◌^◌, ◌-◌, ◌<◌, ◌≤◌, ◌⊎◌, ⊤, Bool, true, false, not, ◌&&◌, ◌||◌, List, [], ◌∷◌, length, if◌then◌else◌, Option, Some, None, IsSome, is_some, Result, Ok, Err}
 use Rattle.std.specs.List.Sorted.{IsStrictlySortedBy}
 use Rattle.std.specs.Cmp.Lexicographic.{slice_cmp}
 use Rattle.std.specs.Ordering.{nat_cmp}
 use Rattle.js_shelf.specs.declared.item.Item.{Item}
 use Rattle.js_shelf.specs.declared.item.Item.TheVariants.{File, Folder}
+use Rattle.js_shelf.specs.declared.item.ItemKind.{ItemKind}
+use Rattle.js_shelf.specs.declared.item.ItemKind.TheVariants as kind
 use Rattle.js_shelf.specs.declared.item.ShelfRefusal.{ShelfRefusal}
 use Rattle.js_shelf.specs.declared.item.ShelfRefusal.TheVariants.{Missing, Exists, BadPath, NotEmpty, Device, Memory}
 use Rattle.std.specs.Str.{bytes_eq}
@@ -122,6 +124,17 @@ Keeps is_named Memory old new = Same old new
 abbrev pub Gets : List ℕ → Result Item ShelfRefusal → Contents → Contents → Type 0
 Gets path (Ok item) old new = (get_fault old path ≡ None) × (old path ≡ Some item) × Same old new
 Gets path (Err e) old new = IsRefused (get_fault old path) e × Same old new
+
+-- the kind of an item, which for a file has the number of its bytes
+abbrev pub kind_of : Item → ItemKind
+kind_of (File bytes) = kind.File (length bytes)
+kind_of Folder = kind.Folder
+
+-- kind: what `get` says, but for the bytes
+abbrev pub Kinds : List ℕ → Result ItemKind ShelfRefusal → Contents → Contents → Type 0
+Kinds path (Ok found) old new =
+    (get_fault old path ≡ None) × ((item : Item) × (old path ≡ Some item) × (found ≡ kind_of item)) × Same old new
+Kinds path (Err e) old new = IsRefused (get_fault old path) e × Same old new
 
 -- a name is among them
 abbrev pub Has : List (List ℕ) → List ℕ → Type 0

@@ -13,7 +13,8 @@ use std::io::ErrorKind;
 #[derive(Clone, Copy, Debug, PartialEq, Eq)]
 pub enum Kind {
     Nothing,
-    File,
+    /// A file of so many bytes.
+    File(u64),
     Folder,
     /// Neither file nor folder, as a link is, wherever it leads.
     Other,

@@ -1,6 +1,7 @@
 //! What stands on a shelf, and why a call is refused.
-ghost use Rattle.std.specs.Prelude.{◌≡◌, IfOk, string_bytes};
+ghost use Rattle.std.specs.Prelude.{◌≡◌, IfOk, length, string_bytes};
 ghost use Rattle.js_shelf.specs.declared.item.ShelfRefusal.TheVariants.{Memory};
+ghost use Rattle.js_shelf.specs.Shelves.{kind_of};
 
 use crate::DeviceFault;
 use std::alloc::{AllocError, AllocFailed, Global};
@@ -26,6 +27,13 @@ impl Bytes {
         ensures { result.now ≡ self.now }
     {
         self.items.as_slice()
+    }
+
+    /// How many there are.
+    pub fn count(&self) -> u64
+        ensures { result ≡ length self.now }
+    {
+        self.items.len() as u64
     }
 
     /// The `Vec` that they were made of.
@@ -131,7 +139,25 @@ pub enum Item {
     Folder,
 }
 
+/// What stands at a path, without the bytes of a file.
+#[derive(Clone, Copy, Debug, PartialEq, Eq)]
+pub enum ItemKind {
+    /// A file of so many bytes.
+    File(u64),
+    Folder,
+}
+
 impl Item {
+    /// Its kind.
+    pub fn kind(&self) -> ItemKind
+        ensures { result ≡ kind_of self.now }
+    {
+        match self {
+            Item::File(bytes) => ItemKind::File(bytes.count()),
+            Item::Folder => ItemKind::Folder,
+        }
+    }
+
     /// An equal item.
     pub fn copy(&self) -> Result<Item, AllocError>
         ensures { IfOk result (λ copy. copy ≡ self.now) }

@@ -9,7 +9,7 @@ mod place;
 mod shelf;
 
 pub use device::{Device, DeviceFault, Kind};
-pub use item::{Bytes, Item, Name, Names, ShelfRefusal};
+pub use item::{Bytes, Item, ItemKind, Name, Names, ShelfRefusal};
 pub use memory::MemoryShelf;
 pub use path::{is_below, is_below_root, is_path, is_step};
 pub use place::Place;

@@ -1,8 +1,8 @@
 //! What a shelf does, whatever keeps it.
 ghost use Rattle.std.specs.Prelude.{◌≡◌, ℕ, Option};
-ghost use Rattle.js_shelf.specs.Shelves.{Contents, Tells, HasCause, Gets, Lists, Puts, Renames, Deletes};
+ghost use Rattle.js_shelf.specs.Shelves.{Contents, Tells, HasCause, Gets, Kinds, Lists, Puts, Renames, Deletes};
 
-use crate::{Item, Names, ShelfRefusal};
+use crate::{Item, ItemKind, Names, ShelfRefusal};
 
 /// Files and folders under one root: a map from paths to items. A path is a text of at most 16 segments with a slash
 /// between two; the empty text is the root, which is a folder and stays one. A segment has 1 to 255 bytes, is neither
@@ -22,6 +22,12 @@ pub trait Shelf {
     /// What stands at the path: a folder, or a file with its bytes. Refused with `BadPath`, `Missing`.
     fn get(&mut self, path: &str) -> Result<Item, ShelfRefusal>
         ensures answer { Tells (contents self.old) (contents self.new) (Gets path.now result) }
+        ensures cause { HasCause (faults self.old) (faults self.new) result };
+
+    /// What stands at the path, told without reading a file: what `get` says, but for the bytes. Refused with `BadPath`,
+    /// `Missing`.
+    fn kind(&mut self, path: &str) -> Result<ItemKind, ShelfRefusal>
+        ensures answer { Tells (contents self.old) (contents self.new) (Kinds path.now result) }
         ensures cause { HasCause (faults self.old) (faults self.new) result };
 
     /// The names of what stands in a folder, in byte order. Refused with `BadPath`, or with `Missing` where no folder

@@ -1,3 +1,4 @@
 pub mod Giving
 pub mod Dates
 pub mod SessionForms
+pub mod Empty

@@ -16,7 +16,7 @@ use Rattle.js_tables.specs.declared.plan.Update.{Update}
 use Rattle.js_tables.specs.declared.plan.Update.TheVariants as update
 use Rattle.js_tables.specs.declared.plan.Change.TheVariants as change
 use Rattle.js_tables.specs.declared.plan.Answer.TheVariants.{Reply}
-use Rattle.js_tables.specs.Tables.{Rows, add_kernel, set_kernels, drop_kernel, set_date, drop_date}
+use Rattle.js_tables.specs.Tables.{Rows, add_kernel, set_kernels, drop_kernel, set_date, drop_file}
 
 -- ---- refusals
 
@@ -78,5 +78,5 @@ updated (update.AddKernel k c) r = add_kernel k c r
 updated (update.DropKernel id) r = drop_kernel id r
 updated (update.SetKernels ks c) r = set_kernels ks c r
 updated (update.SetDate path date) r = set_date path date r
-updated (update.DropDate path) r = drop_date path r
+updated (update.DropFile path) r = drop_file path r
 updated (update.Move ks ds) r = record r { kernels = ks; dates = ds }

@@ -1,12 +1,13 @@
 -- To be believed.
 -- The tables, as lists.
-use Rattle.std.specs.Prelude.{ℕ, ◌<◌, vec_len, vec_capacity, List, [], ◌∷◌, ◌++◌, filter, not, Option, Some, None}
-use Rattle.std.specs.List.{find}
+use Rattle.std.specs.Prelude.{ℕ, ◌<◌, Bool, vec_len, vec_capacity, List, [], ◌∷◌, ◌++◌, filter, not, Option, Some, None}
+use Rattle.std.specs.List.{find, list_any}
 use Rattle.std.specs.Str.{bytes_eq}
 use Rattle.js_tables.specs.declared.tables.Kernel.{Kernel}
 use Rattle.js_tables.specs.declared.tables.Dated.{Dated}
 use Rattle.js_tables.specs.declared.tables.Recording.{Recording}
 use Rattle.js_tables.specs.declared.tables.Tables.{Tables}
+use Rattle.js_tables.specs.Sessions.{find_by_path}
 
 pub record Rows : Type 0 where
   pub start : List ℕ
@@ -67,3 +68,17 @@ drop_date path r = record r { dates = filter (λ d. not (bytes_eq d.path path)) 
 abbrev pub set_date : List ℕ → List ℕ → Rows → Rows
 set_date path date r =
     record r { dates = (drop_date path r).dates ++ (record { path = path; date = date }) ∷ [] }
+
+-- ---- recorders
+
+abbrev pub has_recorder : List ℕ → Rows → Bool
+has_recorder kernel r = list_any (λ c. bytes_eq c.kernel kernel) r.recordings
+
+-- the recordings without those of a kernel, if there is one
+abbrev pub without_recorder : Option Kernel → List Recording → List Recording
+without_recorder None cs = cs
+without_recorder (Some k) cs = filter (λ c. not (bytes_eq c.kernel k.id)) cs
+
+-- the rows without the file at a path: its date and the recorder of the session there
+abbrev pub drop_file : List ℕ → Rows → Rows
+drop_file path r = record (drop_date path r) { recordings = without_recorder (find_by_path path r.kernels) r.recordings }

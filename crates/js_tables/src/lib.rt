@@ -3,6 +3,7 @@
 #![tactic(auto)]
 
 mod body;
+mod book;
 mod forms;
 mod given;
 mod moment;
@@ -12,6 +13,7 @@ mod sessions;
 mod tables;
 
 pub use body::{check_kernel_name, named_or_oberon, optional_text_in, read_body, text_in};
+pub use book::ReadNotebook;
 pub use forms::{
     About, Kind, json_body, kernel_value, kernels_value, kernelspecs_value, model_value,
     session_value, sessions_value, text_value, version_value,

@@ -2,6 +2,7 @@
 ghost use Rattle.std.specs.Prelude.{◌≡◌};
 ghost use Rattle.js_tables.specs.Plans as spec;
 
+use crate::book::ReadNotebook;
 use crate::tables::{Dated, Kernel, Recording};
 use js_http::Response;
 use js_shelf::Item;
@@ -20,7 +21,8 @@ pub enum Update {
     SetKernels(Listed<Kernel>, Option<Recording>),
     /// The date of a path.
     SetDate(Text, Text),
-    DropDate(Text),
+    /// The file at a path goes, with its date and with the recorder of the session there.
+    DropFile(Text),
     /// Paths of sessions and of dates have changed.
     Move(Listed<Kernel>, Listed<Dated>),
 }
@@ -38,6 +40,9 @@ pub enum Command {
 pub enum Change {
     Nothing,
     Put(Text, Item),
+    /// A notebook is put at a path. The recorder of the session there, if there is one, is given it and saves; where there is none,
+    /// its file is put.
+    PutBook(Text, ReadNotebook),
     Delete(Text),
     Rename(Text, Text),
     /// A kernel of that identifier is made.
@@ -51,6 +56,11 @@ pub enum Answer {
     Reply(Response),
     /// The channels of the kernel of that identifier are to be opened.
     Channels(Text),
+    /// The kernel of that identifier has a recorder and was told to shut down. Once the recorder was told all that it showed, and
+    /// the save of that was tried, the kernel's row goes, and then the answer is 204.
+    Ends(Text),
+    /// The page for a browser, as a response of 200.
+    Page,
 }
 
 /// The change that is tried first, and what follows where it succeeds.

@@ -7,6 +7,7 @@ ghost use Rattle.js_tables.specs.Tables as spec;
 ghost use Rattle.js_tables.specs.Plans as plans;
 
 use crate::plan::Update;
+use crate::sessions::find_by_path;
 use json_form::Text;
 use nb_record::Recorder;
 use std::alloc::{AllocError, Global};
@@ -162,6 +163,15 @@ impl Tables {
         }
     }
 
+    /// Whether a kernel has a recorder.
+    pub fn has_recorder(&self, kernel: &str) -> bool
+        ensures { result ≡ spec.has_recorder kernel.now (spec.rows self.now) }
+    {
+        self.recordings
+            .iter()
+            .any(|recording| recording.kernel.as_str() == kernel)
+    }
+
     /// Room for one more row in each table.
     ///
     /// # Errors
@@ -191,6 +201,15 @@ impl Tables {
         remove_dates(&mut self.dates, path);
     }
 
+    fn drop_file(&mut self, path: &Text)
+        ensures { spec.rows self.new ≡ spec.drop_file path.now (spec.rows self.old) }
+    {
+        if let Some(kernel) = find_by_path(&self.kernels, path.as_str()) {
+            remove_recordings(&mut self.recordings, &kernel.id);
+        }
+        remove_dates(&mut self.dates, path);
+    }
+
     fn set_date(&mut self, path: Text, date: Text)
         requires { spec.HasRoom self.old }
         ensures { spec.rows self.new ≡ spec.set_date path date (spec.rows self.old) }
@@ -216,7 +235,7 @@ impl Tables {
                 add_recording(&mut self.recordings, recording);
             }
             Update::SetDate(path, date) => self.set_date(path, date),
-            Update::DropDate(path) => self.drop_date(&path),
+            Update::DropFile(path) => self.drop_file(&path),
             Update::Move(kernels, dates) => {
                 self.kernels = kernels.into_vec();
                 self.dates = dates.into_vec();

@@ -1,8 +1,8 @@
 //! The laws of a kernel and the world round it, for Oberon: a legal log is here one of the written meaning of Oberon-07.
 
-ghost use Rattle.std.specs.Prelude.{◌≡◌, List, ℕ, None, Some};
+ghost use Rattle.std.specs.Prelude.{◌≡◌, ◌++◌, List, [], ℕ, None, Some};
 ghost use Rattle.jk_log.specs.Log.{Log};
-ghost use Rattle.jk_log.specs.Legal.{IsLegal};
+ghost use Rattle.jk_log.specs.Legal.{IsLegal, owed};
 ghost use Rattle.jk_log.specs.Render.{render};
 ghost use Rattle.jk_world.specs.World.{World, Event, opening, Run, IsTrueWorld, HasGoneOn};
 ghost use Rattle.jk_world.specs.Cells.{IsAnsweredOnce, begun_in, CellIsRight};
@@ -13,6 +13,8 @@ ghost use Rattle.jk_world.specs.Counts.{TellCounts};
 ghost use Rattle.jk_world.specs.Requests.{IsShownRight};
 ghost use Rattle.jk_world.specs.Parents.{ParentsFit};
 ghost use Rattle.jk_world.specs.Answers.{AreShownOnce};
+ghost use Rattle.jk_world.specs.Shown.{CellsAreShown};
+ghost use Rattle.jk_world.specs.Controls.{ControlsAreShown};
 ghost use Rattle.ob_tree.specs.declared.tree.Cell.{Cell};
 ghost use Rattle.ob_session.specs.Session.{Session};
 ghost use Rattle.ob_cell.specs.Oberon.{spoken_oberon};
@@ -25,6 +27,13 @@ pub fn world_law()
         → Run spoken_oberon (opening followers) events w → IsTrueWorld spoken_oberon w }
 {
     jk_world::world_law::<Oberon>()
+}
+
+/// A beginning of a legal log at which nothing is owed is legal.
+pub fn prefix_law()
+    ensures { (past more : Log) → IsLegal spoken_oberon (more ++ past) → owed past ≡ [] → IsLegal spoken_oberon past }
+{
+    jk_world::prefix_law::<Oberon>()
 }
 
 /// No step loses or changes anything.
@@ -90,6 +99,20 @@ pub fn answer_law()
     ensures { (log : Log) → IsLegal spoken_oberon log → AreShownOnce spoken_oberon log }
 {
     jk_world::answer_law::<Oberon>()
+}
+
+/// Of a begun cell busy, the cell, its streams and questions, one error where there is one, one reply and idle are shown.
+pub fn cell_law()
+    ensures { (log : Log) → IsLegal spoken_oberon log → CellsAreShown log }
+{
+    jk_world::cell_law::<Oberon>()
+}
+
+/// What is answered as it is taken is shown together, once.
+pub fn control_law()
+    ensures { (log : Log) → IsLegal spoken_oberon log → ControlsAreShown log }
+{
+    jk_world::control_law::<Oberon>()
 }
 
 /// Whose each stream and error is.

@@ -1,10 +1,15 @@
-//! The program: `replay` replays lines of messages from standard input to standard output, and `serve` is the notebook server.
+//! The program: `replay` replays lines of messages from standard input to standard output, `serve` is the notebook server,
+//! and `run` runs notebooks.
 #![tactic(auto)]
 
 mod laws;
+mod running;
 mod serving;
+mod telling;
 
+use crate::running::{Runs, read_runs, run_all};
 use crate::serving::{Unserved, read_port, serve_folder};
+use crate::telling::{help_status, version_status};
 use jk_replay::{ReplayFault, Side, ended_status, replay_status, usage_status};
 use ob_language::Oberon;
 use std::process::ExitCode;
@@ -16,6 +21,9 @@ enum Command {
     Replay,
     /// The port, and the path of the folder.
     Serve(u16, String),
+    Run(Runs),
+    Help,
+    Version,
     Wrong,
 }
 
@@ -27,21 +35,46 @@ fn serve_command(port: &str, root: String) -> Command {
     }
 }
 
+/// The command of one word.
+fn word_command(word: &str) -> Command {
+    if word == "replay" {
+        Command::Replay
+    } else if word == "--help" {
+        Command::Help
+    } else if word == "--version" {
+        Command::Version
+    } else {
+        Command::Wrong
+    }
+}
+
+/// The command of the arguments of `run`.
+fn run_command(rt: &HostRuntime) -> io::Result<Command> {
+    let mut arguments = env::args(rt)?;
+    let _program = arguments.next();
+    let _word = arguments.next();
+    match read_runs(rt.alloc(), arguments)? {
+        Some(runs) => Ok(Command::Run(runs)),
+        None => Ok(Command::Wrong),
+    }
+}
+
 /// The arguments after the program's name.
 fn asked(rt: &HostRuntime) -> io::Result<Command> {
     let mut arguments = env::args(rt)?;
     let _program = arguments.next();
-    let first = arguments.next();
+    let Some(word) = arguments.next() else {
+        return Ok(Command::Wrong);
+    };
+    if word.as_str() == "run" {
+        return run_command(rt);
+    }
     let second = arguments.next();
     let third = arguments.next();
     let fourth = arguments.next();
-    match (first, second, third, fourth) {
-        (Some(word), None, None, None) => if word.as_str() == "replay" {
-            Ok(Command::Replay)
-        } else {
-            Ok(Command::Wrong)
-        },
-        (Some(word), Some(port), Some(root), None) => if word.as_str() == "serve" {
+    match (second, third, fourth) {
+        (None, None, None) => Ok(word_command(word.as_str())),
+        (Some(port), Some(root), None) => if word.as_str() == "serve" {
             Ok(serve_command(port.as_str(), root))
         } else {
             Ok(Command::Wrong)
@@ -71,6 +104,12 @@ fn main(rt: HostRuntime) -> ExitCode {
             let unserved = serve_folder(rt, rt.alloc(), &mut writer, port, root.as_str());
             ended_status(Err(fault_of(unserved)), &mut errors)
         }
+        Ok(Command::Run(runs)) => {
+            let mut lines = rt.reader();
+            run_all(rt, &runs, &mut lines, &mut errors)
+        }
+        Ok(Command::Help) => help_status(&mut rt.stdout()),
+        Ok(Command::Version) => version_status(&mut rt.stdout()),
         Ok(Command::Wrong) => usage_status(&mut errors),
         Err(_) => ended_status(Err(ReplayFault::Memory), &mut errors),
     };

@@ -1,6 +1,7 @@
 //! The program as a server.
 
 use js_files::FileShelf;
+use js_page::page;
 use js_serve::{Desk, Host, Job, Limits, Parser, parse, work};
 use ob_language::Oberon;
 use std::alloc::Global;
@@ -46,7 +47,7 @@ where
         .stack_size(STACK)
         .spawn(&rt, move || {
             let crew = Crew { rt, alloc };
-            work::<Oberon, R, Crew<R>>(&rt, alloc, limits, &crew, job)
+            work::<Oberon, R, Crew<R>>(&rt, alloc, limits, &crew, job, page())
         })
         .is_ok()
 }

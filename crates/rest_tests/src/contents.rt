@@ -364,3 +364,25 @@ const OTHER_PATHS: &str = r#"> PUT /api/contents/d {"type":"directory"}
 fn other_paths(rt: HostRuntime) -> Result<(), Fail> {
     assert_play(&rt, OTHER_PATHS)
 }
+
+const LARGE_FILES: &str = r#"> PUT /api/contents/b.txt {"content":"x","format":"text","type":"file"}
+201 Created {"content":null,"created":"2001-09-09T01:46:40.123456Z","format":null,"last_modified":"2001-09-09T01:46:40.123456Z","mimetype":null,"name":"b.txt","path":"b.txt","type":"file","writable":true}
+! the files have 67108864 bytes
+> GET /api/contents/b.txt
+200 OK {"content":"x","created":"2001-09-09T01:46:40.123456Z","format":"text","last_modified":"2001-09-09T01:46:40.123456Z","mimetype":"text/plain","name":"b.txt","path":"b.txt","type":"file","writable":true}
+! the files have 67108865 bytes
+> GET /api/contents/b.txt
+400 Bad Request
+> GET /api/contents/b.txt?content=0
+200 OK {"content":null,"created":"2001-09-09T01:46:40.123456Z","format":null,"last_modified":"2001-09-09T01:46:40.123456Z","mimetype":null,"name":"b.txt","path":"b.txt","type":"file","writable":true}
+> GET /api/contents
+200 OK {"content":[{"content":null,"created":"2001-09-09T01:46:40.123456Z","format":null,"last_modified":"2001-09-09T01:46:40.123456Z","mimetype":null,"name":"b.txt","path":"b.txt","type":"file","writable":true}],"created":"1970-01-01T00:00:00.000000Z","format":"json","last_modified":"1970-01-01T00:00:00.000000Z","mimetype":null,"name":"","path":"","type":"directory","writable":true}
+> PUT /api/contents/b.txt {"content":"y","format":"text","type":"file"}
+200 OK {"content":null,"created":"2001-09-09T01:46:40.123456Z","format":null,"last_modified":"2001-09-09T01:46:40.123456Z","mimetype":null,"name":"b.txt","path":"b.txt","type":"file","writable":true}
+"#;
+
+// A file of more than 67,108,864 bytes is listed and put over, and its content is not shown.
+#[test]
+fn large_files(rt: HostRuntime) -> Result<(), Fail> {
+    assert_play(&rt, LARGE_FILES)
+}

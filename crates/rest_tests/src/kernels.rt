@@ -12,6 +12,12 @@ const PATHS_AND_METHODS: &str = r#"> GET /api
 > GET /api?x=1
 200 OK {"version":"1.0.0"}
 > GET /
+the page
+> GET /?x=1
+the page
+> GET //
+404 Not Found
+> GET /favicon.ico
 404 Not Found
 > GET /%61pi
 404 Not Found
@@ -26,6 +32,10 @@ const PATHS_AND_METHODS: &str = r#"> GET /api
 > GET /api/x
 404 Not Found
 -- The method comes before the kernel, the session and the body.
+> POST /
+405 Method Not Allowed
+> HEAD /
+405 Method Not Allowed
 > POST /api
 405 Method Not Allowed
 > DELETE /api/kernelspecs

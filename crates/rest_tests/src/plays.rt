@@ -12,7 +12,8 @@ use crate::notes::Notes;
 use js_http::{Response, read_request, write_response};
 use js_rest::Manager;
 use js_shelf::{Item, Shelf};
-use js_tables::{Answer, Given, date_text};
+use js_tables::{Answer, Given, Update, date_text};
+use json_form::Text;
 use std::alloc::Global;
 use std::process::Abort;
 use std::test::Fail;
@@ -27,8 +28,8 @@ const TOMORROW: u64 = 1_000_086_400_123_456;
 /// makes have `400n` in their identifiers.
 #[derive(Drop)]
 pub(crate) struct Server {
-    manager: Manager<Notes>,
-    shelf: FailingShelf,
+    pub(crate) manager: Manager<Notes>,
+    pub(crate) shelf: FailingShelf,
     posts: u64,
     is_tomorrow: bool,
 }
@@ -53,6 +54,13 @@ fn written(alloc: Global, response: &Response) -> Result<String, Fail> {
     Ok(String::from_utf8(bytes)?)
 }
 
+/// A kernel has ended, and its recorder was told all that it showed.
+fn ended(alloc: Global, server: &mut Server, id: Text) -> Result<String, Fail> {
+    server.manager.tables.make_room()?;
+    server.manager.tables.update(Update::DropKernel(id));
+    written(alloc, &Response::NoContent)
+}
+
 /// What the text of a request is answered: the text of a response, or whose channels are to be opened.
 pub(crate) fn answer<R: Abort>(
     rt: &R,
@@ -75,7 +83,9 @@ pub(crate) fn answer<R: Abort>(
         .answer(alloc, &mut server.shelf, &given, &request)
     {
         Answer::Channels(id) => Ok(format!(in alloc; "channels of {}", id.as_str())?),
+        Answer::Ends(id) => ended(alloc, server, id),
         Answer::Reply(response) => written(alloc, &response),
+        Answer::Page => Ok(String::from_str(alloc, "the page")?),
     }
 }
 
@@ -115,7 +125,12 @@ fn shortened(alloc: Global, answer: &str) -> Result<String, Fail> {
 }
 
 /// The answer to a line's request, and the notes of the kernels.
-fn asked<R: Abort>(rt: &R, alloc: Global, server: &mut Server, line: &str) -> Result<String, Fail> {
+pub(crate) fn asked<R: Abort>(
+    rt: &R,
+    alloc: Global,
+    server: &mut Server,
+    line: &str,
+) -> Result<String, Fail> {
     let request = request_of(alloc, line)?;
     let whole = answer(rt, alloc, server, request.as_str())?;
     let mut text = shortened(alloc, whole.as_str())?;
@@ -173,6 +188,8 @@ fn crowd<R: Abort>(rt: &R, alloc: Global, server: &mut Server) -> Result<(), Fai
 fn happen<R: Abort>(rt: &R, alloc: Global, server: &mut Server, event: &str) -> Result<(), Fail> {
     match event {
         "a day goes by" => server.is_tomorrow = true,
+        "the files have 67108864 bytes" => server.shelf.say_len(67_108_864),
+        "the files have 67108865 bytes" => server.shelf.say_len(67_108_865),
         "the inboxes are full" => server.manager.running.is_full = true,
         "the inboxes have room" => server.manager.running.is_full = false,
         "no kernel can be made" => server.manager.running.is_barren = true,

@@ -20,6 +20,25 @@ fn a_kernel_that_is_not_there(rt: HostRuntime) -> Result<(), Fail> {
     assert_answers(&rt, request, wanted)
 }
 
+const FORBIDDEN: &str =
+    "HTTP/1.1 403 Forbidden\r\nContent-Type: application/json\r\nContent-Length: 37\r\nConnection: close\r\n\r\n{\"message\":\"Forbidden\",\"reason\":null}";
+
+// Whatever it asks for: the page, a channel, a path that is unknown.
+#[test]
+fn requests_of_a_foreign_page(rt: HostRuntime) -> Result<(), Fail> {
+    let requests = [
+        "GET / HTTP/1.1\r\nHost: evil.example:8888\r\n\r\n",
+        "GET /api/kernels/x/channels HTTP/1.1\r\nHost: 127.0.0.1:8888\r\nOrigin: http://evil.example\r\n\r\n",
+        "GET /x HTTP/1.1\r\nHost: 127.0.0.1:8888\r\nOrigin: null\r\n\r\n",
+        "POST /api/contents HTTP/1.1\r\nHost: 127.0.0.1:8888\r\nOrigin: http://evil.example\r\n\r\n",
+        "DELETE / HTTP/1.1\r\nHost: 127.0.0.1:8888\r\nOrigin: http://127.0.0.1\r\n\r\n",
+    ];
+    for request in requests {
+        assert_answers(&rt, request, FORBIDDEN)?;
+    }
+    Ok(())
+}
+
 #[test]
 fn the_version(rt: HostRuntime) -> Result<(), Fail> {
     let request = "GET /api HTTP/1.1\r\nHost: a\r\n\r\n";

@@ -16,7 +16,7 @@ pub const NOTHING: &str = "nothing";
 pub const GONE: &str = "gone";
 
 /// What comes next over a WebSocket: a text of so many bytes, or a Close frame of the status 1001, or the end.
-enum Next {
+enum Incoming {
     Text(usize),
     Gone,
     End,
@@ -76,10 +76,10 @@ pub fn send(stream: &mut TcpStream, text: &str) -> io::Result<()> {
 }
 
 /// What comes next.
-fn next(stream: &mut TcpStream) -> io::Result<Next> {
+fn next(stream: &mut TcpStream) -> io::Result<Incoming> {
     let mut kind = [0u8; 1];
     if stream.read(&mut kind)? == 0 {
-        return Ok(Next::End);
+        return Ok(Incoming::End);
     }
     let mut short = [0u8; 1];
     stream.read_exact(&mut short)?;
@@ -90,19 +90,19 @@ fn next(stream: &mut TcpStream) -> io::Result<Next> {
         return Err(ErrorKind::InvalidData.into());
     }
     if short[0] < 126 {
-        return Ok(Next::Text(usize::from(short[0])));
+        return Ok(Incoming::Text(usize::from(short[0])));
     }
     let mut long = [0u8; 2];
     stream.read_exact(&mut long)?;
-    Ok(Next::Text(usize::from(u16::from_be_bytes(long))))
+    Ok(Incoming::Text(usize::from(u16::from_be_bytes(long))))
 }
 
 /// The rest of a Close frame, which has to have the status 1001.
-fn gone(stream: &mut TcpStream, len: u8) -> io::Result<Next> {
+fn gone(stream: &mut TcpStream, len: u8) -> io::Result<Incoming> {
     let mut status = [0u8; 2];
     stream.read_exact(&mut status)?;
     if len == 2 && u16::from_be_bytes(status) == 1001 {
-        Ok(Next::Gone)
+        Ok(Incoming::Gone)
     } else {
         Err(ErrorKind::InvalidData.into())
     }
@@ -111,9 +111,9 @@ fn gone(stream: &mut TcpStream, len: u8) -> io::Result<Next> {
 /// The next message.
 pub fn message(alloc: Global, stream: &mut TcpStream) -> io::Result<String> {
     let len = match next(stream)? {
-        Next::Text(len) => len,
-        Next::Gone => return Ok(String::from_str(alloc, GONE)?),
-        Next::End => return Ok(String::from_str(alloc, NOTHING)?),
+        Incoming::Text(len) => len,
+        Incoming::Gone => return Ok(String::from_str(alloc, GONE)?),
+        Incoming::End => return Ok(String::from_str(alloc, NOTHING)?),
     };
     let mut bytes = Vec::new(alloc);
     bytes.resize(len, 0)?;

@@ -55,7 +55,7 @@ where
     let Manner { limits, parses } = manner;
     thread::spawn(&rt, move || {
         let crew = Crew { rt, alloc, parses };
-        work::<TestLanguage, R, Crew<R>>(&rt, alloc, limits, &crew, job)
+        work::<TestLanguage, R, Crew<R>>(&rt, alloc, limits, &crew, job, "a page")
     })
     .is_ok()
 }

@@ -37,7 +37,7 @@ const SAVES: &[Step] = &[
     SCREEN,
     Step::Sends(0, "c", CELL, r#"{"code":"42\n"}"#),
     Step::Sees(0, &[BUSY_C, INPUT_C, SHOWS_42, OK_C, IDLE_C]),
-    Step::Waits("GET /api/contents/a.ipynb", FIRST_RUN),
+    Step::Asks("GET /api/contents/a.ipynb", "", FIRST_RUN),
     Step::Asks("GET /api/sessions", "", "HTTP/1.1 200 OK\r\n"),
     Step::Notes("\r\n\r\n[{"),
     Step::Asks(
@@ -47,10 +47,82 @@ const SAVES: &[Step] = &[
     ),
     Step::Sends(0, "d", CELL, r#"{"code":"42\n"}"#),
     Step::Sees(0, &[BUSY_D, INPUT_D, SHOWS_42, OK_D, IDLE_D]),
-    Step::Waits("GET /api/contents/b.ipynb", SECOND_RUN),
-    Step::Waits("GET /api/contents/a.ipynb", FIRST_RUN),
+    Step::Asks("GET /api/contents/b.ipynb", "", SECOND_RUN),
+    Step::Asks("GET /api/contents/a.ipynb", "", FIRST_RUN),
     Step::Asks("PUT /api/contents/b.ipynb", EDITED, "HTTP/1.1 200 OK\r\n"),
-    Step::Waits("GET /api/contents/b.ipynb", EDITED_RUN),
+    Step::Asks("GET /api/contents/b.ipynb", "", EDITED_RUN),
+];
+
+/// A notebook of a session, whose kernel is noted.
+const PUT_BOOK: Step = Step::Asks(
+    "PUT /api/contents/a.ipynb",
+    BOOK,
+    "HTTP/1.1 201 Created\r\n",
+);
+
+const SESSION: Step = Step::Asks(
+    "POST /api/sessions",
+    r#"{"path":"a.ipynb","type":"notebook"}"#,
+    "HTTP/1.1 201 Created\r\n",
+);
+
+const RUN: Step = Step::Sends(0, "c", CELL, r#"{"code":"42\n"}"#);
+
+const SHOWN: Step = Step::Sees(0, &[BUSY_C, INPUT_C, SHOWS_42, OK_C, IDLE_C]);
+
+const SAVED: Step = Step::Asks("GET /api/contents/a.ipynb", "", FIRST_RUN);
+
+const ENDS_AT_ONCE: &[Step] = &[
+    PUT_BOOK,
+    SESSION,
+    Step::Notes("\"kernel\":{"),
+    SCREEN,
+    RUN,
+    SHOWN,
+    Step::Asks("DELETE /api/kernels/@", "", "HTTP/1.1 204 No Content\r\n"),
+    SAVED,
+    Step::Asks("GET /api/kernels", "", "HTTP/1.1 200 OK\r\n*\r\n\r\n[]"),
+    SESSION,
+];
+
+/// Of the shutdown `e`.
+const BUSY_E: &str = r#""content":{"execution_state":"busy"}*"parent_header":{*"msg_id":"e""#;
+
+const REPLY_E: &str = r#""msg_type":"shutdown_reply"*"parent_header":{*"msg_id":"e""#;
+
+const IDLE_E: &str = r#""content":{"execution_state":"idle"}*"parent_header":{*"msg_id":"e""#;
+
+const SHUT_DOWN: &[Step] = &[
+    PUT_BOOK,
+    SESSION,
+    Step::Notes("\"kernel\":{"),
+    SCREEN,
+    RUN,
+    SHOWN,
+    Step::Sends(0, "e", "shutdown_request", r#"{"restart":false}"#),
+    Step::Sees(0, &[BUSY_E, REPLY_E, IDLE_E]),
+    SAVED,
+    Step::Asks("GET /api/sessions", "", "HTTP/1.1 200 OK\r\n*\r\n\r\n[]"),
+];
+
+const DELETED: &[Step] = &[
+    PUT_BOOK,
+    SESSION,
+    Step::Notes("\"kernel\":{"),
+    SCREEN,
+    Step::Asks(
+        "DELETE /api/contents/a.ipynb",
+        "",
+        "HTTP/1.1 204 No Content\r\n",
+    ),
+    RUN,
+    SHOWN,
+    Step::Asks("DELETE /api/kernels/@", "", "HTTP/1.1 204 No Content\r\n"),
+    Step::Asks(
+        "GET /api/contents/a.ipynb",
+        "",
+        "HTTP/1.1 404 Not Found\r\n",
+    ),
 ];
 
 const EMPTY_ROOT: &[Step] = &[Step::Asks(
@@ -64,6 +136,23 @@ const EMPTY_ROOT: &[Step] = &[Step::Asks(
 #[test]
 fn a_notebook_is_saved(rt: HostRuntime) -> Result<(), Fail> {
     play(rt, rt.alloc(), SAVES)
+}
+
+/// What a cell showed is in the file once its session is deleted, or shut down by a screen.
+#[test]
+fn a_session_ends_at_once(rt: HostRuntime) -> Result<(), Fail> {
+    play(rt, rt.alloc(), ENDS_AT_ONCE)
+}
+
+#[test]
+fn a_session_is_shut_down(rt: HostRuntime) -> Result<(), Fail> {
+    play(rt, rt.alloc(), SHUT_DOWN)
+}
+
+/// A notebook that is deleted while its session goes on does not come back.
+#[test]
+fn a_deleted_notebook_stays_away(rt: HostRuntime) -> Result<(), Fail> {
+    play(rt, rt.alloc(), DELETED)
 }
 
 /// A root with no files has an empty list.

@@ -32,7 +32,7 @@ pub enum Step {
     /// The channels of the kernel that was noted are asked for, and the answer is like this. Where it switches, it is a new
     /// screen. Screens and other connections that are kept count from 0.
     Opens(&'static str),
-    /// A screen sends a message of this identifier, type and content on the shell channel.
+    /// A screen sends a message of this identifier, type and content on the shell channel, or a shutdown on the control channel.
     Sends(usize, &'static str, &'static str, &'static str),
     /// The next messages of a screen are like these.
     Sees(usize, &'static [&'static str]),
@@ -164,8 +164,13 @@ impl Client {
     }
 
     fn tell(&mut self, place: usize, id: &str, kind: &str, content: &str) -> io::Result<()> {
+        let channel = if kind == "shutdown_request" {
+            "control"
+        } else {
+            "shell"
+        };
         let text = format!(in self.alloc;
-            "{{\"channel\":\"shell\",\"content\":{content},\"header\":{{\"msg_id\":\"{id}\",\"msg_type\":\"{kind}\",\"session\":\"s\"}},\"metadata\":{{\"cellId\":\"c1\"}},\"parent_header\":{{}}}}"
+            "{{\"channel\":\"{channel}\",\"content\":{content},\"header\":{{\"msg_id\":\"{id}\",\"msg_type\":\"{kind}\",\"session\":\"s\"}},\"metadata\":{{\"cellId\":\"c1\"}},\"parent_header\":{{}}}}"
         )?;
         send(self.stream(place)?, text.as_str())
     }

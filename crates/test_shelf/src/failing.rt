@@ -2,16 +2,18 @@
 ghost use Rattle.std.specs.Prelude.{◌≡◌, None};
 ghost use Rattle.js_shelf.specs.Shelves.{HasCause};
 
-use js_shelf::{Item, MemoryShelf, Names, Shelf, ShelfRefusal};
+use js_shelf::{Item, ItemKind, MemoryShelf, Names, Shelf, ShelfRefusal};
 use std::alloc::{AllocError, Global};
 
-/// A shelf in memory, behind a device that fails at the call of number `fault`, counted from 1.
+/// A shelf in memory, behind a device that fails at the call of number `fault`, counted from 1, and may say that each
+/// file has so many bytes.
 #[derive(Drop)]
 pub struct FailingShelf {
     inner: MemoryShelf,
     calls: u64,
     fault: u64,
     failures: u64,
+    said_len: Option<u64>,
 }
 
 impl FailingShelf {
@@ -22,6 +24,7 @@ impl FailingShelf {
             calls: 0,
             fault: 0,
             failures: 0,
+            said_len: None,
         })
     }
 
@@ -29,6 +32,18 @@ impl FailingShelf {
     pub fn fail_at(&mut self, fault: u64) {
         self.calls = 0;
         self.fault = fault;
+    }
+
+    /// `kind` says from now on that each file has so many bytes.
+    pub fn say_len(&mut self, len: u64) {
+        self.said_len = Some(len);
+    }
+
+    fn said(&self, kind: ItemKind) -> ItemKind {
+        match (kind, self.said_len) {
+            (ItemKind::File(_), Some(len)) => ItemKind::File(len),
+            _ => kind,
+        }
     }
 
     fn fails(&mut self) -> bool
@@ -60,6 +75,16 @@ impl Shelf for FailingShelf {
             self.inner.get(path)
         };
         self.counted(outcome)
+    }
+
+    fn kind(&mut self, path: &str) -> Result<ItemKind, ShelfRefusal> {
+        let outcome = if self.fails() {
+            Err(ShelfRefusal::Device)
+        } else {
+            self.inner.kind(path)
+        };
+        let kind = self.counted(outcome)?;
+        Ok(self.said(kind))
     }
 
     fn list(&mut self, path: &str) -> Result<Names, ShelfRefusal> {

@@ -1,10 +1,12 @@
 //! Followers in threads of their own read beside one publisher.
 ghost use Rattle.std.specs.Prelude.{◌≡◌, []};
 ghost use Rattle.jk_board.specs.Ends.{published, publisher_board, found_by, told_to, AreNew};
+ghost use Rattle.thread_tests.specs.Shown.{HasShown};
 
-use crate::following::{begin, read_times};
-use crate::joins::publish_joins;
+use crate::following::{begin, read_after, read_times};
+use crate::joins::{fresh_kernel, publish_joins, publish_next};
 use jk_board::{Board, Follower, Followers, Publisher};
+use jk_core::Kernel;
 use std::alloc::{AllocError, Global};
 use std::process::Abort;
 use std::sync::Wait;
@@ -100,4 +102,40 @@ fn reader_beside_writer(rt: HostRuntime) -> Result<(), Fail> {
     let (publisher, done) = follow(rt, alloc, publisher, followers);
     publisher.end(&rt);
     done
+}
+
+/// A follower that comes after a hundred entries passes them, and reads the three that are published then.
+fn pass_hundred<R: Wait>(
+    rt: &R,
+    alloc: Global,
+    kernel: &mut Kernel<TestLanguage>,
+    publisher: Publisher<TestLanguage>,
+    follower: Follower<TestLanguage>,
+) -> (Publisher<TestLanguage>, Result<u64, AllocError>)
+    requires { HasShown TestLanguage.spoken (published publisher) kernel.old }
+{
+    let (publisher, first) = publish_next(rt, alloc, kernel, publisher, 1, 101);
+    if first.is_err() {
+        return (publisher, Err(AllocError));
+    }
+    let (follower, passed) = follower.pass();
+    let (publisher, second) = publish_next(rt, alloc, kernel, publisher, 101, 104);
+    if passed.is_err() || second.is_err() {
+        return (publisher, Err(AllocError));
+    }
+    (publisher, read_after(alloc, follower, 1, 100))
+}
+
+#[test]
+fn late_reader(rt: HostRuntime) -> Result<(), Fail> {
+    let alloc = rt.alloc();
+    let mut kernel = fresh_kernel::<TestLanguage>(alloc)?;
+    let Board {
+        publisher,
+        followers,
+    } = Board::<TestLanguage>::new(&rt, alloc)?;
+    let (publisher, last) = pass_hundred(&rt, alloc, &mut kernel, publisher, followers.one);
+    publisher.end(&rt);
+    assert_eq!(rt; last?, 103);
+    Ok(())
 }

@@ -23,6 +23,7 @@ fn own_cell_on_another_screen(rt: HostRuntime) -> Result<(), Fail> {
     let alloc = rt.alloc();
     let play = Play {
         code: "42\\n",
+        copies: 1,
         cue: None,
         all: 5,
     };
@@ -47,6 +48,7 @@ fn interrupted_from_another_seat(rt: HostRuntime) -> Result<(), Fail> {
     }
     let play = Play {
         code: code.as_str(),
+        copies: 1,
         cue: Some(Cue {
             shown: 2,
             what: What::Control(message(alloc, INTERRUPT)?),
@@ -65,6 +67,7 @@ fn input_while_another_watches(rt: HostRuntime) -> Result<(), Fail> {
     let alloc = rt.alloc();
     let play = Play {
         code: "?$",
+        copies: 1,
         cue: Some(Cue {
             shown: 3,
             what: What::Stdin(message(alloc, LINE)?),
@@ -74,5 +77,20 @@ fn input_while_another_watches(rt: HostRuntime) -> Result<(), Fail> {
     let entries = show(rt, alloc, play)?;
     assert_eq!(rt; view_of(alloc, &entries, 1)?.as_str(), "be?sri");
     assert_eq!(rt; view_of(alloc, &entries, 2)?.as_str(), "besi");
+    Ok(())
+}
+
+/// Two hundred cells are sent at once, more than the pool takes.
+#[test]
+fn more_cells_than_the_pool_takes(rt: HostRuntime) -> Result<(), Fail> {
+    let alloc = rt.alloc();
+    let play = Play {
+        code: "42\\n",
+        copies: 200,
+        cue: None,
+        all: 1_000,
+    };
+    let entries = show(rt, alloc, play)?;
+    assert_eq!(rt; entries.len(), 1_000);
     Ok(())
 }

@@ -42,8 +42,19 @@ pub fn read_times<L: Language>(
     follower: Follower<L>,
     times: u64,
 ) -> Result<u64, AllocError> {
+    read_after(alloc, follower, times, 0)
+}
+
+/// Reads so many times. The answer is the number of the last join or leave, where all come in order after the one of this
+/// number.
+pub fn read_after<L: Language>(
+    alloc: Global,
+    follower: Follower<L>,
+    times: u64,
+    number: u64,
+) -> Result<u64, AllocError> {
     let mut follower = follower;
-    let mut last = 0u64;
+    let mut last = number;
     for _ in 0..times {
         let (same, found) = follower.read(alloc, 64);
         follower = same;

@@ -12,7 +12,7 @@ use std::alloc::{AllocError, Global};
 use std::sync::Wait;
 
 /// A kernel of which nothing was shown.
-fn fresh_kernel<L: Language>(alloc: Global) -> Result<Kernel<L>, AllocError>
+pub fn fresh_kernel<L: Language>(alloc: Global) -> Result<Kernel<L>, AllocError>
     ensures { IfOk result (HasShown L.spoken []) }
 {
     Kernel::new(alloc)
@@ -75,7 +75,7 @@ fn publish_pending<L: Language, R: Wait>(
 }
 
 /// Takes the joins and leaves of one publication, and publishes them.
-fn publish_next<L: Language, R: Wait>(
+pub fn publish_next<L: Language, R: Wait>(
     rt: &R,
     alloc: Global,
     kernel: &mut Kernel<L>,

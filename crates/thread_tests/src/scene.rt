@@ -37,6 +37,8 @@ pub struct Cue {
 #[derive(Drop)]
 pub struct Play<'a> {
     pub code: &'a str,
+    /// How many such cells are sent.
+    pub copies: usize,
     pub cue: Option<Cue>,
     /// How many entries are shown in all.
     pub all: usize,
@@ -159,7 +161,7 @@ fn run<R: Wait>(
     } = screen;
     let mut driver = driver;
     let mut sender = sender;
-    for _ in 0..1_000_000 {
+    for _ in 0..200_000 {
         let (same, _) = drive_some(rt, 1, driver);
         driver = same;
         let (same, read) = follow(alloc, follower, &mut entries);
@@ -237,8 +239,16 @@ where
     let end = ends.pop().ok_or("no parser")?;
     let kernel = Kernel::<TestLanguage>::new(alloc)?;
     let entries = Vec::new(alloc);
-    let Play { code, cue, all } = play;
-    let one = send(&rt, seats.one, cell(alloc, code)?);
+    let Play {
+        code,
+        copies,
+        cue,
+        all,
+    } = play;
+    let mut one = send(&rt, seats.one, cell(alloc, code)?);
+    for _ in 1..copies {
+        one = send(&rt, one, cell(alloc, code)?);
+    }
     let seat = match &cue {
         Some(
             Cue {

@@ -1,5 +1,5 @@
 //! What a follower does.
-ghost use Rattle.std.specs.Prelude.{◌≡◌, ◌≤◌, ◌++◌, take, drop, IfOk, OnErr};
+ghost use Rattle.std.specs.Prelude.{◌≡◌, ◌≤◌, ◌++◌, take, drop, IfOk, OnOk, OnErr};
 ghost use Rattle.jk_board.specs.Ends.{found_by, told_to, read_by, news_of};
 ghost use Rattle.jk_board.specs.Rule.{Each};
 ghost use Rattle.jk_board.specs.Boards.{IsBoard, StartsWith};
@@ -39,6 +39,29 @@ impl<L: Language> Follower<L> {
         match place.checked_add(entries.len()) {
             Some(place) => (Follower { reader, place }, Ok(entries)),
             None => (Follower { reader, place }, Err(AllocError)),
+        }
+    }
+
+    /// The follower after all that it finds, of which nothing is copied.
+    ///
+    /// # Errors
+    /// Where the publisher has ended. What was read stays as it was.
+    pub fn pass(self) -> (Follower<L>, Result<(), AllocError>)
+        ensures told { told_to result.0 ≡ told_to self }
+        ensures later { StartsWith (found_by result.0) (found_by self) }
+        ensures found { OnOk result.1 (IsBoard L.spoken (found_by result.0) × Each (StartsWith (found_by result.0)) (told_to self)) }
+        ensures passed { OnOk result.1 (read_by result.0 ≡ found_by result.0) }
+        ensures more { StartsWith (read_by result.0) (read_by self) }
+        ensures refused { OnErr result.1 (read_by result.0 ≡ read_by self) }
+    {
+        let Follower { reader, place } = self;
+        match reader.enter_as::<Finds<L>>() {
+            Ok(reading) => {
+                let end = reading.get().end();
+                let reader = reading.leave();
+                (Follower { reader, place: end }, Ok(()))
+            }
+            Err(reader) => (Follower { reader, place }, Err(AllocError)),
         }
     }
 

@@ -24,7 +24,15 @@ impl Posted {
             oldest,
             older,
             newest,
+            end: 0,
         })
+    }
+
+    /// How many entries it has.
+    pub fn end(&self) -> usize
+        ensures { result ≡ length (all_of self.now) }
+    {
+        self.end
     }
 
     /// The same board, by one more pointer to each of its rows.
@@ -38,6 +46,7 @@ impl Posted {
             oldest,
             older,
             newest,
+            end: self.end,
         })
     }
 
@@ -55,6 +64,7 @@ impl Posted {
             oldest,
             older,
             newest,
+            end: self.end,
         })
     }
 
@@ -82,6 +92,9 @@ impl Posted {
         ensures all { MatchResult result (λ b. all_of b ≡ all_of self.now ++ entries.items) (λ e. e.0 ≡ entries) }
         ensures last { IfOk result (EndsWith entries) }
     {
+        let Some(end) = self.end.checked_add(entries.len()) else {
+            return Err((entries, AllocError));
+        };
         let board = match self.with_room(alloc) {
             Ok(board) => board,
             Err(error) => return Err((entries, error)),
@@ -90,12 +103,14 @@ impl Posted {
             oldest,
             older,
             newest,
+            end: _,
         } = board;
         let newest = newest.with_entries(alloc, entries)?;
         Ok(Posted {
             oldest,
             older,
             newest,
+            end,
         })
     }
 

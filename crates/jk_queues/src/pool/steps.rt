@@ -67,7 +67,7 @@ impl<T: Drop> Pool<T> {
     /// # Errors
     /// The job comes back where 64 jobs stood in the queue at one moment of the call.
     pub fn offer<R: Wait>(&mut self, rt: &R, job: Job) -> Result<(), Job>
-        ensures offered { MatchResult result (λ _. offered_by self.new ≡ offered_by self.old ++ job ∷ []) (λ back. (back ≡ job) × (offered_by self.new ≡ offered_by self.old) × Held 64 (StandsPushed (jobs_view self.old))) }
+        ensures offered { MatchResult result (λ _. offered_by self.new ≡ offered_by self.old ++ job ∷ []) (λ back. (back ≡ job) × (offered_by self.new ≡ offered_by self.old) × Held 64 (StandsPushed (jobs_view self.new))) }
         ensures results { results_view self.new ≡ results_view self.old }
         ensures same { IsSamePool self.old self.new }
     {
@@ -76,7 +76,7 @@ impl<T: Drop> Pool<T> {
 
     /// The next result, or `None` where no result stood in the queue at one moment of the call.
     pub fn collect<R: Wait>(&mut self, rt: &R) -> Option<T>
-        ensures collected { MatchOption result ((collected_by self.new ≡ collected_by self.old) × Held 0 (StandsTaken (results_view self.old))) (λ x. collected_by self.new ≡ collected_by self.old ++ x ∷ []) }
+        ensures collected { MatchOption result ((collected_by self.new ≡ collected_by self.old) × Held 0 (StandsTaken (results_view self.new))) (λ x. collected_by self.new ≡ collected_by self.old ++ x ∷ []) }
         ensures jobs { jobs_view self.new ≡ jobs_view self.old }
         ensures same { IsSamePool self.old self.new }
     {

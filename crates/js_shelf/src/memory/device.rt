@@ -12,7 +12,7 @@ impl Device for MemoryShelf {
     fn kind(&mut self, place: &Place) -> Result<Kind, DeviceFault> {
         Ok(match self.items.get(place.as_str()) {
             None => Kind::Nothing,
-            Some(Item::File(_)) => Kind::File,
+            Some(Item::File(bytes)) => Kind::File(bytes.count()),
             Some(Item::Folder) => Kind::Folder,
         })
     }

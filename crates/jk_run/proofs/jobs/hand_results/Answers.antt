@@ -13,9 +13,9 @@ loop-preserved-in-Some-collect g c =
     let collected = c.in-Some-collect.ensures in
     record {
       log = hands_log result c.loop.kernel used c.parsed.new.self c.parsed.ensures ∙ c.loop.invariant.log;
-      given = λ job h. given_hands result c.loop.kernel used c.parsed.new.self c.parsed.ensures job (c.loop.invariant.given job h);
+      given = λ job jobs h. given_hands result c.loop.kernel used c.parsed.new.self c.parsed.ensures job jobs (c.loop.invariant.given job jobs h);
       same = (collected.same.0 ∙ c.loop.invariant.same.0, collected.same.1 ∙ c.loop.invariant.same.1, collected.same.2 ∙ c.loop.invariant.same.2);
-      offered = ap (λ (v : Hand Job). v.put) collected.jobs ∙ c.loop.invariant.offered;
+      jobs = collected.jobs ∙ c.loop.invariant.jobs;
       acts = results_more g.L.Language.spoken c.args.kernel.now c.loop.kernel c.parsed.new.self (collected_by c.args.pool.now) (collected_by c.loop.pool) (collected_by c.collect.new.self) result used c.loop.invariant.acts c.parsed.ensures collected.collected;
     }
 
@@ -26,9 +26,9 @@ loop-preserved-in-Some-collect-2 g c =
     let collected = c.in-Some-collect.ensures in
     record {
       log = hands_log result c.loop.kernel used c.parsed.new.self c.parsed.ensures ∙ c.loop.invariant.log;
-      given = λ job h. given_hands result c.loop.kernel used c.parsed.new.self c.parsed.ensures job (c.loop.invariant.given job h);
+      given = λ job jobs h. given_hands result c.loop.kernel used c.parsed.new.self c.parsed.ensures job jobs (c.loop.invariant.given job jobs h);
       same = (collected.same.0 ∙ c.loop.invariant.same.0, collected.same.1 ∙ c.loop.invariant.same.1, collected.same.2 ∙ c.loop.invariant.same.2);
-      offered = ap (λ (v : Hand Job). v.put) collected.jobs ∙ c.loop.invariant.offered;
+      jobs = collected.jobs ∙ c.loop.invariant.jobs;
       acts = results_more g.L.Language.spoken c.args.kernel.now c.loop.kernel c.parsed.new.self (collected_by c.args.pool.now) (collected_by c.loop.pool) (collected_by c.collect.new.self) result used c.loop.invariant.acts c.parsed.ensures collected.collected;
     }
 
@@ -39,9 +39,9 @@ loop-preserved g c =
     let collected = c.in-Some-collect.ensures in
     record {
       log = hands_log result c.loop.kernel used c.parsed.new.self c.parsed.ensures ∙ c.loop.invariant.log;
-      given = λ job h. given_hands result c.loop.kernel used c.parsed.new.self c.parsed.ensures job (c.loop.invariant.given job h);
+      given = λ job jobs h. given_hands result c.loop.kernel used c.parsed.new.self c.parsed.ensures job jobs (c.loop.invariant.given job jobs h);
       same = (collected.same.0 ∙ c.loop.invariant.same.0, collected.same.1 ∙ c.loop.invariant.same.1, collected.same.2 ∙ c.loop.invariant.same.2);
-      offered = ap (λ (v : Hand Job). v.put) collected.jobs ∙ c.loop.invariant.offered;
+      jobs = collected.jobs ∙ c.loop.invariant.jobs;
       acts = results_more g.L.Language.spoken c.args.kernel.now c.loop.kernel c.parsed.new.self (collected_by c.args.pool.now) (collected_by c.loop.pool) (collected_by c.collect.new.self) result used c.loop.invariant.acts c.parsed.ensures collected.collected;
     }
 

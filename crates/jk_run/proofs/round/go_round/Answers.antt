@@ -5,10 +5,12 @@ use Rattle.jk_log.specs.declared.job.Job.{Job}
 use Rattle.jk_core.specs.declared.kernel.Work.{Work}
 use Rattle.jk_board.specs.Ends.{published}
 use Rattle.jk_queues.specs.Ends.{taker_view, taken_by}
-use Rattle.jk_queues.specs.Pool.{offered_by, collected_by}
-use Rattle.jk_run.specs.Driver.{IsEmptied, HasWorked}
+use Rattle.jk_queues.specs.Pool.{offered_by, collected_by, jobs_view}
+use Rattle.jk_core.specs.Steps.{Works}
+use Rattle.jk_run.specs.Acts.{Leads, driven}
+use Rattle.jk_run.specs.Driver.{IsEmptied}
 use Rattle.jk_run.specs.Hand.{hand}
-use Rattle.jk_run.proofs.Rounds.{is_none, none_shown, none_left, round_took, round_shown, round_acts, round_emptied, round_given, from_kernel}
+use Rattle.jk_run.proofs.Rounds.{is_none, none_shown, none_left, round_took, round_shown, round_acts, round_emptied, round_given, round_handed, none_pends, from_kernel}
 use Rattle.jk_run.proofs.round.go_round.Goals as goal
 
 pub publish_pending-publisher-requires : goal.publish_pending-publisher-requires
@@ -42,6 +44,11 @@ returns-clause-acts g c k pends =
 
 pub returns-clause-done : goal.returns-clause-done
 returns-clause-done g c ran =
+    let driver = c.args.driver in
+    let given = offered_by driver.pool ++ hand driver.job in
+    let jobs = offered_by c.give_jobs-job.new.pool ++ hand c.give_jobs-job.result.0 in
+    let results = collected_by c.hand_results.new.pool in
+    let board = published driver.publisher in
     let all = c.answer_of.ensures ran in
     let none = is_none c.take_arrivals-taker.result.1 c.is_none-taken.result c.is_none-taken.ensures all.0 in
     let shown = c.publish_pending-publisher.ensures.all all.2 in
@@ -51,8 +58,17 @@ returns-clause-done g c ran =
       inbox = round_emptied g.L.Language.spoken c.take_arrivals-taker.new.kernel c.give_jobs-job.new.kernel c.hand_results.new.kernel c.work-work.new.self c.publish_pending-publisher.new.kernel c.work-work.result (taker_view c.take_arrivals-taker.result.0)
           (subst (λ (o : Option Arrival). IfNone o (IsEmptied c.take_arrivals-taker.new.kernel.log (taker_view c.take_arrivals-taker.result.0))) none c.take_arrivals-taker.ensures.none)
           c.give_jobs-job.ensures.log c.hand_results.ensures.log worked c.publish_pending-publisher.ensures.log;
-      given = round_given g.L.Language.spoken c.give_jobs-job.new.kernel c.hand_results.new.kernel c.work-work.new.self c.publish_pending-publisher.new.kernel _ c.work-work.result c.give_jobs-job.result.0 (c.give_jobs-job.ensures.given all.1) c.hand_results.ensures.given worked shown.1;
+      given = round_given g.L.Language.spoken c.give_jobs-job.new.kernel c.hand_results.new.kernel c.work-work.new.self c.publish_pending-publisher.new.kernel _ c.work-work.result c.give_jobs-job.result.0 (jobs_view c.give_jobs-job.new.pool) (jobs_view c.hand_results.new.pool) (c.give_jobs-job.ensures.given all.1) c.hand_results.ensures.given c.hand_results.ensures.jobs worked shown.1;
+      results = c.hand_results.ensures.results;
       entries = shown.0;
       pending = none_left c.work-work.new.self c.publish_pending-publisher.new.kernel shown.1;
-      worked = subst (λ (answer : Work). HasWorked g.L.Language.spoken answer c.publish_pending-publisher.new.kernel) (sym all.3) (c.hand_results.new.kernel, c.work-work.new.self, worked, shown.1);
+      worked = λ k pends. (
+        driven c.hand_results.new.kernel board jobs results,
+        c.work-work.new.self,
+        subst (λ k. Leads g.L.Language.spoken (driven k board given (collected_by driver.pool)) (driven c.hand_results.new.kernel board jobs results)) (none_pends driver.entries k driver.kernel c.requires pends)
+            (round_handed g.L.Language.spoken board driver.kernel c.take_arrivals-taker.new.kernel c.give_jobs-job.new.kernel c.hand_results.new.kernel given jobs (collected_by driver.pool) (collected_by c.give_jobs-job.new.pool) results
+            c.take_arrivals-taker.ensures.acts c.give_jobs-job.ensures.acts c.give_jobs-job.ensures.pool.1 c.hand_results.ensures.acts),
+        subst (λ (answer : Work). Works g.L.Language.spoken 1000 c.hand_results.new.kernel answer c.work-work.new.self) (sym all.3) worked,
+        shown.1,
+      );
     }

@@ -1,6 +1,6 @@
 use Rattle.std.proofs.Common.{Result, Option, sym, subst}
-use Rattle.js_shelf.specs.Shelves.{Tells, Gets}
-use Rattle.js_shelf.specs.declared.item.Item.{Item}
+use Rattle.js_shelf.specs.Shelves.{Tells, Kinds}
+use Rattle.js_shelf.specs.declared.item.ItemKind.{ItemKind}
 use Rattle.js_tables.specs.declared.refusal.Refusal.{Refusal}
 use Rattle.js_contents.specs.Looks.{shown_present, Presents}
 use Rattle.js_contents.proofs.Telling.{tells_weaker}
@@ -11,6 +11,6 @@ pub returns : goal.returns
 returns g c =
     let path = c.args.path.now in
     let old = g.S.Shelf.contents c.args.shelf.now in
-    let new = g.S.Shelf.contents c.get.new.self in
-    subst (λ (r : Result (Option Item) Refusal). Tells old new (Presents path r)) (sym c.shown_present.ensures)
-    (tells_weaker old new (Gets path c.get.result) (Presents path (shown_present c.get.result)) (λ m n h. presents_shown path c.get.result m n h) c.get.ensures.answer)
+    let new = g.S.Shelf.contents c.kind.new.self in
+    subst (λ (r : Result (Option ItemKind) Refusal). Tells old new (Presents path r)) (sym c.shown_present.ensures)
+    (tells_weaker old new (Kinds path c.kind.result) (Presents path (shown_present c.kind.result)) (λ m n h. presents_shown path c.kind.result m n h) c.kind.ensures.answer)

@@ -10,10 +10,10 @@ returns-in-Ok g c =
     let r = rows c.args.tables.now in
     let request = c.args.request.now in
     let segments = c.args.segments.now in
-    tells_then (g.S.Shelf.contents c.args.shelf.now) (g.S.Shelf.contents c.seen_by.new.shelf) (g.S.Shelf.contents c.listed.new.shelf)
-    (Sees r request segments (Ok c.in-Ok.seen)) (ShowsSeen r c.in-Ok.seen c.listed.result) (Reads r request segments c.listed.result)
-    c.in-Ok.ensures c.listed.ensures
-    (λ m k n h j. read_ok r request segments c.in-Ok.seen c.listed.result m k n h j)
+    tells_then (g.S.Shelf.contents c.args.shelf.now) (g.S.Shelf.contents c.seen_by.new.shelf) (g.S.Shelf.contents c.planned.new.shelf)
+    (Sees r request segments (Ok c.in-Ok.seen)) (ShowsSeen r c.in-Ok.seen c.planned.result) (Reads r request segments c.planned.result)
+    c.in-Ok.ensures c.planned.ensures
+    (λ m k n h j. read_ok r request segments c.in-Ok.seen c.planned.result m k n h j)
 
 pub returns-in-Err : goal.returns-in-Err
 returns-in-Err g c =

@@ -54,3 +54,15 @@ returns-clause-none c = refl
 pub returns-clause-other : goal.returns-clause-other
 unfolding matchit_on_literals table with_route
 returns-clause-other c = refl
+
+pub returns-clause-page : goal.returns-clause-page
+unfolding matchit_on_literals table with_route
+returns-clause-page c = refl
+
+pub returns-clause-nothing : goal.returns-clause-nothing
+unfolding matchit_on_literals table with_route
+returns-clause-nothing c = refl
+
+pub returns-clause-icon : goal.returns-clause-icon
+unfolding matchit_on_literals table with_route
+returns-clause-icon c = refl

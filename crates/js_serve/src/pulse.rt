@@ -1,0 +1,149 @@
+//! The thread that calls the desk when recorders are to be read for.
+
+use crate::call::Call;
+use crossbeam_channel::{Receiver, RecvTimeoutError, SendError, Sender};
+use jk_language::Language;
+use std::sync::Wait;
+use std::thread;
+use std::time::{Clock, Duration};
+
+/// How many milliseconds pass before a call that found no memory is tried again.
+const PAUSE: u64 = 100;
+
+/// How many milliseconds pass between two reads.
+const SHORT: u64 = 20;
+
+/// How many reads in a row may find nothing before the pauses are long. They take about a second.
+const QUIET_READS: u32 = 50;
+
+/// How many milliseconds pass between two reads where nothing came for a while.
+const LONG: u64 = 100;
+
+/// How many milliseconds pass between two reads while a kernel ends.
+pub(crate) const QUICK: u64 = 1;
+
+/// How many milliseconds pass before a refused save is tried again.
+const SAVE_PAUSE: u64 = 1_000;
+
+/// How many milliseconds pass where there is no recorder.
+const IDLE: u64 = 3_600_000;
+
+/// What a look at all recorders found.
+#[derive(Clone, Copy, Debug, PartialEq, Eq)]
+pub(crate) enum Found {
+    /// There is no recorder.
+    NoRecorder,
+    Nothing,
+    Entries,
+    /// There may be more to read now.
+    More,
+    /// A kernel is ending.
+    Ending,
+}
+
+impl Found {
+    /// The more urgent of two.
+    pub(crate) fn or(self, other: Found) -> Found {
+        if self.urgency() < other.urgency() {
+            other
+        } else {
+            self
+        }
+    }
+
+    fn urgency(self) -> u8 {
+        match self {
+            Found::NoRecorder => 0,
+            Found::Nothing => 1,
+            Found::Entries => 2,
+            Found::Ending => 3,
+            Found::More => 4,
+        }
+    }
+}
+
+/// When recorders are read for.
+#[derive(Drop)]
+pub(crate) struct Rhythm {
+    /// How many reads in a row have found nothing.
+    quiet: u32,
+    /// How many milliseconds have passed since refused saves were tried again.
+    passed: u64,
+}
+
+impl Rhythm {
+    /// Nothing was read yet.
+    pub(crate) fn new() -> Rhythm {
+        Rhythm {
+            quiet: 0,
+            passed: 0,
+        }
+    }
+
+    /// How many milliseconds pass before the next read.
+    pub(crate) fn next(&mut self, found: Found) -> u64 {
+        self.quiet = if found == Found::Nothing {
+            self.quiet.saturating_add(1)
+        } else {
+            0
+        };
+        let pause = match found {
+            Found::NoRecorder => IDLE,
+            Found::More => 0,
+            Found::Ending => QUICK,
+            Found::Entries => SHORT,
+            Found::Nothing => if self.quiet < QUIET_READS {
+                SHORT
+            } else {
+                LONG
+            },
+        };
+        self.passed = self.passed.saturating_add(pause);
+        pause
+    }
+
+    /// Whether refused saves are to be tried again now.
+    pub(crate) fn is_time_to_save(&mut self) -> bool {
+        if self.passed < SAVE_PAUSE {
+            return false;
+        }
+        self.passed = 0;
+        true
+    }
+}
+
+/// Calls the desk each time a pause that it said is over, until the desk is gone.
+pub(crate) fn pulse<L: Language, R: Wait + Clock>(
+    rt: &R,
+    calls: &Sender<Call<L>>,
+    pauses: &Receiver<u64>,
+) {
+    let mut pause = IDLE;
+    for _ in rt.forever() {
+        match pauses.recv_timeout(rt, Duration::from_millis(pause)) {
+            Ok(next) => pause = next,
+            Err(RecvTimeoutError::Disconnected) => return,
+            Err(RecvTimeoutError::Timeout) => {
+                if !call(rt, calls) {
+                    return;
+                }
+                match pauses.recv(rt) {
+                    Ok(next) => pause = next,
+                    Err(_) => return,
+                }
+            }
+        }
+    }
+}
+
+/// Calls the desk. Where memory is refused it is tried again. It says whether the desk is there.
+fn call<L: Language, R: Wait + Clock>(rt: &R, calls: &Sender<Call<L>>) -> bool {
+    for _ in rt.forever() {
+        match calls.send(rt, Call::Pulse) {
+            Ok(()) => return true,
+            Err(SendError::OutOfMemory(_)) => thread::sleep(rt, Duration::from_millis(PAUSE)),
+            Err(_) => return false,
+        }
+    }
+    false
+}

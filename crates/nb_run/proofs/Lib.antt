@@ -1,0 +1,4 @@
+pub mod Codes
+pub mod Goings
+pub mod Rounds
+pub mod Saved
