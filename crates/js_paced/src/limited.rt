@@ -2,7 +2,7 @@
 ghost use Rattle.std.specs.Prelude.{◌≡◌, ◌+◌, ◌<◌, ◌≤◌, IfNone, IfSome};
 ghost use Rattle.std.specs.Duration.{as_nanos};
 
-use crate::calls::{read_once, write_once};
+use crate::calls::{limit_writes, read_once, write_once};
 use std::io;
 use std::io::{ErrorKind, Read, Write};
 use std::net::{Shutdown, TcpStream};
@@ -30,14 +30,14 @@ impl<'s, R: Clock + Drop> Limited<'s, R> {
     /// A stream whose reads end so many milliseconds from now, and whose writes wait so many.
     ///
     /// # Errors
-    /// Where the system has no clock, or takes no limit; so a limit of 0.
+    /// Where the system has no clock, or takes no limit.
     pub fn new(
         rt: R,
         stream: &'s TcpStream,
         reads: u64,
         writes: u64,
     ) -> io::Result<Limited<'s, R>> {
-        stream.set_write_timeout(Some(Duration::from_millis(writes)))?;
+        limit_writes(stream, writes)?;
         let begun = Instant::now(&rt)?;
         Ok(Limited {
             rt,
@@ -97,7 +97,7 @@ impl<R: Clock + Drop> Write for Limited<'_, R> {
 /// milliseconds have passed or 64 MiB came. Where a stream is closed before all was read, the system takes back what the other
 /// side has not read yet.
 pub fn end_of_answer<R: Clock + Drop>(rt: R, stream: &TcpStream, limit: u64) {
-    if stream.shutdown(Shutdown::Write).is_err() {
+    if stream.shutdown(Shutdown::Write).is_err() || stream.set_nonblocking(false).is_err() {
         return;
     }
     let Ok(mut rest) = Limited::new(rt, stream, limit, limit) else {

@@ -2,7 +2,7 @@
 
 ghost use Rattle.std.specs.Io.{ReadsAtMost};
 
-use crate::calls::{read_once, write_once};
+use crate::calls::{limit_writes, read_once, write_once};
 use std::cell::Cell;
 use std::io::{ErrorKind, Read, Write};
 use std::net::{Shutdown, TcpStream};
@@ -51,7 +51,7 @@ impl<'s, R: Clock + Drop> Paced<'s, R> {
     /// take nothing of a write.
     pub fn new(rt: R, stream: &'s TcpStream, busy: &'s Cell<bool>, patience: u64) -> Paced<'s, R> {
         let _ = stream.set_read_timeout(Some(Duration::from_millis(LONG_WAIT)));
-        let _ = stream.set_write_timeout(Some(Duration::from_millis(patience)));
+        let _ = limit_writes(stream, patience);
         Paced {
             rt,
             stream,

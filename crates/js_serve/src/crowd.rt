@@ -63,9 +63,7 @@ pub(crate) struct Turned {
 }
 
 impl Turned {
-    pub(crate) fn new(alloc: Global) -> Turned
-        ensures { vec_len result.streams ≤ 64 }
-    {
+    pub(crate) fn new(alloc: Global) -> Turned {
         Turned {
             streams: Vec::new(alloc),
         }
@@ -73,12 +71,10 @@ impl Turned {
 
     /// Keeps a connection, and closes the one that was kept longest where there are many. It is closed where memory is refused.
     pub(crate) fn keep(&mut self, stream: TcpStream)
-        requires { vec_len self.old.streams ≤ 64 }
         ensures { vec_len self.new.streams ≤ 64 }
     {
-        if self.streams.len() >= KEPT {
-            drop(self.streams.remove(0));
-        }
+        let extra = (self.streams.len() + 1).saturating_sub(KEPT);
+        drop(self.streams.drain(..extra));
         let _ = self.streams.push(stream);
     }
 }
