@@ -1,5 +1,5 @@
 -- A put of a notebook, seen as a change that was tried.
-use Rattle.std.proofs.Common.{◌≡◌, ◌⊎◌, inl, inr, ℕ, List, Option, Some, None, Result, cc}
+use Rattle.std.proofs.Common.{◌≡◌, inl, inr, ℕ, List, Option, Some, None, Result}
 use Rattle.nb_doc.specs.declared.notebook.Notebook.{Notebook}
 use Rattle.js_http.specs.declared.response.ErrorStatus.{ErrorStatus}
 use Rattle.js_shelf.specs.declared.item.ShelfRefusal.{ShelfRefusal}
