@@ -122,7 +122,7 @@ fn stops_at_an_error(rt: HostRuntime) -> Result<(), Fail> {
     assert_eq!(rt; ended, Ok(false));
     assert_eq!(rt;
         errors.as_slice(),
-        b"n, cell c1: CompileError: compile error 5 at 1:1\n"
+        b"n, cell c1: CompileError: compile error 5 at 1:1\n".as_slice()
     );
     let text = squeezed(alloc, &mut shelf)?;
     let second = cell(alloc, "c2", "null", "", "b")?;
