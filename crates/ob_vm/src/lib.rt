@@ -3,6 +3,7 @@
 
 mod image;
 mod machine;
+mod paying;
 mod quick;
 mod run;
 

@@ -20,7 +20,7 @@ pub(crate) const ARITHMETIC: [&str; 15] = [
 ];
 
 /// Statements that choose and repeat.
-pub(crate) const CONTROL: [&str; 18] = [
+pub(crate) const CONTROL: [&str; 21] = [
     "MODULE L; IMPORT Out; VAR i: INTEGER; BEGIN WHILE i < 3 DO Out.Int(i, 2); i := i + 1 END END L.",
     "MODULE K; IMPORT Out; VAR i: INTEGER; BEGIN FOR i := 3 TO 1 BY -1 DO Out.Int(i, 2) END; Out.Int(i, 3); Out.Ln END K.",
     "MODULE G; IMPORT Out; VAR x: INTEGER; BEGIN WHILE TRUE DO INC(x) END; Out.Int(x, 0) END G.",
@@ -39,6 +39,9 @@ pub(crate) const CONTROL: [&str; 18] = [
     "MODULE A; IMPORT Out; VAR i: INTEGER; BEGIN i := 2147483645; REPEAT INC(i); Out.Int(i, 12) UNTIL i < 0 END A.",
     "MODULE A; VAR i: INTEGER; BEGIN FOR i := 1 TO 0 DO END; WHILE FALSE DO INC(i) ELSIF FALSE DO INC(i) END; ;; END A.",
     "MODULE P; IMPORT Out; CONST n = 50; VAR s: ARRAY n OF BOOLEAN; i, j: INTEGER; BEGIN FOR i := 2 TO n - 1 DO IF ~s[i] THEN Out.Int(i, 3); j := i * i; WHILE j < n DO s[j] := TRUE; INC(j, i) END END END END P.",
+    "MODULE A; IMPORT Out; VAR a: ARRAY 4 OF INTEGER; i, s: INTEGER; PROCEDURE P(VAR n: INTEGER; VAR b: ARRAY OF INTEGER); VAR k: INTEGER; BEGIN k := 3; WHILE k >= 0 DO INC(n, k); DEC(b[k], k + 1); INC(b[0]); DEC(k) END END P; BEGIN WHILE i < 40 DO INC(a[i MOD 4], i); DEC(s, 3); INC(i) END; REPEAT DEC(i, 7); INC(s, i) UNTIL i < -20; P(s, a); FOR i := 0 TO 3 DO Out.Int(a[i], 5) END; Out.Int(s, 6) END A.",
+    "MODULE A; IMPORT Out; VAR i, s: INTEGER; PROCEDURE P(x: INTEGER): INTEGER; VAR r: INTEGER; BEGIN CASE x MOD 8 OF 0: r := 1 | 1, 2: r := x | 3 .. 5: INC(r, x) | 7: DEC(r) END RETURN r END P; BEGIN FOR i := 0 TO 30 DO CASE i MOD 5 OF 0: INC(s) | 1: | 2 .. 3: s := s + P(i * 8 + i MOD 6) | 4: DEC(s, i) END END; Out.Int(s, 0); Out.Int(P(6), 0) END A.",
+    "MODULE A; IMPORT Out; VAR a, b: ARRAY 3 OF INTEGER; s: ARRAY 4 OF CHAR; i, n: INTEGER; BEGIN s := \"ab\"; WHILE i < 50 DO a[i MOD 3] := i; n := n + a[0]; b := a; n := n + b[1]; i := i + 1; ASSERT(n >= 0); IF s = \"ab\" THEN n := n + 1; n := n * 3 MOD 1000 END END; Out.Int(n, 0) END A.",
 ];
 
 /// Arrays, records and strings.
