@@ -7,6 +7,7 @@ use crate::following::{begin, read_after, read_times};
 use crate::joins::{fresh_kernel, publish_joins, publish_next};
 use jk_board::{Board, Follower, Followers, Publisher};
 use jk_core::Kernel;
+use jk_language::Language;
 use std::alloc::{AllocError, Global};
 use std::process::Abort;
 use std::sync::Wait;
@@ -105,14 +106,14 @@ fn reader_beside_writer(rt: HostRuntime) -> Result<(), Fail> {
 }
 
 /// A follower that comes after a hundred entries passes them, and reads the three that are published then.
-fn pass_hundred<R: Wait>(
+fn pass_hundred<L: Language, R: Wait>(
     rt: &R,
     alloc: Global,
-    kernel: &mut Kernel<TestLanguage>,
-    publisher: Publisher<TestLanguage>,
-    follower: Follower<TestLanguage>,
-) -> (Publisher<TestLanguage>, Result<u64, AllocError>)
-    requires { HasShown TestLanguage.spoken (published publisher) kernel.old }
+    kernel: &mut Kernel<L>,
+    publisher: Publisher<L>,
+    follower: Follower<L>,
+) -> (Publisher<L>, Result<u64, AllocError>)
+    requires { HasShown L.spoken (published publisher) kernel.old }
 {
     let (publisher, first) = publish_next(rt, alloc, kernel, publisher, 1, 101);
     if first.is_err() {
