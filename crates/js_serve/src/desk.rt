@@ -324,7 +324,8 @@ where
 
     /// Answers those who wait for the end of the kernel in a row.
     fn tell_waiters(&mut self, place: usize) {
-        for _ in self.rt.forever() {
+        let rt = self.rt;
+        for _ in rt.forever() {
             match self.endings.take(place) {
                 Some(reply) => self.send(reply, Reply::Response(Response::NoContent)),
                 None => return,
@@ -387,14 +388,22 @@ where
 
     /// Whether a kernel is ending whose session's path is this or below it.
     fn is_ending_within(&self, path: &str) -> bool {
-        self.manager.tables.kernels.iter().any(|kernel| {
-            match &kernel.session {
-                Some(session) => {
-                    self.endings.has(kernel.id.as_str()) && is_within(session.path.as_str(), path)
-                }
-                None => false,
+        for kernel in &self.manager.tables.kernels {
+            if self.is_ending_at(kernel, path) {
+                return true;
             }
-        })
+        }
+        false
+    }
+
+    /// Whether a kernel is ending, and the path of its session is this or below it.
+    fn is_ending_at(&self, kernel: &Kernel, path: &str) -> bool {
+        match &kernel.session {
+            Some(session) => {
+                self.endings.has(kernel.id.as_str()) && is_within(session.path.as_str(), path)
+            }
+            None => false,
+        }
     }
 
     /// Lets a request wait for a kernel that is ending.
