@@ -148,7 +148,7 @@ impl Device for Failing {
 
     fn kind(&mut self, place: &Place) -> Result<Kind, DeviceFault> {
         self.call()?;
-        self.shelf.kind(place)
+        Device::kind(&mut self.shelf, place)
     }
 
     fn read(&mut self, place: &Place) -> Result<Bytes, DeviceFault> {
