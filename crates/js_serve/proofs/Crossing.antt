@@ -3,7 +3,7 @@ use denote.Param.Send.{IsSend, sendable}
 use denote.Param.SendFields.{declared_send, variants_send}
 use denote.RattleType.{RattleType}
 use denote.Struct.Field.{u64-field}
-use Rattle.std.proofs.Crossing.{crosses, frees, send, sync}
+use Rattle.std.proofs.Crossing.{Vec-send, crosses, frees, send, sync}
 use Rattle.std.specs.contracts.alloc.Global as Heap
 use Rattle.std.specs.contracts.impls.GlobalAllocator.TheImpl as heap
 use Rattle.std.specs.contracts.net.tcp.TcpListener as TcpListener
