@@ -4,7 +4,7 @@ ghost use Rattle.jk_core.specs.State.{fresh};
 ghost use Rattle.jk_queues.specs.Ends.{taken_by};
 
 use crate::bell::{Bell, Driving};
-use crate::job::{Host, Parser};
+use crate::job::Parser;
 use crate::kernels::{Free, free_of};
 use crossbeam_channel::Sender;
 use jk_board::{Board, Follower, Followers};
@@ -151,14 +151,21 @@ fn ends_of<L: Language>(
     })
 }
 
-/// Makes a kernel, hands out the ends of others, and drives it until it was shut down and nobody follows it any more. Where
-/// memory or a thread of its parsers is refused nothing is handed out.
-pub(crate) fn drive_kernel<L: Language, R: Wait + Clock, H: Host<L>>(
+/// A kernel that was made, and whose parsers have no threads yet.
+#[derive(Drop)]
+pub struct NewKernel<L: Language> {
+    driver: Driver<L>,
+    opening: Opening<L>,
+    opened: Opened<L>,
+    bells: Bells,
+}
+
+/// Makes a kernel and its parsers. Where memory is refused there is none, and nothing is handed out.
+pub(crate) fn make_kernel<L: Language, R: Wait>(
     rt: &R,
     alloc: Global,
-    host: &H,
     opening: Opening<L>,
-) {
+) -> Option<(Vec<Parser<L>>, NewKernel<L>)> {
     let Ok(
         Board {
             publisher,
@@ -166,11 +173,11 @@ pub(crate) fn drive_kernel<L: Language, R: Wait + Clock, H: Host<L>>(
         },
     ) = Board::<L>::new(rt, alloc)
     else {
-        return;
+        return None;
     };
     let Ok(made) = make::<L>(alloc, followers) else {
         publisher.end(rt);
-        return;
+        return None;
     };
     let Made {
         kernel,
@@ -181,22 +188,30 @@ pub(crate) fn drive_kernel<L: Language, R: Wait + Clock, H: Host<L>>(
         bells,
     } = made;
     let driver = Driver::new(alloc, kernel, taker, pool, publisher);
-    if start_parsers(host, parsers) {
+    let new = NewKernel {
+        driver,
+        opening,
+        opened,
+        bells,
+    };
+    Some((parsers, new))
+}
+
+/// Hands out the ends of others, and drives the kernel until it was shut down and nobody follows it any more. Where not all of
+/// its parsers have threads nothing is handed out.
+pub fn drive_kernel<L: Language, R: Wait + Clock>(rt: &R, new: NewKernel<L>, parses: bool) {
+    let NewKernel {
+        driver,
+        opening,
+        opened,
+        bells,
+    } = new;
+    if parses {
         run(rt, opening, opened, driver, &bells);
     } else {
         drop((opening, opened));
         finish(rt, driver);
     }
-}
-
-/// Starts the parsers of a kernel. It says whether all have a thread.
-fn start_parsers<L: Language, H: Host<L>>(host: &H, parsers: Vec<Parser<L>>) -> bool {
-    for parser in parsers {
-        if !host.start_parser(parser) {
-            return false;
-        }
-    }
-    true
 }
 
 /// Hands out the ends of others, and drives the kernel.

@@ -4,7 +4,7 @@ use crate::bell::{Bell, Belled};
 use crate::call::Call;
 use crate::connection::{accept_all, serve_connection};
 use crate::crowd::Guest;
-use crate::driving::{Opening, drive_kernel};
+use crate::driving::{NewKernel, Opening, make_kernel};
 use crate::limits::Limits;
 use crate::pulse::pulse;
 use crossbeam_channel::{Receiver, Sender};
@@ -51,12 +51,6 @@ impl Gate for Rings {
     }
 }
 
-/// What the program does for the threads of the server, since there the language is known.
-pub trait Host<L: Language> {
-    /// Starts a thread that parses the cells of a kernel, by `parse`. It says whether there is one.
-    fn start_parser(&self, parser: Parser<L>) -> bool;
-}
-
 /// Parses the cells of one kernel until its driver stops.
 pub fn parse<L: Language, R: Wait + Clock>(rt: &R, alloc: Global, parser: Parser<L>) {
     let Parser { end, bell, driver } = parser;
@@ -65,19 +59,28 @@ pub fn parse<L: Language, R: Wait + Clock>(rt: &R, alloc: Global, parser: Parser
     drop(worker::<L, Belled<'_, R>, Rings>(&belled, alloc, &rings, end));
 }
 
-/// Does a job. A browser that asks for the page is sent that one.
-pub fn work<L: Language, R: Wait + Clock + Copy + Drop, H: Host<L>>(
+/// Does a job. A browser that asks for the page is sent that one. A kernel that is to be driven is made and comes back: first each
+/// of its parsers gets a thread, by `parse`, and then `drive_kernel` is told whether all have one.
+pub fn work<L: Language, R: Wait + Clock + Copy + Drop>(
     rt: &R,
     alloc: Global,
     limits: Limits,
-    host: &H,
     job: Job<L>,
     page: &str,
-) {
+) -> Option<(Vec<Parser<L>>, NewKernel<L>)> {
     match job {
-        Job::Accept(listener, calls) => accept_all(rt, alloc, limits, &listener, &calls),
-        Job::Connection(guest, calls) => serve_connection(rt, alloc, limits, guest, &calls, page),
-        Job::Drive(opening) => drive_kernel(rt, alloc, host, opening),
-        Job::Pulse(calls, pauses) => pulse(rt, &calls, &pauses),
+        Job::Accept(listener, calls) => {
+            accept_all(rt, alloc, limits, &listener, &calls);
+            None
+        }
+        Job::Connection(guest, calls) => {
+            serve_connection(rt, alloc, limits, guest, &calls, page);
+            None
+        }
+        Job::Drive(opening) => make_kernel(rt, alloc, opening),
+        Job::Pulse(calls, pauses) => {
+            pulse(rt, &calls, &pauses);
+            None
+        }
     }
 }

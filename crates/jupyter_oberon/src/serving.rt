@@ -2,7 +2,7 @@
 
 use js_files::FileShelf;
 use js_page::page;
-use js_serve::{Desk, Host, Job, Limits, Parser, parse, work};
+use js_serve::{Desk, Job, Limits, Parser, drive_kernel, parse, work};
 use ob_language::Oberon;
 use std::alloc::Global;
 use std::io::Write;
@@ -17,24 +17,40 @@ use std::{fs, io, thread};
 /// The stack of each thread. A cell is read some hundred calls deep.
 const STACK: usize = 8 * 1024 * 1024;
 
-/// What starts the parsers of kernels.
-#[derive(Clone, Copy, Drop)]
-struct Crew<R> {
-    rt: R,
-    alloc: Global,
-}
-
-impl<R> Host<Oberon> for Crew<R>
+/// Starts a thread that parses cells for a kernel. It says whether there is one.
+fn start_parser<R>(rt: R, alloc: Global, parser: Parser<Oberon>) -> bool
 where
     R: Threads + Wait + Clock + Copy + Drop + Send + 'static,
 {
-    fn start_parser(&self, parser: Parser<Oberon>) -> bool {
-        let Crew { rt, alloc } = *self;
-        thread::Builder::new()
-            .stack_size(STACK)
-            .spawn(&rt, move || parse::<Oberon, R>(&rt, alloc, parser))
-            .is_ok()
+    thread::Builder::new()
+        .stack_size(STACK)
+        .spawn(&rt, move || parse::<Oberon, R>(&rt, alloc, parser))
+        .is_ok()
+}
+
+/// Starts the parsers of a kernel. It says whether all have a thread.
+fn start_parsers<R>(rt: R, alloc: Global, parsers: Vec<Parser<Oberon>>) -> bool
+where
+    R: Threads + Wait + Clock + Copy + Drop + Send + 'static,
+{
+    for parser in parsers {
+        if !start_parser(rt, alloc, parser) {
+            return false;
+        }
     }
+    true
+}
+
+/// Does a job. A kernel's parsers have threads before it is driven.
+fn do_job<R>(rt: R, alloc: Global, job: Job<Oberon>)
+where
+    R: Threads + Wait + Clock + Copy + Drop + Send + 'static,
+{
+    let Some((parsers, kernel)) = work::<Oberon, R>(&rt, alloc, Limits::usual(), job, page()) else {
+        return;
+    };
+    let parses = start_parsers(rt, alloc, parsers);
+    drive_kernel::<Oberon, R>(&rt, kernel, parses);
 }
 
 /// Starts a thread that does a job. It says whether there is one.
@@ -42,13 +58,9 @@ fn start<R>(rt: R, alloc: Global, job: Job<Oberon>) -> bool
 where
     R: Threads + Wait + Clock + Copy + Drop + Send + 'static,
 {
-    let limits = Limits::usual();
     thread::Builder::new()
         .stack_size(STACK)
-        .spawn(&rt, move || {
-            let crew = Crew { rt, alloc };
-            work::<Oberon, R, Crew<R>>(&rt, alloc, limits, &crew, job, page())
-        })
+        .spawn(&rt, move || do_job(rt, alloc, job))
         .is_ok()
 }
 

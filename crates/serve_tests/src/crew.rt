@@ -1,6 +1,6 @@
 //! The server over the small language.
 
-use js_serve::{Desk, Host, Job, Limits, Parser, parse, work};
+use js_serve::{Desk, Job, Limits, Parser, drive_kernel, parse, work};
 use js_shelf::MemoryShelf;
 use std::alloc::Global;
 use std::io::ErrorKind;
@@ -29,22 +29,37 @@ impl Manner {
     }
 }
 
-/// What starts the parsers of kernels.
-#[derive(Clone, Copy, Drop)]
-struct Crew<R> {
-    rt: R,
-    alloc: Global,
-    parses: bool,
-}
-
-impl<R> Host<TestLanguage> for Crew<R>
+/// Starts a thread that parses cells for a kernel. It says whether there is one.
+fn start_parser<R>(rt: R, alloc: Global, parser: Parser<TestLanguage>) -> bool
 where
     R: Threads + Wait + Clock + Copy + Drop + Send + 'static,
 {
-    fn start_parser(&self, parser: Parser<TestLanguage>) -> bool {
-        let Crew { rt, alloc, parses } = *self;
-        parses && thread::spawn(&rt, move || parse::<TestLanguage, R>(&rt, alloc, parser)).is_ok()
+    thread::spawn(&rt, move || parse::<TestLanguage, R>(&rt, alloc, parser)).is_ok()
+}
+
+/// Starts the parsers of a kernel. It says whether all have a thread.
+fn start_parsers<R>(rt: R, alloc: Global, parsers: Vec<Parser<TestLanguage>>) -> bool
+where
+    R: Threads + Wait + Clock + Copy + Drop + Send + 'static,
+{
+    for parser in parsers {
+        if !start_parser(rt, alloc, parser) {
+            return false;
+        }
     }
+    true
+}
+
+/// Does a job. A kernel's parsers have threads before it is driven.
+fn do_job<R>(rt: R, alloc: Global, limits: Limits, parses: bool, job: Job<TestLanguage>)
+where
+    R: Threads + Wait + Clock + Copy + Drop + Send + 'static,
+{
+    let Some((parsers, kernel)) = work::<TestLanguage, R>(&rt, alloc, limits, job, "a page") else {
+        return;
+    };
+    let parses = parses && start_parsers(rt, alloc, parsers);
+    drive_kernel::<TestLanguage, R>(&rt, kernel, parses);
 }
 
 /// Starts a thread that does a job. It says whether there is one.
@@ -53,11 +68,7 @@ where
     R: Threads + Wait + Clock + Copy + Drop + Send + 'static,
 {
     let Manner { limits, parses } = manner;
-    thread::spawn(&rt, move || {
-        let crew = Crew { rt, alloc, parses };
-        work::<TestLanguage, R, Crew<R>>(&rt, alloc, limits, &crew, job, "a page")
-    })
-    .is_ok()
+    thread::spawn(&rt, move || do_job(rt, alloc, limits, parses, job)).is_ok()
 }
 
 /// Serves the connections of a listener, with no files.
