@@ -151,8 +151,7 @@ fn ends_of<L: Language>(
     })
 }
 
-/// A kernel that was made, and whose parsers have no threads yet.
-#[derive(Drop)]
+/// A kernel that was made, and whose parsers have no threads yet. It ends by `drive_kernel`.
 pub struct NewKernel<L: Language> {
     driver: Driver<L>,
     opening: Opening<L>,
