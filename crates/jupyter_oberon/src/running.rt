@@ -5,6 +5,7 @@ use json_form::Text;
 use nb_run::{Asked, RunFault, read_from, run_saved, run_status};
 use ob_language::Oberon;
 use std::alloc::{AllocError, Global};
+use std::env::Args;
 use std::io::{BufRead, Write};
 use std::rt::Files;
 
@@ -19,36 +20,66 @@ pub(crate) struct Runs {
     output: Option<String>,
 }
 
+/// What was read of the arguments of `run`.
+#[derive(Drop)]
+struct Reading {
+    runs: Runs,
+    /// Whether the next argument is the path of the output.
+    names_output: bool,
+}
+
+impl Reading {
+    fn new(alloc: Global) -> Reading {
+        Reading {
+            runs: Runs {
+                paths: Vec::new(alloc),
+                all: false,
+                output: None,
+            },
+            names_output: false,
+        }
+    }
+
+    /// Takes one more argument. It says whether that is right.
+    fn take(&mut self, argument: String) -> Result<bool, AllocError> {
+        if self.names_output {
+            self.runs.output = Some(argument);
+            self.names_output = false;
+        } else if argument.as_str() == "--all" {
+            self.runs.all = true;
+        } else if argument.as_str() == "-o" && self.runs.output.is_none() {
+            self.names_output = true;
+        } else if argument.as_str().starts_with('-') {
+            return Ok(false);
+        } else {
+            self.runs.paths.push(argument)?;
+        }
+        Ok(true)
+    }
+
+    /// What all of them ask for; none where they are wrong.
+    fn end(self) -> Option<Runs> {
+        let Reading { runs, names_output } = self;
+        let few = runs.output.is_none() || runs.paths.len() == 1;
+        if names_output || runs.paths.is_empty() || !few {
+            return None;
+        }
+        Some(runs)
+    }
+}
+
 /// What the arguments of `run` ask for; none where they are wrong.
 pub(crate) fn read_runs(
     alloc: Global,
-    arguments: impl Iterator<Item = String> + Drop,
+    arguments: Args<Global>,
 ) -> Result<Option<Runs>, AllocError> {
-    let mut runs = Runs {
-        paths: Vec::new(alloc),
-        all: false,
-        output: None,
-    };
-    let mut names_output = false;
+    let mut reading = Reading::new(alloc);
     for argument in arguments {
-        if names_output {
-            runs.output = Some(argument);
-            names_output = false;
-        } else if argument.as_str() == "--all" {
-            runs.all = true;
-        } else if argument.as_str() == "-o" && runs.output.is_none() {
-            names_output = true;
-        } else if argument.as_str().starts_with('-') {
+        if !reading.take(argument)? {
             return Ok(None);
-        } else {
-            runs.paths.push(argument)?;
         }
     }
-    let few = runs.output.is_none() || runs.paths.len() == 1;
-    if names_output || runs.paths.is_empty() || !few {
-        return Ok(None);
-    }
-    Ok(Some(runs))
+    Ok(reading.end())
 }
 
 /// The folder in which a path leads to a file, and the file's name there.
