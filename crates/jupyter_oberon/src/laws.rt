@@ -15,6 +15,8 @@ ghost use Rattle.jk_world.specs.Parents.{ParentsFit};
 ghost use Rattle.jk_world.specs.Answers.{AreShownOnce};
 ghost use Rattle.jk_world.specs.Shown.{CellsAreShown};
 ghost use Rattle.jk_world.specs.Controls.{ControlsAreShown};
+ghost use Rattle.jk_world.specs.Aborts.{AbortsAreRight};
+ghost use Rattle.jk_world.specs.Stops.{StopsAreRight};
 ghost use Rattle.ob_tree.specs.declared.tree.Cell.{Cell};
 ghost use Rattle.ob_session.specs.Session.{Session};
 ghost use Rattle.ob_cell.specs.Oberon.{spoken_oberon};
@@ -113,6 +115,20 @@ pub fn control_law()
     ensures { (log : Log) → IsLegal spoken_oberon log → ControlsAreShown log }
 {
     jk_world::control_law::<Oberon>()
+}
+
+/// An interrupt or a shutdown stops the cell that runs.
+pub fn stop_law()
+    ensures { (log : Log) → IsLegal spoken_oberon log → StopsAreRight log }
+{
+    jk_world::stop_law::<Oberon>()
+}
+
+/// An execute request is aborted exactly by an error of a cell that stops on errors, or by a shutdown.
+pub fn abort_law()
+    ensures { (log : Log) → IsLegal spoken_oberon log → AbortsAreRight log }
+{
+    jk_world::abort_law::<Oberon>()
 }
 
 /// Whose each stream and error is.
