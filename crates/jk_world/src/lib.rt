@@ -10,8 +10,8 @@ ghost use Rattle.jk_log.specs.Render.{render};
 ghost use Rattle.jk_world.specs.World.{World, Event, opening, Run, IsTrueWorld, HasGoneOn};
 ghost use Rattle.jk_world.specs.Cells.{IsAnsweredOnce, begun_in, CellIsRight};
 ghost use Rattle.jk_world.specs.Order.{IsFalling, answered_places};
-ghost use Rattle.jk_world.specs.Sessions.{IsHandedOn};
-ghost use Rattle.jk_world.specs.Input.{IsInputRight};
+ghost use Rattle.jk_world.specs.Sessions.{AllBeginIn, IsHandedOn};
+ghost use Rattle.jk_world.specs.Input.{IsInputRight, AsksAreAllowed};
 ghost use Rattle.jk_world.specs.Counts.{TellCounts};
 ghost use Rattle.jk_world.specs.Requests.{IsShownRight};
 ghost use Rattle.jk_world.specs.Parents.{ParentsFit};
@@ -69,15 +69,19 @@ pub fn streams_law<L: Language>()
 {}
 
 /// In a legal log each cell is begun in the session that the cell before it left, the first, and the first after a
-/// shutdown, in the opening session. While no cell runs the session is what the last one left.
+/// shutdown, in the opening session; and what the cells since the last shutdown left is still so at the log's end. While no
+/// cell runs the session is what the last one left.
 pub fn session_law<L: Language>()
-    ensures { (log : Log) → IsLegal L.spoken log → IsHandedOn L.spoken log }
+    ensures each { (log : Log) → IsLegal L.spoken log → AllBeginIn L.spoken log }
+    ensures last { (log : Log) → IsLegal L.spoken log → IsHandedOn L.spoken log }
 {}
 
 /// In a legal log a cell asks for a line at most once at each number of turns. The texts that it is given are lines that
-/// the seat of its request sent, in their order, each at most once.
+/// the seat of its request sent, in their order, each at most once. It asks only where its request allows it, and not once
+/// its seat has left.
 pub fn input_law<L: Language>()
-    ensures { (log : Log) (at : ℕ) → IsLegal L.spoken log → IsInputRight log at }
+    ensures given { (log : Log) (at : ℕ) → IsLegal L.spoken log → IsInputRight log at }
+    ensures allowed { (log : Log) → IsLegal L.spoken log → AsksAreAllowed log }
 {}
 
 /// In a legal log each count that is told is the number of the cells begun since the last shutdown that are to be stored.

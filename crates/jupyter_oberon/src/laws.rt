@@ -7,8 +7,8 @@ ghost use Rattle.jk_log.specs.Render.{render};
 ghost use Rattle.jk_world.specs.World.{World, Event, opening, Run, IsTrueWorld, HasGoneOn};
 ghost use Rattle.jk_world.specs.Cells.{IsAnsweredOnce, begun_in, CellIsRight};
 ghost use Rattle.jk_world.specs.Order.{IsFalling, answered_places};
-ghost use Rattle.jk_world.specs.Sessions.{IsHandedOn};
-ghost use Rattle.jk_world.specs.Input.{IsInputRight};
+ghost use Rattle.jk_world.specs.Sessions.{AllBeginIn, IsHandedOn};
+ghost use Rattle.jk_world.specs.Input.{IsInputRight, AsksAreAllowed};
 ghost use Rattle.jk_world.specs.Counts.{TellCounts};
 ghost use Rattle.jk_world.specs.Requests.{IsShownRight};
 ghost use Rattle.jk_world.specs.Parents.{ParentsFit};
@@ -70,14 +70,16 @@ pub fn streams_law()
 
 /// The session goes from cell to cell.
 pub fn session_law()
-    ensures { (log : Log) → IsLegal spoken_oberon log → IsHandedOn spoken_oberon log }
+    ensures each { (log : Log) → IsLegal spoken_oberon log → AllBeginIn spoken_oberon log }
+    ensures last { (log : Log) → IsLegal spoken_oberon log → IsHandedOn spoken_oberon log }
 {
     jk_world::session_law::<Oberon>()
 }
 
 /// What cells ask for, and are given.
 pub fn input_law()
-    ensures { (log : Log) (at : ℕ) → IsLegal spoken_oberon log → IsInputRight log at }
+    ensures given { (log : Log) (at : ℕ) → IsLegal spoken_oberon log → IsInputRight log at }
+    ensures allowed { (log : Log) → IsLegal spoken_oberon log → AsksAreAllowed log }
 {
     jk_world::input_law::<Oberon>()
 }
