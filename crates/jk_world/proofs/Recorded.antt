@@ -24,11 +24,11 @@ use Rattle.nb_doc.specs.declared.notebook.Notebook.{Notebook}
 use Rattle.nb_doc.specs.declared.notebook.Output.{Output}
 use Rattle.nb_doc.proofs.Among.{same_itself}
 use Rattle.nb_record.specs.declared.event.Event.{Event}
-use Rattle.nb_record.specs.declared.event.Event.TheVariants.{Begins, Passes, Writes, Puts, Nothing}
+use Rattle.nb_record.specs.declared.event.Event.TheVariants.{Begins, Passes, Writes, Ends, Puts, Nothing}
 use Rattle.nb_record.specs.Book as book
-use Rattle.nb_record.specs.Book.{Item, Shown, Put, cells, current, current_after, event, event_of, executed, executed_after, has_code, is_id, kept_run, run, run_after, run_in, target, wish_of, with_output}
+use Rattle.nb_record.specs.Book.{Item, Shown, Put, cells, current, current_after, event, event_of, executed, executed_after, has_code, is_id, kept_run, lasts, lasts_after, run, run_after, run_in, running, target, wish_of, with_output}
 use Rattle.nb_record.proofs.Books.{both, executed_is_code, has_code-book, run_in-book}
-use Rattle.jk_world.specs.Recorded.{AllLeave, CellsAreRecorded, Holds, IsBegunFor, NeverBegun, begins_cell, begins_other, begun_for, counts, ends_cell, is_stored, last_put, leaves, outputs_of, outputs_until, shows_begin, shows_output}
+use Rattle.jk_world.specs.Recorded.{AllLeave, CellsAreRecorded, Holds, IsBegunFor, NeverBegun, begins_cell, begins_other, begun_for, counts, ends_cell, is_stored, last_put, leaves, outputs_of, outputs_until, shows_begin, shows_end, shows_output}
 
 -- ---- what an entry means to the book
 
@@ -141,14 +141,66 @@ no_later true false true = refl
 no_later true false false = refl
 no_later false any b = refl
 
--- a put with a count leaves what an executed cell has, one without takes it away
-kept_same : (o : Option ℤ) (outputs : List Output) (before : Execution) → is_some o ≡ true → kept_run (run_with o outputs) before ≡ before
-kept_same None outputs before h = cc
-kept_same (Some n) outputs before h = refl
+-- a put with a count leaves what an executed cell has, one without takes it away where the cell does not run
+kept_same : (runs : Bool) (o : Option ℤ) (outputs : List Output) (before : Execution) → is_some o ≡ true → kept_run runs (run_with o outputs) before ≡ before
+kept_same true o outputs before h = refl
+kept_same false None outputs before h = cc
+kept_same false (Some n) outputs before h = refl
 
-kept_none : (o : Option ℤ) (outputs : List Output) (before : Execution) → o ≡ None → kept_run (run_with o outputs) before ≡ run_with None []
-kept_none None outputs before h = refl
-kept_none (Some n) outputs before h = cc
+kept_none : (runs : Bool) (o : Option ℤ) (outputs : List Output) (before : Execution) → runs ≡ false → o ≡ None → kept_run runs (run_with o outputs) before ≡ run_with None []
+kept_none true o outputs before r h = cc
+kept_none false None outputs before r h = refl
+kept_none false (Some n) outputs before r h = cc
+
+-- ---- whether the request that began last has not ended
+
+lasts_begun : (b : Bool) (wish : Option (List ℕ)) (code : List ℕ) (count : ℕ) (before : Bool) → lasts_after (cond b (Begins wish code count) Passes) before ≡ true
+lasts_begun true wish code count before = refl
+lasts_begun false wish code count before = refl
+
+lasts_told : (m : Message) (o : MessageOutput) (before : Bool) → lasts_after (book.event_told m o) before ≡ (shows_begin (Some m) (told.Output o) || (not (shows_end (Some m) (told.Output o)) && before))
+lasts_told m (shown.ExecuteInput code count) before = lasts_begun (book.is_stored m.content) (wish_of m) code count before
+lasts_told m (shown.Stream text) before = refl
+lasts_told m (shown.Error f) before = refl
+lasts_told m (shown.Status state) before = refl
+lasts_told m shown.InputRequest before = refl
+lasts_told m (shown.ExecuteReply outcome) before = refl
+lasts_told m shown.KernelInfoReply before = refl
+lasts_told m (shown.IsCompleteReply answer) before = refl
+lasts_told m (shown.CompleteReply cursor) before = refl
+lasts_told m shown.InspectReply before = refl
+lasts_told m shown.HistoryReply before = refl
+lasts_told m shown.CommInfoReply before = refl
+lasts_told m shown.InterruptReply before = refl
+lasts_told m (shown.ShutdownReply restart) before = refl
+
+lasts_entry : (p : Option Message) (c : Told) (before : Bool) → lasts_after (event_of p c) before ≡ (shows_begin p c || (not (shows_end p c) && before))
+lasts_entry None c before = refl
+lasts_entry (Some m) (told.Output o) before = lasts_told m o before
+lasts_entry (Some m) (told.Joined seat n) before = refl
+lasts_entry (Some m) (told.Left seat n) before = refl
+
+lasts_item : (i : Item) (before : Bool) → lasts_after (event i) before ≡ (begins_cell i || (not (ends_cell i) && before))
+lasts_item (Shown e) before = lasts_entry e.parent e.content before
+lasts_item (Put n) before = refl
+
+-- where one has ended, and none has begun, the request that began last has ended
+still_ended : (begin end any over before : Bool) → (begin || any) ≡ false → ((begin || end) || over) ≡ true → (any ≡ false → over ≡ true → before ≡ false) → (begin || (not end && before)) ≡ false
+still_ended true end any over before none one h = cc
+still_ended false true any over before none one h = refl
+still_ended false false any over before none one h = h none one
+
+ended_lasts : (since past : List Item) → list_any begins_cell since ≡ false → list_any (λ (i : Item). begins_cell i || ends_cell i) since ≡ true → lasts (since ++ past) ≡ false
+ended_lasts [] past none one = cc
+ended_lasts (i ∷ since) past none one =
+    lasts_item i (lasts (since ++ past))
+    ∙ still_ended (begins_cell i) (ends_cell i) (list_any begins_cell since) (list_any (λ (i : Item). begins_cell i || ends_cell i) since) (lasts (since ++ past)) none one (ended_lasts since past)
+
+-- a cell does not run where another request was begun last, or its own has ended
+not_running : (goes : Bool) (id : List ℕ) (now : Option (List ℕ)) (begun : Bool) → is_id id now ≡ not begun → (begun ≡ false → goes ≡ false) → is_id id (cond goes now None) ≡ false
+not_running false id now begun h over = refl
+not_running true id now true h over = h
+not_running true id now false h over = cc (over refl)
 
 -- the event of a stored request that is begun
 begun_event : (cs : List Cell) (id : List ℕ) (p : Option Message) (c : Told) (code : List ℕ) (count : ℕ) → c ≡ told.Output (shown.ExecuteInput code count) → begun_for cs p c ≡ Some id
@@ -170,16 +222,19 @@ module _ (base : Notebook) (id : List ℕ) where
   -- ---- what one more item does
 
   begins_run : (past : List Item) (i : Item) (wish : Option (List ℕ)) (source : List ℕ) (n : ℕ) → event i ≡ Begins wish source n → run base (i ∷ past) id ≡ cond (bytes_eq id (target (cells base past) wish)) (run_with (Some (pos n)) []) (run base past id)
-  begins_run past i wish source n e = ap (λ (v : Event). run_after v (cells base past) (current base past) id (executed base past id) (run base past id)) e
+  begins_run past i wish source n e = ap (λ (v : Event). run_after v (cells base past) (current base past) (running base past) id (executed base past id) (run base past id)) e
 
   passes_run : (past : List Item) (i : Item) → event i ≡ Passes → run base (i ∷ past) id ≡ run base past id
-  passes_run past i e = ap (λ (v : Event). run_after v (cells base past) (current base past) id (executed base past id) (run base past id)) e
+  passes_run past i e = ap (λ (v : Event). run_after v (cells base past) (current base past) (running base past) id (executed base past id) (run base past id)) e
 
   writes_run : (past : List Item) (i : Item) (o : Output) → event i ≡ Writes o → run base (i ∷ past) id ≡ cond (is_id id (current base past)) (with_output (run base past id) o) (run base past id)
-  writes_run past i o e = ap (λ (v : Event). run_after v (cells base past) (current base past) id (executed base past id) (run base past id)) e
+  writes_run past i o e = ap (λ (v : Event). run_after v (cells base past) (current base past) (running base past) id (executed base past id) (run base past id)) e
 
   nothing_run : (past : List Item) (i : Item) → event i ≡ Nothing → run base (i ∷ past) id ≡ run base past id
-  nothing_run past i e = ap (λ (v : Event). run_after v (cells base past) (current base past) id (executed base past id) (run base past id)) e
+  nothing_run past i e = ap (λ (v : Event). run_after v (cells base past) (current base past) (running base past) id (executed base past id) (run base past id)) e
+
+  ends_run : (past : List Item) (i : Item) → event i ≡ Ends → run base (i ∷ past) id ≡ run base past id
+  ends_run past i e = ap (λ (v : Event). run_after v (cells base past) (current base past) (running base past) id (executed base past id) (run base past id)) e
 
   event_executed : (past : List Item) (i : Item) (v : Event) → event i ≡ v → executed base (i ∷ past) id ≡ executed_after v (cells base past) id (executed base past id)
   event_executed past i v e = ap (λ (v : Event). executed_after v (cells base past) id (executed base past id)) e
@@ -224,6 +279,11 @@ module _ (base : Notebook) (id : List ℕ) where
         current = event_current past (Shown e) (Writes o) is ∙ h.current ∙ sym (ap (λ (b : Bool). now && not b) begin ∙ and_yes now);
       }
       by (Puts n) is tells = absurd tells
+      by Ends is (begin, none, for) = record {
+        run = ends_run past (Shown e) is ∙ h.run ∙ added_none now r _ none;
+        executed = event_executed past (Shown e) Ends is ∙ h.executed;
+        current = event_current past (Shown e) Ends is ∙ h.current ∙ sym (ap (λ (b : Bool). now && not b) begin ∙ and_yes now);
+      }
       by Nothing is (begin, none, for) = record {
         run = nothing_run past (Shown e) is ∙ h.run ∙ added_none now r _ none;
         executed = event_executed past (Shown e) Nothing is ∙ h.executed;
@@ -231,8 +291,8 @@ module _ (base : Notebook) (id : List ℕ) where
       }
 
   -- a put of an executed cell
-  put_run : (past : List Item) (n : Notebook) → executed base past id ≡ true → run base (Put n ∷ past) id ≡ kept_run (run_in n.cells id) (run base past id)
-  put_run past n was = ap (λ (b : Bool). cond b (kept_run (run_in n.cells id) (run base past id)) (run_in n.cells id)) was
+  put_run : (past : List Item) (n : Notebook) → executed base past id ≡ true → run base (Put n ∷ past) id ≡ kept_run (is_id id (running base past)) (run_in n.cells id) (run base past id)
+  put_run past n was = ap (λ (b : Bool). cond b (kept_run (is_id id (running base past)) (run_in n.cells id) (run base past id)) (run_in n.cells id)) was
 
   put_executed : (past : List Item) (n : Notebook) → has_code n.cells id ≡ true → executed base past id ≡ true → executed base (Put n ∷ past) id ≡ true
   put_executed past n there was = ap₂ (λ (a b : Bool). a && b) there was
@@ -244,7 +304,7 @@ module _ (base : Notebook) (id : List ℕ) where
       record {
         run =
             put_run past n h.executed
-            ∙ kept_same (run_in n.cells id).execution_count (run_in n.cells id).outputs (run base past id) two.1
+            ∙ kept_same (is_id id (running base past)) (run_in n.cells id).execution_count (run_in n.cells id).outputs (run base past id) two.1
             ∙ h.run ∙ added_none now r [] refl;
         executed = put_executed past n two.0 h.executed;
         current = h.current ∙ sym (and_yes now);
@@ -289,14 +349,16 @@ module _ (base : Notebook) (id : List ℕ) where
       (later_known (Shown e ∷ past) later (run_with (Some (pos count)) []) true all (begun_known past e count b))
 
   cleared_holds : (later since past : List Item) (n : Notebook) (e : Entry) (count : ℕ) → IsBegunFor base past e id count → AllLeave base id (Shown e ∷ past) since → has_code n.cells id ≡ true → (run_in n.cells id).execution_count ≡ None
-      → AllLeave base id (Put n ∷ (since ++ Shown e ∷ past)) later
+      → list_any (λ (i : Item). begins_cell i || ends_cell i) since ≡ true → AllLeave base id (Put n ∷ (since ++ Shown e ∷ past)) later
       → Holds (book.book base (later ++ Put n ∷ (since ++ Shown e ∷ past))) id (run_with None (cond (list_any begins_cell since) [] (outputs_until later)))
-  cleared_holds later since past n e count b all there none rest =
+  cleared_holds later since past n e count b all there none ended rest =
       let before = later_known (Shown e ∷ past) since (run_with (Some (pos count)) []) true all (begun_known past e count b) in
       let old = since ++ Shown e ∷ past in
       let now = not (list_any begins_cell since) in
+      let still : is_id id (running base old) ≡ false =
+      not_running (lasts old) id (current base old) (list_any begins_cell since) before.current (λ (h : list_any begins_cell since ≡ false). ended_lasts since (Shown e ∷ past) h ended) in
       let put : IsKnown (Put n ∷ old) (run_with None []) true now = record {
-        run = put_run old n before.executed ∙ kept_none (run_in n.cells id).execution_count (run_in n.cells id).outputs (run base old id) none;
+        run = put_run old n before.executed ∙ kept_none (is_id id (running base old)) (run_in n.cells id).execution_count (run_in n.cells id).outputs (run base old id) still none;
         executed = put_executed old n there before.executed;
         current = before.current;
       } in
@@ -318,7 +380,7 @@ module _ (base : Notebook) (id : List ℕ) where
   never_known (Put n ∷ past) never =
       let before = never_known past never.1 in
       record {
-        run = ap (λ (b : Bool). cond b (kept_run (run_in n.cells id) (run base past id)) (run_in n.cells id)) before.executed;
+        run = ap (λ (b : Bool). cond b (kept_run (is_id id (running base past)) (run_in n.cells id) (run base past id)) (run_in n.cells id)) before.executed;
         executed = ap (λ (b : Bool). has_code n.cells id && b) before.executed ∙ and_no (has_code n.cells id);
         current = before.current;
       }
@@ -333,6 +395,6 @@ cells_recorded base items = record {
   begun = λ later past e id count is b all. subst (λ (items : List Item). Holds (book.book base items) id (run_with (Some (pos count)) (outputs_until later))) is (begun_holds base id later past e count b all);
   cleared = λ later since past n e id count is b all there none ended rest.
       subst (λ (items : List Item). Holds (book.book base items) id (run_with None (cond (list_any begins_cell since) [] (outputs_until later)))) is
-      (cleared_holds base id later since past n e count b all there none rest);
+      (cleared_holds base id later since past n e count b all there none ended rest);
   untouched = λ id never there. never_holds base id items never there;
 }
