@@ -16,19 +16,19 @@ use Rattle.jk_log.specs.declared.mark.Kind.TheVariants.{Begin, Flush, Ask, Line,
 use Rattle.jk_log.specs.declared.mark.Cause.{Cause}
 use Rattle.jk_log.specs.declared.mark.Cause.TheVariants.{Interrupted, Restarted}
 use Rattle.jk_log.specs.Asked.{sort_as}
-use Rattle.jk_log.specs.Log.{Log, Running, running, running_with, seat_at, session, meaning, stood, execute_at, option_with, opened, flushed_at, asking, lined, unread}
+use Rattle.jk_log.specs.Log.{Log, Running, left, running, running_with, seat_at, session, meaning, stood, execute_at, option_with, opened, flushed_at, asking, lined, unread}
 use Rattle.jk_log.specs.Legal.{Due, MarkDue, AnswerDue, FlushDue, StopDue, IsForced, EachFollows, MayMark, MayCome, Asks, JustFlushed, owed, dues_of, ends_due, waiting_dues}
 use Rattle.jk_log.proofs.Logs.{by_sort}
 use Rattle.jk_world.specs.Cells.{begun_in, last_turns, interrupts}
 use Rattle.jk_world.specs.Order.{AllBelow, IsFalling}
-use Rattle.jk_world.specs.Input.{asks_at, IsInputRight}
+use Rattle.jk_world.specs.Input.{asks_at, AsksAreAllowed, IsAllowed, IsInputRight}
 use Rattle.jk_world.proofs.Dues.{restart_idle}
 use Rattle.jk_world.proofs.Basics.{no_run, cond_same}
 use Rattle.jk_world.proofs.Ordered.{below_less}
 use Rattle.jk_world.proofs.Once.{answers_first, just_flush}
-use Rattle.jk_world.proofs.Streams.{flush_may, begun_run, first_not_begun, run_took, running_took, IsCell, cell_told}
+use Rattle.jk_world.proofs.Streams.{flush_may, begun_run, first_not_begun, run_took, running_took, runs_asked, IsCell, cell_told}
 use Rattle.jk_world.proofs.Lines.{line_runs}
-use Rattle.jk_world.proofs.Texts.{texts_sent}
+use Rattle.jk_world.proofs.Texts.{runs_seat, texts_sent}
 
 -- the cell that runs is to be stopped
 abbrev IsStopping : List Due → Type 0
@@ -298,3 +298,21 @@ module _ {S T : Type 0} (spoken : Spoken S T) (laws : IsLanguage spoken) where
 
   pub input_right : (log : Log) → EachFollows spoken log → (at : ℕ) → IsInputRight log at
   input_right log each at = record { asks = (asked log each).falls at; texts = texts_sent spoken laws log each at }
+
+  -- a cell asks only where its request allows it, and its seat is there
+  kind_allowed : (past : Log) (at : ℕ) (kind : Kind) → EachFollows spoken past → MayMark spoken past (owed past) (record { at = at; kind = kind }) → IsAllowed kind at past
+  kind_allowed past at Ask each may =
+      let (asks, none) = ask_may spoken past (owed past) at may in
+      let seat : seat_at at past ≡ asks.0.seat = ap (λ (p : ℕ). seat_at p past) asks.2.request ∙ runs_seat spoken laws past each asks.0 asks.1 in
+      record {
+        request = asks.0.request;
+        there = ap (λ (p : ℕ). execute_at p past) asks.2.request ∙ runs_asked spoken laws past each asks.0 asks.1;
+        allows = asks.2.may.allowed;
+        here = ap (λ (s : ℕ). left s at past) seat ∙ ap (λ (p : ℕ). left asks.0.seat p past) asks.2.request ∙ asks.2.may.here;
+      }
+  kind_allowed past at other each may = tt
+
+  pub asks_allowed : (log : Log) → EachFollows spoken log → AsksAreAllowed log
+  asks_allowed [] each = tt
+  asks_allowed (Took a ∷ past) each = asks_allowed past each.0
+  asks_allowed (Marked m ∷ past) each = (kind_allowed past m.at m.kind each.0 each.1, asks_allowed past each.0)

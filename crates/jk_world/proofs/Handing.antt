@@ -16,7 +16,7 @@ use Rattle.jk_log.specs.Log.{Log, Running, running, seat_at, waiting, session, s
 use Rattle.jk_log.specs.Legal.{EachFollows, MayMark, owed}
 use Rattle.jk_log.proofs.Logs.{execute_grows}
 use Rattle.jk_world.specs.Cells.{times_begun, begun_in, last_turns, lines_at, interrupts}
-use Rattle.jk_world.specs.Sessions.{begun_places, Leaves, LastLeaves, AreHandedOn, IsHandedOn}
+use Rattle.jk_world.specs.Sessions.{begun_places, Leaves, LastLeaves, AreHandedOn, IsHandedOn, BeginsIn, AllBeginIn}
 use Rattle.jk_world.proofs.Basics.{no_run, cond_same, cond_no}
 use Rattle.jk_world.proofs.Once.{answers_first, answered_at_most_once, first_new, count_in, is_at}
 use Rattle.jk_world.proofs.Dues.{begin_asks, restart_idle}
@@ -279,3 +279,13 @@ module _ {S T : Type 0} (spoken : Spoken S T) (laws : IsLanguage spoken) where
 
   pub handed_on : (log : Log) → EachFollows spoken log → IsHandedOn spoken log
   handed_on log each = let h = handed log each in record { each = h.each; now = h.now }
+
+  kind_begins : (past : Log) (at : ℕ) (kind : Kind) → EachFollows spoken past → MayMark spoken past (owed past) (record { at = at; kind = kind }) → BeginsIn spoken kind past
+  kind_begins past at (Begin n) each may = (handed_on past each).now (begin_idle spoken past (owed past) at n may)
+  kind_begins past at other each may = tt
+
+  -- each cell is begun in the session that the one before it left
+  pub all_begin : (log : Log) → EachFollows spoken log → AllBeginIn spoken log
+  all_begin [] each = tt
+  all_begin (Took a ∷ past) each = all_begin past each.0
+  all_begin (Marked m ∷ past) each = (kind_begins past m.at m.kind each.0 each.1, all_begin past each.0)

@@ -19,3 +19,7 @@ pub mod Replied
 pub mod Shown
 pub mod Controls
 pub mod Prefixes
+pub mod Waiting
+pub mod Aborts
+pub mod Recorded
+pub mod Stops

@@ -24,7 +24,7 @@ use Rattle.jk_log.proofs.Logs.{by_sort, execute_grows}
 use Rattle.jk_world.specs.Cells.{times_answered}
 
 -- the aborts and answers that are owed are of what waits, in order
-abbrev Fits : List Due → List ℕ → Type 0
+abbrev pub Fits : List Due → List ℕ → Type 0
 Fits [] places = Unit {0}
 Fits (FlushDue ∷ ds) places = Fits ds places
 -- what follows a stop is owed only then, but for a shutdown
@@ -163,7 +163,7 @@ abbrev pub count_in : ℕ → List ℕ → ℕ
 count_in at [] = 0
 count_in at (p ∷ ps) = is_at at p + count_in at ps
 
-count_more : (at : ℕ) (ps qs : List ℕ) → count_in at (ps ++ qs) ≡ count_in at ps + count_in at qs
+pub count_more : (at : ℕ) (ps qs : List ℕ) → count_in at (ps ++ qs) ≡ count_in at ps + count_in at qs
 count_more at [] qs = omega arith
 count_more at (p ∷ ps) qs = let e = count_more at ps qs in omega arith
 
@@ -172,10 +172,10 @@ from_first [] at e = absurd (none-some at e)
 from_first (p ∷ ps) at e = (ps, ap (λ (q : ℕ). q ∷ ps) (same_Some p at e))
 
 -- how often a request was answered or waits
-abbrev seen_at : ℕ → Log → ℕ
+abbrev pub seen_at : ℕ → Log → ℕ
 seen_at at log = times_answered at log + count_in at (waiting log)
 
-dropped : (at p : ℕ) (places : List ℕ) → slice_get places 0 ≡ Some p → count_in at places ≡ is_at at p + count_in at (drop 1 places)
+pub dropped : (at p : ℕ) (places : List ℕ) → slice_get places 0 ≡ Some p → count_in at places ≡ is_at at p + count_in at (drop 1 places)
 dropped at p places e =
     let first = from_first places p e in
     subst (λ (ps : List ℕ). count_in at ps ≡ is_at at p + count_in at (drop 1 ps)) (sym first.1) refl
@@ -183,10 +183,10 @@ dropped at p places e =
 sums : (a b c d : ℕ) → d ≡ b + c → (a + b) + c ≡ a + d
 sums a b c d e = omega arith
 
-answered_once : (at p a : ℕ) (places : List ℕ) → slice_get places 0 ≡ Some p → (a + is_at at p) + count_in at (drop 1 places) ≡ a + count_in at places
+pub answered_once : (at p a : ℕ) (places : List ℕ) → slice_get places 0 ≡ Some p → (a + is_at at p) + count_in at (drop 1 places) ≡ a + count_in at places
 answered_once at p a places e = sums a (is_at at p) (count_in at (drop 1 places)) (count_in at places) (dropped at p places e)
 
-not_answered : (b : Bool) (a c : ℕ) → (a + cond b 0 0) + c ≡ a + c
+pub not_answered : (b : Bool) (a c : ℕ) → (a + cond b 0 0) + c ≡ a + c
 not_answered true a c = omega arith
 not_answered false a c = omega arith
 
@@ -227,7 +227,8 @@ module _ {S T : Type 0} (spoken : Spoken S T) where
   mark_fit past (StopDue cause ∷ ds) at kind (turns, n, e, rest) h =
       subst (λ (k : Kind). FitsAfter (StopDue cause ∷ ds) k (running past) past (waiting past)) (sym e) (stop_fit cause ds (running past) past (waiting past) h)
 
-  fits : (log : Log) → EachFollows spoken log → Fits (owed log) (waiting log)
+  -- what is owed fits what waits
+  pub fits : (log : Log) → EachFollows spoken log → Fits (owed log) (waiting log)
   fits [] h = tt
   fits (Took a ∷ past) h = took_fit a past
   fits (Marked m ∷ past) h = mark_fit past (owed past) m.at m.kind h.1 (fits past h.0)
@@ -271,7 +272,7 @@ module _ {S T : Type 0} (spoken : Spoken S T) where
     few : seen_at at log ≤ 1
     late : length log ≤ at → seen_at at log ≡ 0
 
-  more_if : (a : Arrival) (at p : ℕ) → count_in at (waits_as (sort_as a.what) p) ≤ is_at at p
+  pub more_if : (a : Arrival) (at p : ℕ) → count_in at (waits_as (sort_as a.what) p) ≤ is_at at p
   more_if a at p = by_sort (λ s. count_in at (waits_as s p) ≤ is_at at p) (omega arith) (omega arith) (omega arith) (omega arith) (omega arith) (omega arith) (omega arith) (λ restart. omega arith) (omega arith) (sort_as a.what)
 
   took_once : (at : ℕ) (a : Arrival) (past : Log) → IsOnce at past → IsOnce at (Took a ∷ past)
@@ -318,5 +319,15 @@ module _ {S T : Type 0} (spoken : Spoken S T) where
   -- nothing is answered before it was taken
   pub not_answered_yet : (log : Log) → EachFollows spoken log → (at : ℕ) → length log ≤ at → times_answered at log ≡ 0
   not_answered_yet log each at h =
+      let none = (is_once at log each).late h in
+      omega (arith, none)
+
+  -- what waits was not answered yet
+  pub waiting_new : (log : Log) → EachFollows spoken log → (at : ℕ) → 1 ≤ count_in at (waiting log) → times_answered at log ≡ 0
+  waiting_new log each at h = let few = (is_once at log each).few in omega (arith, few, h)
+
+  -- nothing waits before it was taken
+  pub not_waiting_yet : (log : Log) → EachFollows spoken log → (at : ℕ) → length log ≤ at → count_in at (waiting log) ≡ 0
+  not_waiting_yet log each at h =
       let none = (is_once at log each).late h in
       omega (arith, none)

@@ -181,7 +181,8 @@ module _ {S T : Type 0} (spoken : Spoken S T) where
   AnswersAs past at (Answer status) = Answers spoken past at status
   AnswersAs past at other = Unit {0}
 
-  answer_may : (past : Log) (ds : List Due) (at : ℕ) (status : Option Completeness) → MayMark spoken past ds (record { at = at; kind = Answer status }) → Answers spoken past at status
+  -- an answer is of a request that is no cell
+  pub answer_may : (past : Log) (ds : List Due) (at : ℕ) (status : Option Completeness) → MayMark spoken past ds (record { at = at; kind = Answer status }) → Answers spoken past at status
   answer_may past [] at status h = h.1
   answer_may past (MarkDue a due ∷ ds) at status (same, forced) = absurd (subst IsForced (sym (ap (λ (m : Mark). m.kind) same)) forced)
   answer_may past (AnswerDue a ∷ ds) at status (other, same, right) = subst (λ (m : Mark). AnswersAs past m.at m.kind) (sym same) right

@@ -38,9 +38,9 @@ use Rattle.jk_log.specs.Log.{Log, Running, arrival_at, count, option_or, running
 use Rattle.jk_log.specs.Render.{answer_shown, control_shown, entries_at, entries_of, execute_shown, failed, query_shown, shown_of, streamed}
 use Rattle.jk_world.specs.Answers.{exchange, outputs_in}
 use Rattle.jk_world.specs.Cells as cells
-use Rattle.jk_world.specs.Cells.{answers, begins, closed_as, closed_by, ends, runs_at, times_answered, times_begun, times_closed, times_ended}
+use Rattle.jk_world.specs.Cells.{answers, begins, closed_as, closed_by, ends, runs_at, times_aborted, times_answered, times_begun, times_closed, times_ended}
 use Rattle.jk_world.specs.Requests.{AreFor, message_in, shown_at}
-use Rattle.jk_world.specs.Shown.{AreBetween, IsBetween, IsCellShown, IsShownAs, IsTurnedAway, closes, closes_by, opens, to_all, to_asker, unless}
+use Rattle.jk_world.specs.Shown.{AreBetween, IsBetween, IsCellShown, IsShownAs, IsTurnedAway, TellsWhy, closes, closes_by, opens, to_all, to_asker, unless}
 use Rattle.jk_world.proofs.Answered.{addressed}
 use Rattle.jk_world.proofs.Asks.{ask_may}
 use Rattle.jk_world.proofs.Basics.{arrival_past, cond_same, cond_no}
@@ -67,6 +67,18 @@ begun_closed [] at = omega arith
 begun_closed (Took a ∷ past) at = begun_closed past at
 begun_closed (Marked m ∷ past) at = begun_if (eqb m.at at) m.kind (times_begun at past) (times_closed at past) (begun_closed past at)
 
+aborted_if : (b : Bool) (kind : Kind) (m n : ℕ) → m ≤ n → m + cond b (cells.aborts kind) 0 ≤ n + cond b (cells.closes kind) 0
+aborted_if true (Begin k) m n h = omega arith
+aborted_if true (Refuse k) m n h = omega arith
+aborted_if true Abort m n h = omega arith
+aborted_if true other m n h = omega arith
+aborted_if false kind m n h = omega arith
+
+aborted_closed : (log : Log) (at : ℕ) → times_aborted at log ≤ times_closed at log
+aborted_closed [] at = omega arith
+aborted_closed (Took a ∷ past) at = aborted_closed past at
+aborted_closed (Marked m ∷ past) at = aborted_if (eqb m.at at) m.kind (times_aborted at past) (times_closed at past) (aborted_closed past at)
+
 closed_if : (b : Bool) (kind : Kind) (m n : ℕ) → m ≤ n → m + cond b (cells.closes kind) 0 ≤ n + cond b (answers kind) 0
 closed_if true (Begin k) m n h = omega arith
 closed_if true (Refuse k) m n h = omega arith
@@ -75,7 +87,7 @@ closed_if true (Answer status) m n h = omega arith
 closed_if true other m n h = omega arith
 closed_if false kind m n h = omega arith
 
-closed_few : (log : Log) (at : ℕ) → times_closed at log ≤ times_answered at log
+pub closed_few : (log : Log) (at : ℕ) → times_closed at log ≤ times_answered at log
 closed_few [] at = omega arith
 closed_few (Took a ∷ past) at = closed_few past at
 closed_few (Marked m ∷ past) at = closed_if (eqb m.at at) m.kind (times_closed at past) (times_answered at past) (closed_few past at)
@@ -171,6 +183,11 @@ quiet_times true (Refuse n) begun closed q = absurd q
 quiet_times true Abort begun closed q = absurd q
 quiet_times false kind begun closed q = (omega arith, omega arith)
 
+quiet_aborts : (b : Bool) (kind : Kind) (aborted : ℕ) → IsQuiet kind → aborted + cond b (cells.aborts kind) 0 ≡ aborted
+quiet_aborts true Abort aborted q = absurd q
+quiet_aborts true other aborted q = omega arith
+quiet_aborts false kind aborted q = omega arith
+
 quiet_closed : (b : Bool) (kind : Kind) (o : Option Kind) → IsQuiet kind → cond b (closed_by kind o) o ≡ o
 quiet_closed true Join o q = refl
 quiet_closed true Leave o q = refl
@@ -252,8 +269,13 @@ module _ {S T : Type 0} (spoken : Spoken S T) (at : ℕ) (a : Arrival) (e : Exec
     shown : outputs_in (shown_at at (i ∷ past)) ≡ outputs_in (shown_at at past)
     closed : times_closed at (i ∷ past) ≡ times_closed at past
     begun : times_begun at (i ∷ past) ≡ times_begun at past
+    aborted : times_aborted at (i ∷ past) ≡ times_aborted at past
     ended : closed_as at (i ∷ past) ≡ closed_as at past
     counted : (r : Running) → running past ≡ Some r → count (i ∷ past) ≡ count past
+
+  keeps_why : (i : Item) (past : Log) (outcome : Outcome) → IsSame i past → TellsWhy past at outcome → TellsWhy (i ∷ past) at outcome
+  keeps_why i past outcome s (inl (one, is)) = inl (s.aborted ∙ one, is)
+  keeps_why i past outcome s (inr (none, n, is)) = inr (s.aborted ∙ none, n, is)
 
   keeps : (i : Item) (past : Log) → EachFollows spoken past → IsSame i past → Now past → Now (i ∷ past)
   keeps i past each s (inl (none, shown)) = inl (s.closed ∙ none, s.shown ∙ shown)
@@ -272,7 +294,7 @@ module _ {S T : Type 0} (spoken : Spoken S T) (at : ℕ) (a : Arrival) (e : Exec
             s.counted r.0 r.1 ∙ b.counted before;
       }))
   keeps i past each s (inr (inr (none, one, away))) =
-      inr (inr (s.begun ∙ none, s.closed ∙ one, record { outcome = away.outcome; why = away.why; shown = s.shown ∙ away.shown }))
+      inr (inr (s.begun ∙ none, s.closed ∙ one, record { outcome = away.outcome; why = keeps_why i past away.outcome s away.why; shown = s.shown ∙ away.shown }))
 
   -- the count stays while a cell runs
   count_stays : (past : Log) (p : ℕ) (kind : Kind) → EachFollows spoken past → MayMark spoken past (owed past) (record { at = p; kind = kind }) → (r : Running) → running past ≡ Some r → count (Marked (record { at = p; kind = kind }) ∷ past) ≡ count past
@@ -285,6 +307,7 @@ module _ {S T : Type 0} (spoken : Spoken S T) (at : ℕ) (a : Arrival) (e : Exec
     shown = ap (λ (c : Bool). outputs_in (shown_at at past ++ cond c (entries_at past m) [])) b ∙ ap outputs_in (append-nil (shown_at at past));
     closed = apart_times (eqb m.at at) (times_closed at past) (cells.closes m.kind) b;
     begun = apart_times (eqb m.at at) (times_begun at past) (begins m.kind) b;
+    aborted = apart_times (eqb m.at at) (times_aborted at past) (cells.aborts m.kind) b;
     ended = cond_no (eqb m.at at) _ (closed_as at past) b;
     counted = count_stays past m.at m.kind each may;
   }
@@ -307,6 +330,7 @@ module _ {S T : Type 0} (spoken : Spoken S T) (at : ℕ) (a : Arrival) (e : Exec
         shown = adds_none past kind there (quiet kind q);
         closed = times.1;
         begun = times.0;
+        aborted = quiet_aborts (eqb at at) kind (times_aborted at past) q;
         ended = quiet_closed (eqb at at) kind (closed_as at past) q;
         counted = count_stays past at kind each may;
       }
@@ -427,7 +451,7 @@ module _ {S T : Type 0} (spoken : Spoken S T) (at : ℕ) (a : Arrival) (e : Exec
       not_closed (Some kind) h first = absurd (waiting_open spoken past at kind each first h)
 
   -- it is refused or aborted
-  turned_away : (past : Log) (kind : Kind) (outcome : Outcome) → arrival_at at past ≡ Some a → (times_begun at past ≡ 0) × (times_closed at past ≡ 0) × (outputs_in (shown_at at past) ≡ []) → begins kind ≡ 0 → cells.closes kind ≡ 1 → (outcome ≡ Aborted) ⊎ ((n : ℕ) × (outcome ≡ Failed n (cause_failure cause.Memory))) → outputs_in (entries_of kind a) ≡ exchange a.seat sent (ExecuteReply outcome) → Now (Marked (record { at = at; kind = kind }) ∷ past)
+  turned_away : (past : Log) (kind : Kind) (outcome : Outcome) → arrival_at at past ≡ Some a → (times_begun at past ≡ 0) × (times_closed at past ≡ 0) × (outputs_in (shown_at at past) ≡ []) → begins kind ≡ 0 → cells.closes kind ≡ 1 → TellsWhy (Marked (record { at = at; kind = kind }) ∷ past) at outcome → outputs_in (entries_of kind a) ≡ exchange a.seat sent (ExecuteReply outcome) → Now (Marked (record { at = at; kind = kind }) ∷ past)
   turned_away past kind outcome there w none one why shows =
       inr (inr (
         begun_same past kind none ∙ w.0,
@@ -438,6 +462,12 @@ module _ {S T : Type 0} (spoken : Spoken S T) (at : ℕ) (a : Arrival) (e : Exec
           shown = adds past kind (exchange a.seat sent (ExecuteReply outcome)) there shows ∙ ap (λ (xs : List Entry). xs ++ exchange a.seat sent (ExecuteReply outcome)) w.2;
         },
       ))
+
+  no_abort : (past : Log) → times_closed at past ≡ 0 → times_aborted at past + cond (eqb at at) 0 0 ≡ 0
+  no_abort past none = let few = aborted_closed past at in ap (λ (b : Bool). times_aborted at past + cond b 0 0) here ∙ omega (arith, few, none)
+
+  one_abort : (past : Log) → times_closed at past ≡ 0 → times_aborted at past + cond (eqb at at) 1 0 ≡ 1
+  one_abort past none = let few = aborted_closed past at in ap (λ (b : Bool). times_aborted at past + cond b 1 0) here ∙ omega (arith, few, none)
 
   -- a mark at this place
   mark_here : (past : Log) (kind : Kind) → EachFollows spoken past → MayMark spoken past (owed past) (record { at = at; kind = kind }) → arrival_at at past ≡ Some a → Now past → Now (Marked (record { at = at; kind = kind }) ∷ past)
@@ -462,10 +492,10 @@ module _ {S T : Type 0} (spoken : Spoken S T) (at : ℕ) (a : Arrival) (e : Exec
       (ap outputs_in (cell_shows (Stop turns why n)) ∙ failed_out a.seat sent e.silent (cause_failure why) n ∙ ap (λ (k : ℕ). failed a.seat sent e.silent (cause_failure why) k) (f.2.counted ∙ b.0.counted b.1)) b.1
   mark_here past (Refuse n) each may there now =
       let w = waits past each (answers_first spoken past at (Refuse n) each may tt) now in
-      turned_away past (Refuse n) (Failed n (cause_failure cause.Memory)) there w refl refl (inr (n, refl)) (ap outputs_in (cell_shows (Refuse n)))
+      turned_away past (Refuse n) (Failed n (cause_failure cause.Memory)) there w refl refl (inr (no_abort past w.1, n, refl)) (ap outputs_in (cell_shows (Refuse n)))
   mark_here past Abort each may there now =
       let w = waits past each (answers_first spoken past at Abort each may tt) now in
-      turned_away past Abort Aborted there w refl refl (inl refl) (ap outputs_in (cell_shows Abort))
+      turned_away past Abort Aborted there w refl refl (inl (one_abort past w.1, refl)) (ap outputs_in (cell_shows Abort))
   mark_here past Join each may there now = keeps (Marked (record { at = at; kind = Join })) past each (same_here past Join each may there tt) now
   mark_here past Leave each may there now = keeps (Marked (record { at = at; kind = Leave })) past each (same_here past Leave each may there tt) now
   mark_here past (Line line) each may there now = keeps (Marked (record { at = at; kind = Line line })) past each (same_here past (Line line) each may there tt) now
@@ -490,7 +520,7 @@ module _ {S T : Type 0} (spoken : Spoken S T) (at : ℕ) (a : Arrival) (e : Exec
           let unseen = not_answered_yet spoken past each at (omega (arith, same)) in
           let f = closed_few past at in
           inl (omega (arith, f, unseen), ap outputs_in (subst (λ (o : Option Arrival). AreFor o (shown_at at past)) none (addressed past at)))
-      by_place false b is_old = keeps (Took new) past each (record { shown = refl; closed = refl; begun = refl; ended = refl; counted = λ r h. refl }) (before is_old)
+      by_place false b is_old = keeps (Took new) past each (record { shown = refl; closed = refl; begun = refl; aborted = refl; ended = refl; counted = λ r h. refl }) (before is_old)
 
   before_item : (b : Bool) (o : Option Arrival) → cond b None o ≡ Some a → o ≡ Some a
   before_item true o h = absurd (none-some a h)

@@ -143,7 +143,7 @@ seat_took past a at x there =
 
 module _ {S T : Type 0} (spoken : Spoken S T) (laws : IsLanguage spoken) where
   -- the cell that runs is of the seat of its request
-  abbrev HasSeat : Log → Type 0
+  abbrev pub HasSeat : Log → Type 0
   HasSeat log = (r : Running) → running log ≡ Some r → seat_at r.at log ≡ r.seat
 
   seat_kept : (past : Log) (m : Mark) (q r : Running) → running past ≡ Some q → q.at ≡ r.at → q.seat ≡ r.seat → HasSeat past → seat_at r.at (Marked m ∷ past) ≡ r.seat
@@ -168,7 +168,7 @@ module _ {S T : Type 0} (spoken : Spoken S T) (laws : IsLanguage spoken) where
   mark_seat past at (Stop turns cause n) may h = λ r e. no_run r _ e
   mark_seat past at other may h = λ r e. seat_kept past (record { at = at; kind = other }) r r e refl refl h
 
-  runs_seat : (log : Log) → EachFollows spoken log → HasSeat log
+  pub runs_seat : (log : Log) → EachFollows spoken log → HasSeat log
   runs_seat [] each = λ r e. no_run r _ e
   runs_seat (Took a ∷ past) each = λ r e.
       let q = run_took (interrupts a.what) (running past) r (sym (running_took a (running past)) ∙ e) in

@@ -36,6 +36,11 @@ abbrev pub begins : Kind → ℕ
 begins (Begin count) = 1
 begins other = 0
 
+-- how often it is aborted
+abbrev pub aborts : Kind → ℕ
+aborts Abort = 1
+aborts other = 0
+
 -- how often its cell is ended or stopped
 abbrev pub ends : Kind → ℕ
 ends (End ending count) = 1
@@ -56,6 +61,9 @@ times_closed at log = times closes at log
 
 abbrev pub times_begun : ℕ → Log → ℕ
 times_begun at log = times begins at log
+
+abbrev pub times_aborted : ℕ → Log → ℕ
+times_aborted at log = times aborts at log
 
 abbrev pub times_ended : ℕ → Log → ℕ
 times_ended at log = times ends at log

@@ -1,12 +1,13 @@
 -- To be believed.
 -- What the cell of a request asks for, and what it is given.
-use Rattle.std.specs.Prelude.{◌≡◌, ◌⊎◌, ℕ, ◌==◌, if◌then◌else◌, List, [], ◌∷◌, ◌++◌, Option, None, Some}
+use Rattle.std.specs.Prelude.{◌≡◌, ◌⊎◌, true, false, ℕ, ◌==◌, if◌then◌else◌, List, [], ◌∷◌, ◌++◌, Option, None, Some}
 use Rattle.jk_language.specs.Parts.{Line as Given}
+use Rattle.jp_msg.specs.declared.message.Execute.{Execute}
 use Rattle.jk_log.specs.declared.mark.Item.TheVariants.{Took, Marked}
 use Rattle.jk_log.specs.declared.mark.Kind.{Kind}
 use Rattle.jk_log.specs.declared.mark.Kind.TheVariants.{Ask}
 use Rattle.jk_log.specs.Asked.{input_in}
-use Rattle.jk_log.specs.Log.{Log, seat_at}
+use Rattle.jk_log.specs.Log.{Log, execute_at, left, seat_at}
 use Rattle.jk_world.specs.Cells.{last_turns, lines_at, fresh_lines}
 use Rattle.jk_world.specs.Order.{IsFalling}
 
@@ -51,3 +52,20 @@ IsPartOf (x ∷ xs) (y ∷ ys) = ((x ≡ y) × IsPartOf xs ys) ⊎ IsPartOf (x �
 pub record IsInputRight (log : Log) (at : ℕ) : Type 0 where
   pub asks : IsFalling (asks_at at log)
   pub texts : IsPartOf (texts_in (all_lines at log)) (sent_lines (seat_at at log) log)
+
+-- a question for a line is for a request that allows it, whose seat has not left since
+pub record MayBeAsked (past : Log) (at : ℕ) : Type 0 where
+  pub request : Execute
+  pub there : execute_at at past ≡ Some request
+  pub allows : request.allow_stdin ≡ true
+  pub here : left (seat_at at past) at past ≡ false
+
+abbrev pub IsAllowed : Kind → ℕ → Log → Type 0
+IsAllowed Ask at past = MayBeAsked past at
+IsAllowed other at past = Unit {0}
+
+-- so each question
+abbrev pub AsksAreAllowed : Log → Type 0
+AsksAreAllowed [] = Unit {0}
+AsksAreAllowed (Took a ∷ past) = AsksAreAllowed past
+AsksAreAllowed (Marked m ∷ past) = IsAllowed m.kind m.at past × AsksAreAllowed past

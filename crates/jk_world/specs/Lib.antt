@@ -9,3 +9,6 @@ pub mod Parents
 pub mod Answers
 pub mod Shown
 pub mod Controls
+pub mod Aborts
+pub mod Recorded
+pub mod Stops

@@ -43,3 +43,14 @@ AreHandedOn {S = S} spoken log (at ∷ places) =
 pub record IsHandedOn {S T : Type 0} (spoken : Spoken S T) (log : Log) : Type 0 where
   pub each : AreHandedOn spoken log (begun_places log)
   pub now : running log ≡ None → LastLeaves spoken log (begun_places log) (session spoken log)
+
+-- a cell is begun in the session that the last one before it left
+abbrev pub BeginsIn : {S T : Type 0} → Spoken S T → Kind → Log → Type 0
+BeginsIn spoken (Begin count) past = LastLeaves spoken past (begun_places past) (session spoken past)
+BeginsIn spoken other past = Unit {0}
+
+-- so each cell, those before a shutdown too
+abbrev pub AllBeginIn : {S T : Type 0} → Spoken S T → Log → Type 0
+AllBeginIn spoken [] = Unit {0}
+AllBeginIn spoken (Took a ∷ past) = AllBeginIn spoken past
+AllBeginIn spoken (Marked m ∷ past) = BeginsIn spoken m.kind past × AllBeginIn spoken past

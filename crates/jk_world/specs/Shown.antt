@@ -23,7 +23,7 @@ use Rattle.jk_log.specs.Asked.{execute_in}
 use Rattle.jk_log.specs.Failures.{refusal_failure, trap_failure, cause_failure}
 use Rattle.jk_log.specs.Log.{Log, arrival_at}
 use Rattle.jk_world.specs.Answers.{exchange, outputs_in}
-use Rattle.jk_world.specs.Cells.{times_begun, times_closed, closed_as}
+use Rattle.jk_world.specs.Cells.{times_aborted, times_begun, times_closed, closed_as}
 use Rattle.jk_world.specs.Requests.{message_in, shown_at}
 
 -- with the request as its parent
@@ -77,10 +77,16 @@ pub record IsCellShown (log : Log) (at : ℕ) (a : Arrival) (e : Execute) (sent 
   pub are : AreBetween a.seat sent e between
   pub shown : outputs_in (shown_at at log) ≡ opens count sent e ++ (between ++ closes a.seat sent e count (closed_as at log))
 
--- The outputs of a request that was aborted, or refused since its parse found no memory: busy, that reply, idle.
+-- the reply to a request that was aborted, or else refused since its parse found no memory
+abbrev pub TellsWhy : Log → ℕ → Outcome → Type 0
+TellsWhy log at outcome =
+    ((times_aborted at log ≡ 1) × (outcome ≡ Aborted))
+    ⊎ ((times_aborted at log ≡ 0) × (count : ℕ) × (outcome ≡ Failed count (cause_failure cause.Memory)))
+
+-- The outputs of such a request: busy, that reply, idle.
 pub record IsTurnedAway (log : Log) (at : ℕ) (a : Arrival) (sent : Message) : Type 0 where
   pub outcome : Outcome
-  pub why : (outcome ≡ Aborted) ⊎ ((count : ℕ) × (outcome ≡ Failed count (cause_failure cause.Memory)))
+  pub why : TellsWhy log at outcome
   pub shown : outputs_in (shown_at at log) ≡ exchange a.seat sent (ExecuteReply outcome)
 
 -- an execute request waits, and nothing is shown of it; or its cell was begun; or it was turned away

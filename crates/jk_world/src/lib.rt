@@ -10,15 +10,20 @@ ghost use Rattle.jk_log.specs.Render.{render};
 ghost use Rattle.jk_world.specs.World.{World, Event, opening, Run, IsTrueWorld, HasGoneOn};
 ghost use Rattle.jk_world.specs.Cells.{IsAnsweredOnce, begun_in, CellIsRight};
 ghost use Rattle.jk_world.specs.Order.{IsFalling, answered_places};
-ghost use Rattle.jk_world.specs.Sessions.{IsHandedOn};
-ghost use Rattle.jk_world.specs.Input.{IsInputRight};
+ghost use Rattle.jk_world.specs.Sessions.{AllBeginIn, IsHandedOn};
+ghost use Rattle.jk_world.specs.Input.{IsInputRight, AsksAreAllowed};
 ghost use Rattle.jk_world.specs.Counts.{TellCounts};
 ghost use Rattle.jk_world.specs.Requests.{IsShownRight};
 ghost use Rattle.jk_world.specs.Parents.{ParentsFit};
 ghost use Rattle.jk_world.specs.Answers.{AreShownOnce};
 ghost use Rattle.jk_world.specs.Shown.{CellsAreShown};
 ghost use Rattle.jk_world.specs.Controls.{ControlsAreShown};
+ghost use Rattle.jk_world.specs.Aborts.{AbortsAreRight};
+ghost use Rattle.jk_world.specs.Stops.{StopsAreRight};
+ghost use Rattle.jk_world.specs.Recorded.{CellsAreRecorded};
 ghost use Rattle.jk_log.specs.View.{view, part, has_joined};
+ghost use Rattle.nb_doc.specs.declared.notebook.Notebook.{Notebook};
+ghost use Rattle.nb_record.specs.Book.{Item};
 
 use jk_language::Language;
 
@@ -64,15 +69,19 @@ pub fn streams_law<L: Language>()
 {}
 
 /// In a legal log each cell is begun in the session that the cell before it left, the first, and the first after a
-/// shutdown, in the opening session. While no cell runs the session is what the last one left.
+/// shutdown, in the opening session; and what the cells since the last shutdown left is still so at the log's end. While no
+/// cell runs the session is what the last one left.
 pub fn session_law<L: Language>()
-    ensures { (log : Log) → IsLegal L.spoken log → IsHandedOn L.spoken log }
+    ensures each { (log : Log) → IsLegal L.spoken log → AllBeginIn L.spoken log }
+    ensures last { (log : Log) → IsLegal L.spoken log → IsHandedOn L.spoken log }
 {}
 
 /// In a legal log a cell asks for a line at most once at each number of turns. The texts that it is given are lines that
-/// the seat of its request sent, in their order, each at most once.
+/// the seat of its request sent, in their order, each at most once. It asks only where its request allows it, and not once
+/// its seat has left.
 pub fn input_law<L: Language>()
-    ensures { (log : Log) (at : ℕ) → IsLegal L.spoken log → IsInputRight log at }
+    ensures given { (log : Log) (at : ℕ) → IsLegal L.spoken log → IsInputRight log at }
+    ensures allowed { (log : Log) → IsLegal L.spoken log → AsksAreAllowed log }
 {}
 
 /// In a legal log each count that is told is the number of the cells begun since the last shutdown that are to be stored.
@@ -108,6 +117,20 @@ pub fn control_law<L: Language>()
     ensures { (log : Log) → IsLegal L.spoken log → ControlsAreShown log }
 {}
 
+/// In a legal log a cell is stopped for lack of memory, or else by an interrupt or a shutdown that was taken while it ran; and
+/// each of these stops the cell that runs, directly: only the answer to the interrupt and what the cell had written stand
+/// before.
+pub fn stop_law<L: Language>()
+    ensures { (log : Log) → IsLegal L.spoken log → StopsAreRight log }
+{}
+
+/// In a legal log an execute request is aborted exactly by an error of a cell whose request stops on errors, or by a
+/// shutdown, that came while it waited; and that directly: no arrival is taken and no cell begun before it. What is shown
+/// of an aborted request `cell_law` says.
+pub fn abort_law<L: Language>()
+    ensures { (log : Log) → IsLegal L.spoken log → AbortsAreRight log }
+{}
+
 /// In what is shown of a legal log each stream and each error is for the request of the last `ExecuteInput` before it.
 pub fn parents_law<L: Language>()
     ensures { (log : Log) → IsLegal L.spoken log → ParentsFit None (render log) }
@@ -120,4 +143,13 @@ pub fn view_law()
         ≡ view xs seat number ++ part (has_joined seat number xs) ys seat number }
     ensures joined { (xs ys : List Entry) (seat number : ℕ) → has_joined seat number (xs ++ ys)
         ≡ (has_joined seat number xs || has_joined seat number ys) }
+{}
+
+/// The book of entries and puts, which by `world_law` is a recorder's notebook, holds of a code cell what was shown of it. Since a
+/// stored request was begun for the cell it has that request's count, and the streams and errors shown until the next cell was
+/// begun (by `parents_law` those of that request, by `cell_law` at most one error), as long as no put takes it away or has it
+/// with no count. A put that has it with no count, after the request had ended, empties it. A cell for which nothing was begun
+/// since the recorder began has what the last put says, or else the first notebook.
+pub fn book_law()
+    ensures { (base : Notebook) (items : List Item) → CellsAreRecorded base items }
 {}

@@ -6,22 +6,28 @@ use Rattle.js_tables.specs.declared.given.Given.{Given}
 use Rattle.js_tables.specs.declared.plan.Plan.{Plan}
 use Rattle.js_tables.specs.declared.refusal.Refusal.{Refusal}
 use Rattle.js_tables.specs.Plans.{◌>>=◌, Gives}
+use Rattle.js_tables.specs.Tables.{Rows}
 use Rattle.js_contents.specs.declared.place.Place.{Place}
 use Rattle.js_contents.specs.declared.put.Putting.{Putting}
+use Rattle.js_contents.specs.declared.put.PutBody.{PutBody}
 use Rattle.js_contents.specs.Places.{place_of}
-use Rattle.js_contents.specs.Puts.{putting, fitted}
+use Rattle.js_contents.specs.Puts.{put_body, fitted}
 use Rattle.js_contents.specs.Stores.{put_at, put_plan, PutsAt, Puts}
 
-put_steps : (m : Contents) (given : Given) (body : List ℕ) (segments : List (List ℕ)) (p q : Putting) (place : Place)
-    → putting body ≡ Ok p → place_of segments ≡ Ok place → fitted place.name p ≡ Ok q
-    → put_plan m given body segments ≡ put_at m given q place
-put_steps m given body segments p q place e f h =
-    ap (λ (r : Result Putting ErrorStatus). r >>= λ p. (place_of segments >>= λ place. (fitted place.name p >>= λ q. put_at m given q place))) e
-    ∙ ap (λ (r : Result Place ErrorStatus). r >>= λ place. (fitted place.name p >>= λ q. put_at m given q place)) f
-    ∙ ap (λ (r : Result Putting ErrorStatus). r >>= λ q. put_at m given q place) h
+-- the same body with what fits the path
+abbrev pub with_putting : PutBody → Putting → PutBody
+with_putting body p = record { putting = p; last_modified = body.last_modified }
 
-pub puts_after : (given : Given) (body : List ℕ) (segments : List (List ℕ)) (p q : Putting) (place : Place) (name : List ℕ) (found : Result Plan Refusal)
-    → putting body ≡ Ok p → place_of segments ≡ Ok place → name ≡ place.name → fitted name p ≡ Ok q
-    → (m n : Contents) → PutsAt given q place found m n → Puts given body segments found m n
-puts_after given body segments p q place name found e f same h m n j =
-    (j.0, subst (Gives found) (sym (put_steps m given body segments p q place e f (ap (λ t. fitted t p) (sym same) ∙ h))) j.1)
+put_steps : (m : Contents) (r : Rows) (given : Given) (text : List ℕ) (segments : List (List ℕ)) (b : PutBody) (q : Putting) (place : Place)
+    → put_body text ≡ Ok b → place_of segments ≡ Ok place → fitted place.name b.putting ≡ Ok q
+    → put_plan m r given text segments ≡ put_at m r given (with_putting b q) place
+put_steps m r given text segments b q place e f h =
+    ap (λ (x : Result PutBody ErrorStatus). x >>= λ b. (place_of segments >>= λ place. (fitted place.name b.putting >>= λ q. put_at m r given (with_putting b q) place))) e
+    ∙ ap (λ (x : Result Place ErrorStatus). x >>= λ place. (fitted place.name b.putting >>= λ q. put_at m r given (with_putting b q) place)) f
+    ∙ ap (λ (x : Result Putting ErrorStatus). x >>= λ q. put_at m r given (with_putting b q) place) h
+
+pub puts_after : (r : Rows) (given : Given) (text : List ℕ) (segments : List (List ℕ)) (b : PutBody) (q : Putting) (place : Place) (name : List ℕ) (found : Result Plan Refusal)
+    → put_body text ≡ Ok b → place_of segments ≡ Ok place → name ≡ place.name → fitted name b.putting ≡ Ok q
+    → (m n : Contents) → PutsAt r given (with_putting b q) place found m n → Puts r given text segments found m n
+puts_after r given text segments b q place name found e f same h m n j =
+    (j.0, subst (Gives found) (sym (put_steps m r given text segments b q place e f (ap (λ t. fitted t b.putting) (sym same) ∙ h))) j.1)

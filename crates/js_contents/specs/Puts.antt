@@ -9,9 +9,10 @@ use Rattle.json_form.specs.Forms.{given}
 use Rattle.nb_doc.specs.declared.notebook.Notebook.{Notebook}
 use Rattle.js_http.specs.declared.response.ErrorStatus.{ErrorStatus}
 use Rattle.js_http.specs.declared.response.ErrorStatus.TheVariants.{BadRequest}
-use Rattle.js_tables.specs.Bodies.{body_of, text_in}
+use Rattle.js_tables.specs.Bodies.{body_of, text_in, given_text_in}
 use Rattle.js_tables.specs.Plans.{◌>>=◌}
 use Rattle.js_contents.specs.declared.put.Putting.{Putting}
+use Rattle.js_contents.specs.declared.put.PutBody.{PutBody}
 use Rattle.js_contents.specs.declared.put.Putting.TheVariants.{Folder, File, Notebook as Book}
 use Rattle.js_contents.specs.Kinds.{is_notebook_name}
 use Rattle.js_contents.specs.Notebooks.{notebook_in, notebook_of}
@@ -56,8 +57,13 @@ putting_of kind d =
 abbrev pub putting_in : Data → Result Putting ErrorStatus
 putting_in d = text_in (codes "type") d >>= λ kind. putting_of kind d
 
-abbrev pub putting : List ℕ → Result Putting ErrorStatus
-putting body = body_of body >>= putting_in
+-- with `last_modified`, which may be missing
+abbrev pub put_body_in : Data → Result PutBody ErrorStatus
+put_body_in d =
+    given_text_in (codes "last_modified") d >>= λ date. (putting_in d >>= λ p. Ok (record { putting = p; last_modified = date }))
+
+abbrev pub put_body : List ℕ → Result PutBody ErrorStatus
+put_body body = body_of body >>= put_body_in
 
 -- under a name: a file under a notebook's name is read as a notebook, and a notebook goes nowhere else
 abbrev pub fitted_by : Bool → Putting → Result Putting ErrorStatus

@@ -1,7 +1,9 @@
 -- To be believed.
 -- PUT and DELETE of contents.
-use Rattle.std.specs.Prelude.{ℕ, Bool, true, false, List, None, Result, Ok, is_some, if◌then◌else◌}
+use Rattle.std.specs.Prelude.{ℕ, Bool, true, false, not, ◌&&◌, List, Option, Some, None, Result, Ok, Err, is_some, if◌then◌else◌}
+use Rattle.std.specs.Str.{bytes_eq}
 use Rattle.js_http.specs.declared.response.ErrorStatus.{ErrorStatus}
+use Rattle.js_http.specs.declared.response.ErrorStatus.TheVariants.{Conflict}
 use Rattle.js_http.specs.declared.response.Response.{Response}
 use Rattle.js_http.specs.declared.response.Response.TheVariants.{NoContent, Success, Created}
 use Rattle.js_shelf.specs.declared.item.Item.TheVariants as item
@@ -15,15 +17,17 @@ use Rattle.js_tables.specs.declared.plan.Update.TheVariants as update
 use Rattle.js_tables.specs.declared.refusal.Refusal.{Refusal}
 use Rattle.js_tables.specs.Forms.{body_text}
 use Rattle.js_tables.specs.Plans.{◌>>=◌, Gives}
+use Rattle.js_tables.specs.Tables.{Rows, date_at}
 use Rattle.js_contents.specs.declared.place.Place.{Place}
 use Rattle.js_contents.specs.declared.put.Putting.{Putting}
+use Rattle.js_contents.specs.declared.put.PutBody.{PutBody}
 use Rattle.js_contents.specs.declared.put.Putting.TheVariants as put
 use Rattle.js_contents.specs.Forms.{bare_form}
 use Rattle.js_contents.specs.Kinds.{about_at}
 use Rattle.js_contents.specs.Looks.{present_at}
 use Rattle.js_contents.specs.Notebooks.{notebook_file}
 use Rattle.js_contents.specs.Places.{place_of}
-use Rattle.js_contents.specs.Puts.{putting, fitted}
+use Rattle.js_contents.specs.Puts.{put_body, fitted}
 
 -- ---- DELETE /api/contents/{path}
 
@@ -70,17 +74,33 @@ storing given p place = storing_by given (new_change place.path p) place (is_fol
 abbrev pub replacing : Given → Putting → Place → Bool → Plan
 replacing given p place is_there = storing_by given (put_change place.path p) place (is_folder_putting p) is_there
 
-abbrev pub put_at : Contents → Given → Putting → Place → Result Plan ErrorStatus
-put_at m given p place = present_at m place.path >>= λ item. Ok (replacing given p place (is_some item))
+abbrev pub is_same_date : Option (List ℕ) → List ℕ → Bool
+is_same_date None date = true
+is_same_date (Some asked) date = bytes_eq asked date
 
-abbrev pub put_plan : Contents → Given → List ℕ → List (List ℕ) → Result Plan ErrorStatus
-put_plan m given body segments =
-    putting body >>= λ p. (place_of segments >>= λ place. (fitted place.name p >>= λ q. put_at m given q place))
+-- 409 where something is there that was last put at another date than the request says
+abbrev pub date_checked : Rows → Place → Option (List ℕ) → Bool → Result (Unit {0}) ErrorStatus
+date_checked r place asked is_there =
+    if is_there && not (is_same_date asked (date_at place.path r)) then Err Conflict else Ok tt
+
+abbrev pub put_over : Rows → Given → PutBody → Place → Bool → Result Plan ErrorStatus
+put_over r given body place is_there =
+    date_checked r place body.last_modified is_there >>= λ _. Ok (replacing given body.putting place is_there)
+
+abbrev pub put_at : Contents → Rows → Given → PutBody → Place → Result Plan ErrorStatus
+put_at m r given body place = present_at m place.path >>= λ item. put_over r given body place (is_some item)
+
+-- the body's fields, the path, what is put there, what stands there, and its date, in this order
+abbrev pub put_plan : Contents → Rows → Given → List ℕ → List (List ℕ) → Result Plan ErrorStatus
+put_plan m r given text segments =
+    put_body text >>= λ body.
+    (place_of segments >>= λ place.
+    (fitted place.name body.putting >>= λ p. put_at m r given (record { putting = p; last_modified = body.last_modified }) place))
 
 -- ---- what the functions find
 
-abbrev pub PutsAt : Given → Putting → Place → Result Plan Refusal → Contents → Contents → Type 0
-PutsAt given p place result m n = Same m n × Gives result (put_at m given p place)
+abbrev pub PutsAt : Rows → Given → PutBody → Place → Result Plan Refusal → Contents → Contents → Type 0
+PutsAt r given body place result m n = Same m n × Gives result (put_at m r given body place)
 
-abbrev pub Puts : Given → List ℕ → List (List ℕ) → Result Plan Refusal → Contents → Contents → Type 0
-Puts given body segments result m n = Same m n × Gives result (put_plan m given body segments)
+abbrev pub Puts : Rows → Given → List ℕ → List (List ℕ) → Result Plan Refusal → Contents → Contents → Type 0
+Puts r given text segments result m n = Same m n × Gives result (put_plan m r given text segments)

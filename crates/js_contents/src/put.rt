@@ -9,7 +9,7 @@ use base64::DecodeAllocError;
 use base64::engine::general_purpose::STANDARD;
 use js_http::ErrorStatus;
 use js_shelf::Bytes;
-use js_tables::{ReadNotebook, Refusal, read_body, text_in};
+use js_tables::{ReadNotebook, Refusal, given_text_in, read_body, text_in};
 use json_form::{Json, Text, given_part};
 use std::alloc::{AllocError, Global};
 
@@ -19,6 +19,13 @@ pub enum Putting {
     Folder,
     File(Bytes),
     Notebook(ReadNotebook),
+}
+
+/// What the body of a PUT says: what is put, and perhaps when the file there was last put.
+#[derive(Drop)]
+pub struct PutBody {
+    pub putting: Putting,
+    pub last_modified: Option<Text>,
 }
 
 fn is_plain(byte: u8) -> bool
@@ -95,11 +102,22 @@ fn putting_in(alloc: Global, body: &Json) -> Result<Putting, Refusal>
     Err(Refusal::Status(ErrorStatus::BadRequest))
 }
 
-/// What the body of a PUT says.
-pub(crate) fn read_putting(alloc: Global, content: &[u8]) -> Result<Putting, Refusal>
-    ensures { Gives result (spec.putting content.now) }
+fn put_body_in(alloc: Global, body: &Json) -> Result<PutBody, Refusal>
+    ensures { Gives result (spec.put_body_in body.now) }
 {
-    putting_in(alloc, &read_body(alloc, content)?)
+    let last_modified = given_text_in(alloc, body, "last_modified")?;
+    let putting = putting_in(alloc, body)?;
+    Ok(PutBody {
+        putting,
+        last_modified,
+    })
+}
+
+/// What the body of a PUT says.
+pub(crate) fn read_put(alloc: Global, content: &[u8]) -> Result<PutBody, Refusal>
+    ensures { Gives result (spec.put_body content.now) }
+{
+    put_body_in(alloc, &read_body(alloc, content)?)
 }
 
 /// What is put under that name: a file under a notebook's name is read as a notebook, and a notebook goes nowhere else.

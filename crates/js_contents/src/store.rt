@@ -2,17 +2,18 @@
 ghost use Rattle.std.specs.Prelude.{◌≡◌, IfOk};
 ghost use Rattle.js_shelf.specs.Shelves.{Tells};
 ghost use Rattle.js_tables.specs.Plans.{Gives};
+ghost use Rattle.js_tables.specs.Tables.{rows};
 ghost use Rattle.js_contents.specs.Stores as spec;
 
 use crate::kind::about_at;
 use crate::look::present;
 use crate::notebook::notebook_file;
 use crate::place::{Place, place_of};
-use crate::put::{Putting, fitted, read_putting};
+use crate::put::{PutBody, Putting, fitted, read_put};
 use crate::read::bare_value;
-use js_http::{Bytes, Response};
+use js_http::{Bytes, ErrorStatus, Response};
 use js_shelf::{Item, Shelf};
-use js_tables::{Answer, Change, Given, Plan, Refusal, Update, json_body};
+use js_tables::{Answer, Change, Given, Plan, Refusal, Tables, Update, json_body};
 use json_form::Text;
 use std::alloc::{AllocError, Global};
 
@@ -133,31 +134,82 @@ fn replacing(
     )
 }
 
+// Whether a request says no date, or this one.
+fn is_same_date(asked: &Option<Text>, date: &str) -> bool
+    ensures { result ≡ spec.is_same_date asked.now date.now }
+{
+    match asked {
+        None => true,
+        Some(asked) => asked.as_str() == date,
+    }
+}
+
+// Refuses a put over what was last put at another date than the request says.
+fn check_date(
+    tables: &Tables,
+    place: &Place,
+    asked: &Option<Text>,
+    is_there: bool,
+) -> Result<(), Refusal>
+    ensures { Gives result (spec.date_checked (rows tables.now) place.now asked.now is_there) }
+{
+    let date = tables.date_of(place.path.as_str());
+    if is_there && !is_same_date(asked, date) {
+        return Err(Refusal::Status(ErrorStatus::Conflict));
+    }
+    Ok(())
+}
+
+// What a PUT puts over what stands at the place, or where nothing stands.
+fn put_over(
+    alloc: Global,
+    tables: &Tables,
+    given: &Given,
+    body: PutBody,
+    place: Place,
+    is_there: bool,
+) -> Result<Plan, Refusal>
+    ensures { Gives result (spec.put_over (rows tables.now) given.now body place is_there) }
+{
+    check_date(tables, &place, &body.last_modified, is_there)?;
+    Ok(replacing(alloc, given, body.putting, place, is_there)?)
+}
+
 fn put_at<S: Shelf>(
     alloc: Global,
+    tables: &Tables,
     shelf: &mut S,
     given: &Given,
-    putting: Putting,
+    body: PutBody,
     place: Place,
 ) -> Result<Plan, Refusal>
-    ensures { Tells (S.contents shelf.old) (S.contents shelf.new) (spec.PutsAt given.now putting place result) }
+    ensures { Tells (S.contents shelf.old) (S.contents shelf.new) (spec.PutsAt (rows tables.now) given.now body place result) }
 {
     let item = present(shelf, place.path.as_str())?;
-    Ok(replacing(alloc, given, putting, place, item.is_some())?)
+    put_over(alloc, tables, given, body, place, item.is_some())
 }
 
 /// The plan of a PUT. The first three segments are those of `/api/contents`.
+///
+/// # Errors
+/// 400 for the fields of the body, the path, and what may not be put there; then what a look at the path is refused with; and 409
+/// where something is there whose date is not the `last_modified` of the body.
 pub fn put_plan<S: Shelf>(
     alloc: Global,
+    tables: &Tables,
     shelf: &mut S,
     given: &Given,
     content: &[u8],
     segments: &[Bytes],
 ) -> Result<Plan, Refusal>
-    ensures { Tells (S.contents shelf.old) (S.contents shelf.new) (spec.Puts given.now content.now segments.now result) }
+    ensures { Tells (S.contents shelf.old) (S.contents shelf.new) (spec.Puts (rows tables.now) given.now content.now segments.now result) }
 {
-    let putting = read_putting(alloc, content)?;
+    let body = read_put(alloc, content)?;
     let place = place_of(alloc, segments)?;
-    let putting = fitted(alloc, place.name.as_str(), putting)?;
-    put_at(alloc, shelf, given, putting, place)
+    let putting = fitted(alloc, place.name.as_str(), body.putting)?;
+    let body = PutBody {
+        putting,
+        last_modified: body.last_modified,
+    };
+    put_at(alloc, tables, shelf, given, body, place)
 }

@@ -25,6 +25,7 @@ pub found_failed : (path : Option Route) (m : Contents) (r : Rows) (given : Give
 found_failed None m r given request = tt
 found_failed (Some route.Page) m r given request = tt
 found_failed (Some route.Version) m r given request = tt
+found_failed (Some route.Shutdown) m r given request = tt
 found_failed (Some route.Kernelspecs) m r given request = tt
 found_failed (Some route.Kernels) m r given request = tt
 found_failed (Some route.Kernel) m r given request = tt
@@ -48,6 +49,7 @@ pub found_failed_alone : (path : Option Route) (r : Rows) (given : Given) (reque
 found_failed_alone None r given request = tt
 found_failed_alone (Some route.Page) r given request = tt
 found_failed_alone (Some route.Version) r given request = tt
+found_failed_alone (Some route.Shutdown) r given request = tt
 found_failed_alone (Some route.Kernelspecs) r given request = tt
 found_failed_alone (Some route.Kernels) r given request = tt
 found_failed_alone (Some route.Kernel) r given request = tt

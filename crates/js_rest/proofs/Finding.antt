@@ -22,6 +22,7 @@ pub tables_found : (r : Route) (m : Contents) (rows : Rows) (given : Given) (req
     → (r ≡ route.Contents → ⊥) → (r ≡ route.Sessions → ⊥) → Gives found (tables_plan r rows given request) → IsFoundOn r m rows given request found
 tables_found route.Page m rows given request found n k h = h
 tables_found route.Version m rows given request found n k h = h
+tables_found route.Shutdown m rows given request found n k h = h
 tables_found route.Kernelspecs m rows given request found n k h = h
 tables_found route.Kernels m rows given request found n k h = h
 tables_found route.Kernel m rows given request found n k h = h
@@ -36,6 +37,7 @@ pub tables_alone : (r : Route) (rows : Rows) (given : Given) (request : Request)
     → (r ≡ route.Contents → ⊥) → (r ≡ route.Sessions → ⊥) → Gives found (tables_plan r rows given request) → IsFoundAlone (Some r) rows given request found
 tables_alone route.Page rows given request found n k h = h
 tables_alone route.Version rows given request found n k h = h
+tables_alone route.Shutdown rows given request found n k h = h
 tables_alone route.Kernelspecs rows given request found n k h = h
 tables_alone route.Kernels rows given request found n k h = h
 tables_alone route.Kernel rows given request found n k h = h

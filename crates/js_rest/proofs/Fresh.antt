@@ -1,5 +1,5 @@
 -- What a recorder that was told nothing holds.
-use Rattle.std.proofs.Common.{◌≡◌, ℕ, List, [], ◌∷◌, Bool, true, false, Option, refl, ap, ◌∙◌}
+use Rattle.std.proofs.Common.{◌≡◌, ℕ, List, [], ◌∷◌, Bool, true, false, Option, None, refl, ap, ◌∙◌}
 use Rattle.std.specs.Prelude.{◌||◌}
 use Rattle.std.specs.List.{list_any}
 use Rattle.std.specs.Str.{bytes_eq}
@@ -19,14 +19,15 @@ no_names : (names : List (List ℕ)) → ((id : List ℕ) → is_among names id 
 no_names [] h = refl
 no_names (x ∷ xs) h = absurd (clash (bytes_eq x x) (list_any (bytes_eq x) xs) ((bytes_eq-Decides x x).1 refl) (h x))
 
-abbrev pages_of : Notebook → List (List ℕ) → Option (List ℕ) → Pages
-pages_of n names id = record { notebook = n; executed = names; current = id }
+abbrev pages_of : Notebook → List (List ℕ) → Option (List ℕ) → Bool → Pages
+pages_of n names id goes = record { notebook = n; executed = names; current = id; lasts = goes }
 
 fresh_pages : (p : Pages) (n : Notebook) → StandsAt p n [] → p ≡ fresh n
 fresh_pages p n h =
-    ap (λ (x : Notebook). pages_of x p.executed p.current) h.notebook
-    ∙ ap (λ (x : List (List ℕ)). pages_of (book n []) x p.current) (no_names p.executed h.executed)
-    ∙ ap (λ (x : Option (List ℕ)). pages_of (book n []) [] x) h.current
+    ap (λ (x : Notebook). pages_of x p.executed p.current p.lasts) h.notebook
+    ∙ ap (λ (x : List (List ℕ)). pages_of (book n []) x p.current p.lasts) (no_names p.executed h.executed)
+    ∙ ap (λ (x : Option (List ℕ)). pages_of (book n []) [] x p.lasts) h.current
+    ∙ ap (λ (x : Bool). pages_of (book n []) [] None x) h.lasts
 
 abbrev state_of : List ℕ → Pages → RecorderState
 state_of path p = record { path = path; pages = p }

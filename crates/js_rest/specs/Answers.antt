@@ -14,7 +14,7 @@ use Rattle.js_shelf.specs.Shelves.{Contents, Same}
 use Rattle.js_rest.specs.Contents as contents
 use Rattle.js_tables.specs.declared.given.Given.{Given}
 use Rattle.js_tables.specs.declared.plan.Answer.{Answer}
-use Rattle.js_tables.specs.declared.plan.Answer.TheVariants.{Reply, Page}
+use Rattle.js_tables.specs.declared.plan.Answer.TheVariants.{Reply, Page, Stops}
 use Rattle.js_tables.specs.declared.plan.Command.{Command}
 use Rattle.js_tables.specs.declared.plan.Change.TheVariants as change
 use Rattle.js_tables.specs.declared.plan.Plan.{Plan}
@@ -55,6 +55,15 @@ version_plan Put = Err MethodNotAllowed
 version_plan Patch = Err MethodNotAllowed
 version_plan Delete = Err MethodNotAllowed
 version_plan Other = Err MethodNotAllowed
+
+-- POST /api/shutdown: nothing is changed yet; whoever serves it answers, ends each session and stops
+abbrev pub shutdown_plan : Method → Result Plan ErrorStatus
+shutdown_plan Get = Err MethodNotAllowed
+shutdown_plan Post = Ok (record { change = change.Nothing; update = update.Same; answer = Stops })
+shutdown_plan Put = Err MethodNotAllowed
+shutdown_plan Patch = Err MethodNotAllowed
+shutdown_plan Delete = Err MethodNotAllowed
+shutdown_plan Other = Err MethodNotAllowed
 
 abbrev pub kernelspecs_plan : Method → Result Plan ErrorStatus
 kernelspecs_plan Get = kernels.kernelspecs_plan
@@ -125,6 +134,7 @@ session_plan Other id body r = Err MethodNotAllowed
 abbrev pub tables_plan : Route → Rows → Given → Request → Result Plan ErrorStatus
 tables_plan route.Page r given request = page_plan request.method
 tables_plan route.Version r given request = version_plan request.method
+tables_plan route.Shutdown r given request = shutdown_plan request.method
 tables_plan route.Kernelspecs r given request = kernelspecs_plan request.method
 tables_plan route.Kernels r given request = kernels_plan request.method r given request
 tables_plan route.Kernel r given request = kernel_plan request.method (segment request 3) r
@@ -139,6 +149,7 @@ tables_plan route.Contents r given request = Err MethodNotAllowed
 abbrev pub IsFoundOn : Route → Contents → Rows → Given → Request → Result Plan Refusal → Type 0
 IsFoundOn route.Page m r given request found = Gives found (tables_plan route.Page r given request)
 IsFoundOn route.Version m r given request found = Gives found (tables_plan route.Version r given request)
+IsFoundOn route.Shutdown m r given request found = Gives found (tables_plan route.Shutdown r given request)
 IsFoundOn route.Kernelspecs m r given request found = Gives found (tables_plan route.Kernelspecs r given request)
 IsFoundOn route.Kernels m r given request found = Gives found (tables_plan route.Kernels r given request)
 IsFoundOn route.Kernel m r given request found = Gives found (tables_plan route.Kernel r given request)
@@ -176,6 +187,7 @@ abbrev pub IsFoundAlone : Option Route → Rows → Given → Request → Result
 IsFoundAlone None r given request found = Gives found (Err NotFound)
 IsFoundAlone (Some route.Page) r given request found = Gives found (tables_plan route.Page r given request)
 IsFoundAlone (Some route.Version) r given request found = Gives found (tables_plan route.Version r given request)
+IsFoundAlone (Some route.Shutdown) r given request found = Gives found (tables_plan route.Shutdown r given request)
 IsFoundAlone (Some route.Kernelspecs) r given request found = Gives found (tables_plan route.Kernelspecs r given request)
 IsFoundAlone (Some route.Kernels) r given request found = Gives found (tables_plan route.Kernels r given request)
 IsFoundAlone (Some route.Kernel) r given request found = Gives found (tables_plan route.Kernel r given request)

@@ -20,7 +20,7 @@ use Rattle.js_names.specs.Untitled.{IsUntitledPlan}
 -- what is found by the method: the plan, or the status that refuses the request
 abbrev pub IsFoundBy : Method → Contents → Rows → Given → Request → List (List ℕ) → Result Plan Refusal → Type 0
 IsFoundBy Get m r given request segments found = IsReadPlan m r request segments found
-IsFoundBy Put m r given request segments found = Gives found (put_plan m given request.body segments)
+IsFoundBy Put m r given request segments found = Gives found (put_plan m r given request.body segments)
 IsFoundBy Delete m r given request segments found = Gives found (remove_plan segments)
 IsFoundBy Post m r given request segments found = IsUntitledPlan m given request.body segments found
 IsFoundBy Patch m r given request segments found = Gives found (rename_plan m r request.body segments)

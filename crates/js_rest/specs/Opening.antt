@@ -86,7 +86,7 @@ first_of m path = if is_notebook_name path then (first_notebook m path >>= as_fi
 
 -- the pages of a notebook that were told nothing
 abbrev pub fresh : Notebook → Pages
-fresh n = record { notebook = book n []; executed = []; current = None }
+fresh n = record { notebook = book n []; executed = []; current = None; lasts = false }
 
 abbrev pub recorder_of : List ℕ → Notebook → RecorderState
 recorder_of path n = record { path = path; pages = fresh n }

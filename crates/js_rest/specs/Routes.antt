@@ -31,6 +31,7 @@ table =
     with_routes (
     (codes "/", route.Page) ∷
     (codes "/api", route.Version) ∷
+    (codes "/api/shutdown", route.Shutdown) ∷
     (codes "/api/kernelspecs", route.Kernelspecs) ∷
     (codes "/api/kernels", route.Kernels) ∷
     (codes "/api/kernels/{id}", route.Kernel) ∷

@@ -125,6 +125,19 @@ fn version(alloc: Global, method: Method) -> Result<Plan, Refusal>
     }
 }
 
+fn shutdown(method: Method) -> Result<Plan, Refusal>
+    ensures { Gives result (spec.shutdown_plan method) }
+{
+    match method {
+        Method::Post => Ok(Plan {
+            change: Change::Nothing,
+            update: Update::Same,
+            answer: Answer::Stops,
+        }),
+        _ => Err(Refusal::Status(ErrorStatus::MethodNotAllowed)),
+    }
+}
+
 fn kernelspecs(alloc: Global, method: Method) -> Result<Plan, Refusal>
     ensures { Gives result (spec.kernelspecs_plan method) }
 {
@@ -247,6 +260,7 @@ fn tables_plan(
     match route {
         Route::Page => page(request.method),
         Route::Version => version(alloc, request.method),
+        Route::Shutdown => shutdown(request.method),
         Route::Kernelspecs => kernelspecs(alloc, request.method),
         Route::Kernels => all_kernels(alloc, tables, given, request),
         Route::Kernel => one_kernel(alloc, tables, request.method, id),

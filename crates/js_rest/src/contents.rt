@@ -25,7 +25,14 @@ pub(crate) fn contents_plan<S: Shelf>(
 {
     match request.method {
         Method::Get => read_plan(alloc, tables, shelf, request, segments),
-        Method::Put => put_plan(alloc, shelf, given, request.body.as_slice(), segments),
+        Method::Put => put_plan(
+            alloc,
+            tables,
+            shelf,
+            given,
+            request.body.as_slice(),
+            segments,
+        ),
         Method::Delete => remove_plan(alloc, segments),
         Method::Post => untitled_plan(alloc, shelf, given, request.body.as_slice(), segments),
         Method::Patch => rename_plan(alloc, tables, shelf, request.body.as_slice(), segments),

@@ -14,6 +14,7 @@ use std::alloc::Global;
 pub enum Route {
     Page,
     Version,
+    Shutdown,
     Kernelspecs,
     Kernels,
     Kernel,
@@ -39,6 +40,7 @@ pub(crate) fn routes(alloc: Global) -> Result<Router<Route>, InsertError>
     let mut router = Router::new(alloc);
     add(&mut router, "/", Route::Page)?;
     add(&mut router, "/api", Route::Version)?;
+    add(&mut router, "/api/shutdown", Route::Shutdown)?;
     add(&mut router, "/api/kernelspecs", Route::Kernelspecs)?;
     add(&mut router, "/api/kernels", Route::Kernels)?;
     add(&mut router, "/api/kernels/{id}", Route::Kernel)?;
@@ -67,6 +69,7 @@ pub(crate) fn find(router: &Router<Route>, path: &str) -> Option<Route>
 pub fn routes_law()
     ensures page { route_of (codes "/") ≡ Some Route.Page }
     ensures version { route_of (codes "/api") ≡ Some Route.Version }
+    ensures shutdown { route_of (codes "/api/shutdown") ≡ Some Route.Shutdown }
     ensures specs { route_of (codes "/api/kernelspecs") ≡ Some Route.Kernelspecs }
     ensures kernels { route_of (codes "/api/kernels") ≡ Some Route.Kernels }
     ensures kernel { route_of (codes "/api/kernels/x-1") ≡ Some Route.Kernel }

@@ -1,6 +1,6 @@
 -- To be believed.
 -- The bodies of requests: empty or JSON. A field that is `null` counts as missing.
-use Rattle.std.specs.Prelude.{ℕ, List, [], ◌∷◌, Result, Ok, Err, if◌then◌else◌, codes}
+use Rattle.std.specs.Prelude.{ℕ, List, [], ◌∷◌, Option, Some, None, Result, Ok, Err, if◌then◌else◌, codes}
 use Rattle.std.specs.Str.{bytes_eq, is_utf8}
 use Rattle.serde_json.specs.Data.{Data}
 use Rattle.serde_json.specs.Find.{as_str}
@@ -25,6 +25,14 @@ text_in key d = or_bad (needed as_str (given key d))
 -- a text, or the default where it is missing
 abbrev pub optional_text_in : List ℕ → List ℕ → Data → Result (List ℕ) ErrorStatus
 optional_text_in key default d = or_bad (optional default as_str (given key d))
+
+-- a text, if one is given
+abbrev pub if_text : Option Data → Result (Option (List ℕ)) ErrorStatus
+if_text None = Ok None
+if_text (Some d) = or_bad (needed as_str (Some d)) >>= λ text. Ok (Some text)
+
+abbrev pub given_text_in : List ℕ → Data → Result (Option (List ℕ)) ErrorStatus
+given_text_in key d = if_text (given key d)
 
 abbrev pub is_oberon : List ℕ → Result (Unit {0}) ErrorStatus
 is_oberon name = if bytes_eq name (codes "oberon") then Ok tt else Err BadRequest

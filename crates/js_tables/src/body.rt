@@ -53,6 +53,18 @@ pub fn optional_text_in(
     Ok(Text::from_str(alloc, text)?)
 }
 
+/// A text, if one is given.
+pub fn given_text_in(alloc: Global, body: &Json, key: &str) -> Result<Option<Text>, Refusal>
+    ensures { Gives result (spec.given_text_in key.now body.now) }
+{
+    let field = given_part(body.value(), key);
+    if field.is_none() {
+        return Ok(None);
+    }
+    let text = needed_text(field)?;
+    Ok(Some(Text::from_str(alloc, text)?))
+}
+
 /// Refuses the name of another kernel than oberon.
 pub fn named_or_oberon(name: &str) -> Result<(), Refusal>
     ensures { Gives result (spec.is_oberon name.now) }

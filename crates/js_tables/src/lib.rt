@@ -12,7 +12,9 @@ mod refusal;
 mod sessions;
 mod tables;
 
-pub use body::{check_kernel_name, named_or_oberon, optional_text_in, read_body, text_in};
+pub use body::{
+    check_kernel_name, given_text_in, named_or_oberon, optional_text_in, read_body, text_in,
+};
 pub use book::ReadNotebook;
 pub use forms::{
     About, Kind, json_body, kernel_value, kernels_value, kernelspecs_value, model_value,

@@ -61,6 +61,9 @@ pub enum Answer {
     Ends(Text),
     /// The page for a browser, as a response of 200.
     Page,
+    /// The server is to stop: 200 with the body `{}`. After it each session is ended as its DELETE ends it, and then the server
+    /// stops.
+    Stops,
 }
 
 /// The change that is tried first, and what follows where it succeeds.

@@ -7,14 +7,16 @@ ghost use Rattle.jk_log.specs.Render.{render};
 ghost use Rattle.jk_world.specs.World.{World, Event, opening, Run, IsTrueWorld, HasGoneOn};
 ghost use Rattle.jk_world.specs.Cells.{IsAnsweredOnce, begun_in, CellIsRight};
 ghost use Rattle.jk_world.specs.Order.{IsFalling, answered_places};
-ghost use Rattle.jk_world.specs.Sessions.{IsHandedOn};
-ghost use Rattle.jk_world.specs.Input.{IsInputRight};
+ghost use Rattle.jk_world.specs.Sessions.{AllBeginIn, IsHandedOn};
+ghost use Rattle.jk_world.specs.Input.{IsInputRight, AsksAreAllowed};
 ghost use Rattle.jk_world.specs.Counts.{TellCounts};
 ghost use Rattle.jk_world.specs.Requests.{IsShownRight};
 ghost use Rattle.jk_world.specs.Parents.{ParentsFit};
 ghost use Rattle.jk_world.specs.Answers.{AreShownOnce};
 ghost use Rattle.jk_world.specs.Shown.{CellsAreShown};
 ghost use Rattle.jk_world.specs.Controls.{ControlsAreShown};
+ghost use Rattle.jk_world.specs.Aborts.{AbortsAreRight};
+ghost use Rattle.jk_world.specs.Stops.{StopsAreRight};
 ghost use Rattle.ob_tree.specs.declared.tree.Cell.{Cell};
 ghost use Rattle.ob_session.specs.Session.{Session};
 ghost use Rattle.ob_cell.specs.Oberon.{spoken_oberon};
@@ -68,14 +70,16 @@ pub fn streams_law()
 
 /// The session goes from cell to cell.
 pub fn session_law()
-    ensures { (log : Log) → IsLegal spoken_oberon log → IsHandedOn spoken_oberon log }
+    ensures each { (log : Log) → IsLegal spoken_oberon log → AllBeginIn spoken_oberon log }
+    ensures last { (log : Log) → IsLegal spoken_oberon log → IsHandedOn spoken_oberon log }
 {
     jk_world::session_law::<Oberon>()
 }
 
 /// What cells ask for, and are given.
 pub fn input_law()
-    ensures { (log : Log) (at : ℕ) → IsLegal spoken_oberon log → IsInputRight log at }
+    ensures given { (log : Log) (at : ℕ) → IsLegal spoken_oberon log → IsInputRight log at }
+    ensures allowed { (log : Log) → IsLegal spoken_oberon log → AsksAreAllowed log }
 {
     jk_world::input_law::<Oberon>()
 }
@@ -113,6 +117,20 @@ pub fn control_law()
     ensures { (log : Log) → IsLegal spoken_oberon log → ControlsAreShown log }
 {
     jk_world::control_law::<Oberon>()
+}
+
+/// An interrupt or a shutdown stops the cell that runs.
+pub fn stop_law()
+    ensures { (log : Log) → IsLegal spoken_oberon log → StopsAreRight log }
+{
+    jk_world::stop_law::<Oberon>()
+}
+
+/// An execute request is aborted exactly by an error of a cell that stops on errors, or by a shutdown.
+pub fn abort_law()
+    ensures { (log : Log) → IsLegal spoken_oberon log → AbortsAreRight log }
+{
+    jk_world::abort_law::<Oberon>()
 }
 
 /// Whose each stream and error is.

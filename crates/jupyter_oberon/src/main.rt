@@ -12,6 +12,7 @@ use crate::serving::{Unserved, read_port, serve_folder};
 use crate::telling::{help_status, version_status};
 use jk_replay::{ReplayFault, Side, ended_status, replay_status, usage_status};
 use ob_language::Oberon;
+use std::io::IsTerminal;
 use std::process::ExitCode;
 use std::{env, io};
 
@@ -106,7 +107,8 @@ fn main(rt: HostRuntime) -> ExitCode {
         }
         Ok(Command::Run(runs)) => {
             let mut lines = rt.reader();
-            run_all(rt, &runs, &mut lines, &mut errors)
+            let shows = errors.is_terminal();
+            run_all(rt, &runs, &mut lines, &mut errors, shows)
         }
         Ok(Command::Help) => help_status(&mut rt.stdout()),
         Ok(Command::Version) => version_status(&mut rt.stdout()),

@@ -124,16 +124,31 @@ where
     run_saved::<Oberon, _, _, _>(alloc, asked, &mut target, lines, errors)
 }
 
+/// Tells which of the notebooks is run now. What can't be written is left out.
+fn tell_progress<E: Write>(errors: &mut E, place: usize, count: usize, path: &str) {
+    let _ = write!(errors, "{place} of {count}: {path}\n");
+    let _ = errors.flush();
+}
+
 /// Runs the notebooks one after another, each on a kernel of its own. The status is that of the first that did not end
-/// well, if there is one.
-pub(crate) fn run_all<R, I, E>(rt: R, runs: &Runs, lines: &mut I, errors: &mut E) -> u8
+/// well, if there is one. Where `shows` says so, each is named as its turn comes.
+pub(crate) fn run_all<R, I, E>(
+    rt: R,
+    runs: &Runs,
+    lines: &mut I,
+    errors: &mut E,
+    shows: bool,
+) -> u8
 where
     R: Files + AllocGlobal + Copy + Drop,
     I: BufRead,
     E: Write,
 {
     let mut status = 0;
-    for path in runs.paths.as_slice() {
+    for (place, path) in runs.paths.as_slice().iter().enumerate() {
+        if shows {
+            tell_progress(errors, place + 1, runs.paths.len(), path.as_str());
+        }
         let target = match &runs.output {
             Some(output) => output.as_str(),
             None => path.as_str(),

@@ -17,8 +17,8 @@ use Rattle.nb_doc.specs.Ids.{is_allowed, is_among, are_distinct, name_of, least_
 use Rattle.nb_doc.proofs.Among.{same_itself, same_if, swapped}
 use Rattle.nb_doc.proofs.Raised.{is_free}
 use Rattle.nb_record.specs.declared.event.Event.{Event}
-use Rattle.nb_record.specs.declared.event.Event.TheVariants.{Begins, Passes, Writes, Puts, Nothing}
-use Rattle.nb_record.specs.Book.{Item, Shown, Put, event, is_code, is_code_at, has_code, new_id, is_there, target, cells_after, cells, current, is_id, executed, executed_after, source_in, source_after, source, no_run, run_of, run_in, with_output, kept_run, run_after, run, with_run, written, book}
+use Rattle.nb_record.specs.declared.event.Event.TheVariants.{Begins, Passes, Writes, Ends, Puts, Nothing}
+use Rattle.nb_record.specs.Book.{Item, Shown, Put, event, is_code, is_code_at, has_code, new_id, is_there, target, cells_after, cells, current, is_id, running, executed, executed_after, source_in, source_after, source, no_run, run_of, run_in, with_output, kept_run, run_after, run, with_run, written, book}
 use Rattle.nb_record.specs.Steps.{begun_cell, fresh_cell, started_run, add_output, wrote_cell, put_run, put_cell}
 
 -- ---- truth values
@@ -167,6 +167,7 @@ executed_step (Begins wish source count) cs id before old h = executed_begins cs
 executed_step (Puts n) cs id before old h = (both (has_code n.cells id) before h).0
 executed_step Passes cs id before old h = old h
 executed_step (Writes o) cs id before old h = old h
+executed_step Ends cs id before old h = old h
 executed_step Nothing cs id before old h = old h
 
 pub executed_is_code : (base : Notebook) (items : List Item) (id : List ℕ) → executed base items id ≡ true → has_code (cells base items) id ≡ true
@@ -175,11 +176,11 @@ executed_is_code base (i ∷ past) id h = executed_step (event i) (cells base pa
 
 -- ---- a put
 
-put_content : (x : Content) (was : Bool) (put before kept : Execution) → (is_code x ≡ true → put ≡ run_of x) → (was ≡ true → kept ≡ before) → with_run (cond was (kept_run put before) put) x ≡ with_run (cond was (kept_run (run_of x) kept) (run_of x)) x
-put_content (content.Code e) true put before kept h k = ap₂ (λ a b. content.Code (kept_run a b)) (h refl) (sym (k refl))
-put_content (content.Code e) false put before kept h k = ap content.Code (h refl)
-put_content (content.Markdown a) was put before kept h k = refl
-put_content (content.Raw a) was put before kept h k = refl
+put_content : (x : Content) (was runs : Bool) (put before kept : Execution) → (is_code x ≡ true → put ≡ run_of x) → (was ≡ true → kept ≡ before) → with_run (cond was (kept_run runs put before) put) x ≡ with_run (cond was (kept_run runs (run_of x) kept) (run_of x)) x
+put_content (content.Code e) true runs put before kept h k = ap₂ (λ a b. content.Code (kept_run runs a b)) (h refl) (sym (k refl))
+put_content (content.Code e) false runs put before kept h k = ap content.Code (h refl)
+put_content (content.Markdown a) was runs put before kept h k = refl
+put_content (content.Raw a) was runs put before kept h k = refl
 
 -- which are still executed matters for code cells alone
 still_content : (x : Content) (a b : Bool) (e f : Execution) → (is_code x ≡ true → a ≡ b) → with_run (cond a e f) x ≡ with_run (cond b e f) x
@@ -190,22 +191,24 @@ still_content (content.Raw x) a b e f h = refl
 abbrev IsStill : List (List ℕ) → Notebook → Notebook → List Item → Type 0
 IsStill still n base past = (id : List ℕ) → is_among still id ≡ (has_code n.cells id && executed base past id)
 
-put_one : (base : Notebook) (past : List Item) (i : Item) (n : Notebook) (still : List (List ℕ)) → event i ≡ Puts n → IsStill still n base past → (c : Cell) → Own n.cells c → written base (i ∷ past) c ≡ put_cell still (book base past).cells c
+put_one : (base : Notebook) (past : List Item) (i : Item) (n : Notebook) (still : List (List ℕ)) → event i ≡ Puts n → IsStill still n base past → (c : Cell) → Own n.cells c → written base (i ∷ past) c ≡ put_cell still (running base past) (book base past).cells c
 put_one base past i n still e s c own =
     let was = executed base past c.id in
     let before = run base past c.id in
+    let going = running base past in
+    let runs_now = is_id c.id going in
     let kept = run_in (book base past).cells c.id in
     let sources : source base (i ∷ past) c.id ≡ c.source = ap (λ v. source_after v (cells base past) c.id (source base past c.id)) e ∙ own.source in
-    let runs : run base (i ∷ past) c.id ≡ cond was (kept_run (run_in n.cells c.id) before) (run_in n.cells c.id) = ap (λ v. run_after v (cells base past) (current base past) c.id was before) e in
+    let runs : run base (i ∷ past) c.id ≡ cond was (kept_run runs_now (run_in n.cells c.id) before) (run_in n.cells c.id) = ap (λ v. run_after v (cells base past) (current base past) going c.id was before) e in
     let keeps : was ≡ true → kept ≡ before = λ h. run_in-book base past (cells base past) c.id (executed_is_code base past c.id h) in
     let stays : is_code c.content ≡ true → was ≡ is_among still c.id = λ h. sym (s c.id ∙ ap (λ b. b && was) (own.code h)) in
     ap₂ (cell_of c.id c) sources
-    (ap (λ r. with_run r c.content) runs ∙ put_content c.content was (run_in n.cells c.id) before kept own.run keeps
-    ∙ still_content c.content was (is_among still c.id) (kept_run (run_of c.content) kept) (run_of c.content) stays)
+    (ap (λ r. with_run r c.content) runs ∙ put_content c.content was runs_now (run_in n.cells c.id) before kept own.run keeps
+    ∙ still_content c.content was (is_among still c.id) (kept_run runs_now (run_of c.content) kept) (run_of c.content) stays)
 
 pub put_cells : (base : Notebook) (past : List Item) (i : Item) (n : Notebook) (still : List (List ℕ)) → event i ≡ Puts n → are_distinct (ids n.cells) ≡ true → IsStill still n base past
-    → map (written base (i ∷ past)) n.cells ≡ map (put_cell still (book base past).cells) n.cells
-put_cells base past i n still e once s = map_same (Own n.cells) (written base (i ∷ past)) (put_cell still (book base past).cells) (put_one base past i n still e s) n.cells (all_own n.cells once)
+    → map (written base (i ∷ past)) n.cells ≡ map (put_cell still (running base past) (book base past).cells) n.cells
+put_cells base past i n still e once s = map_same (Own n.cells) (written base (i ∷ past)) (put_cell still (running base past) (book base past).cells) (put_one base past i n still e s) n.cells (all_own n.cells once)
 
 -- ---- one cell changed
 
@@ -295,7 +298,7 @@ written_begun base past i w s n e there c =
     let t = target_there cs w there in
     let sources : source base (i ∷ past) c.id ≡ cond (bytes_eq c.id w) s (source base past c.id) = ap (λ v. source_after v cs c.id (source base past c.id)) e ∙ ap (λ q. cond (bytes_eq c.id q) s (source base past c.id)) t in
     let runs : run base (i ∷ past) c.id ≡ cond (bytes_eq c.id w) (started_run n) before =
-    ap (λ v. run_after v cs (current base past) c.id (executed base past c.id) before) e ∙ ap (λ q. cond (bytes_eq c.id q) (started_run n) before) t in
+    ap (λ v. run_after v cs (current base past) (running base past) c.id (executed base past c.id) before) e ∙ ap (λ q. cond (bytes_eq c.id q) (started_run n) before) t in
     ap₂ (cell_of c.id c) sources (ap (λ r. with_run r c.content) runs ∙ begun_with_run (bytes_eq c.id w) n before c.content)
 
 pub begin_there : (base : Notebook) (past : List Item) (i : Item) (w s : List ℕ) (n place : ℕ) (c : Cell) → event i ≡ Begins (Some w) s n → are_distinct (ids (book base past).cells) ≡ true
@@ -360,7 +363,7 @@ written_wrote base past i w o e now c =
     let before = run base past c.id in
     let sources : source base (i ∷ past) c.id ≡ source base past c.id = ap (λ v. source_after v cs c.id (source base past c.id)) e in
     let runs : run base (i ∷ past) c.id ≡ cond (bytes_eq c.id w) (with_output before o) before =
-    ap (λ v. run_after v cs (current base past) c.id (executed base past c.id) before) e ∙ ap (λ q. cond (is_id c.id q) (with_output before o) before) now in
+    ap (λ v. run_after v cs (current base past) (running base past) c.id (executed base past c.id) before) e ∙ ap (λ q. cond (is_id c.id q) (with_output before o) before) now in
     ap₂ (cell_of c.id c) sources (ap (λ r. with_run r c.content) runs ∙ wrote_with_run (bytes_eq c.id w) o before c.content)
 
 wrote_map : (base : Notebook) (past : List Item) (i : Item) (w : List ℕ) (o : Output) → event i ≡ Writes o → current base past ≡ Some w → (book base (i ∷ past)).cells ≡ map (on_write w o) (book base past).cells
@@ -385,7 +388,7 @@ written_alone base past i o e now c =
     let cs = cells base past in
     let before = run base past c.id in
     let sources : source base (i ∷ past) c.id ≡ source base past c.id = ap (λ v. source_after v cs c.id (source base past c.id)) e in
-    let runs : run base (i ∷ past) c.id ≡ before = ap (λ v. run_after v cs (current base past) c.id (executed base past c.id) before) e ∙ ap (λ q. cond (is_id c.id q) (with_output before o) before) now in
+    let runs : run base (i ∷ past) c.id ≡ before = ap (λ v. run_after v cs (current base past) (running base past) c.id (executed base past c.id) before) e ∙ ap (λ q. cond (is_id c.id q) (with_output before o) before) now in
     ap₂ (cell_of c.id c) sources (ap (λ r. with_run r c.content) runs)
 
 pub write_alone : (base : Notebook) (past : List Item) (i : Item) (o : Output) → event i ≡ Writes o → current base past ≡ None → (book base (i ∷ past)).cells ≡ (book base past).cells
@@ -417,7 +420,7 @@ begun_rest base past i wish s n e new (c ∷ ds) h =
     let p = neither (bytes_eq id c.id) (is_among (ids ds) id) h in
     let apart : bytes_eq c.id (target cs wish) ≡ false = ap (bytes_eq c.id) (target_new cs wish new) ∙ swapped c.id id ∙ p.0 in
     let sources : source base (i ∷ past) c.id ≡ source base past c.id = ap (λ v. source_after v cs c.id (source base past c.id)) e ∙ ap (λ b. cond b s (source base past c.id)) apart in
-    let runs : run base (i ∷ past) c.id ≡ before = ap (λ v. run_after v cs (current base past) c.id (executed base past c.id) before) e ∙ ap (λ b. cond b (started_run n) before) apart in
+    let runs : run base (i ∷ past) c.id ≡ before = ap (λ v. run_after v cs (current base past) (running base past) c.id (executed base past c.id) before) e ∙ ap (λ b. cond b (started_run n) before) apart in
     ap₂ (λ y ys. y ∷ ys) (ap₂ (cell_of c.id c) sources (ap (λ r. with_run r c.content) runs)) (begun_rest base past i wish s n e new ds p.1)
 
 begun_last : (base : Notebook) (past : List Item) (i : Item) (wish : Option (List ℕ)) (s : List ℕ) (n : ℕ) → event i ≡ Begins wish s n → is_there (cells base past) wish ≡ false
@@ -428,7 +431,7 @@ begun_last base past i wish s n e new =
     let before = run base past id in
     let same : bytes_eq id (target cs wish) ≡ true = ap (bytes_eq id) (target_new cs wish new) ∙ same_itself id in
     let sources : source base (i ∷ past) id ≡ s = ap (λ v. source_after v cs id (source base past id)) e ∙ ap (λ b. cond b s (source base past id)) same in
-    let runs : run base (i ∷ past) id ≡ started_run n = ap (λ v. run_after v cs (current base past) id (executed base past id) before) e ∙ ap (λ b. cond b (started_run n) before) same in
+    let runs : run base (i ∷ past) id ≡ started_run n = ap (λ v. run_after v cs (current base past) (running base past) id (executed base past id) before) e ∙ ap (λ b. cond b (started_run n) before) same in
     ap₂ (cell_of id (code_cell id [] None)) sources (ap content.Code runs)
 
 map-append-one : (f : Cell → Cell) (xs : List Cell) (x : Cell) → map f (xs ++ x ∷ []) ≡ map f xs ++ f x ∷ []

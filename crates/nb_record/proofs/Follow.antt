@@ -12,16 +12,16 @@ use Rattle.nb_doc.proofs.Among.{swapped}
 use Rattle.nb_record.specs.declared.event.Event.{Event}
 use Rattle.nb_record.specs.declared.event.Event.TheVariants.{Begins, Writes, Puts}
 use Rattle.nb_record.specs.declared.pages.Pages.{Pages}
-use Rattle.nb_record.specs.Book.{Item, event, is_code_at, has_code, is_there, new_id, target, cells, cells_after, current, current_after, executed, executed_after, metadata, metadata_after, written, book}
+use Rattle.nb_record.specs.Book.{Item, event, is_code_at, has_code, is_there, new_id, target, cells, cells_after, current, current_after, lasts, lasts_after, running_by, executed, executed_after, metadata, metadata_after, written, book}
 use Rattle.nb_record.specs.Steps.{begun_cell, fresh_cell, wrote_cell, put_cell}
-use Rattle.nb_record.specs.State.{StandsAt, Follows}
+use Rattle.nb_record.specs.State.{StandsAt, running_in, Follows}
 use Rattle.nb_record.proofs.Books.{ids-book, has_code-book, ids-set, begin_there, begin_new, write_there, write_gone, put_cells, new_is_new, target_there, target_new, or_true, both, neither, not_true}
 
 abbrev pub notebook_of : List Cell → Data → Notebook
 notebook_of cs d = record { cells = cs; metadata = d }
 
-abbrev pub pages_of : List Cell → Data → List (List ℕ) → Option (List ℕ) → Pages
-pages_of cs d ex now = record { notebook = notebook_of cs d; executed = ex; current = now }
+abbrev pub pages_of : List Cell → Data → List (List ℕ) → Option (List ℕ) → Bool → Pages
+pages_of cs d ex now goes = record { notebook = notebook_of cs d; executed = ex; current = now; lasts = goes }
 
 get_code : (xs : List Cell) (i : ℕ) (c : Cell) (w : List ℕ) → slice_get xs i ≡ Some c → is_code_at w c ≡ true → has_code xs w ≡ true
 get_code [] i c w h e = cc
@@ -32,7 +32,7 @@ get_code (x ∷ xs) (suc i) c w h e = ap (λ b. is_code_at w x || b) (get_code x
 
 pub restarts : (p : Pages) (after : List Cell) (ex : List (List ℕ)) (w s : List ℕ) (n place : ℕ) → ((c : Cell) × (slice_get p.notebook.cells place ≡ Some c) × (is_code_at w c ≡ true)) → are_distinct (ids p.notebook.cells) ≡ true
     → ((c : Cell) → slice_get p.notebook.cells place ≡ Some c → after ≡ slice_set p.notebook.cells place (begun_cell s n c)) → ((q : List ℕ) → is_among ex q ≡ (bytes_eq q w || is_among p.executed q))
-    → Follows (Begins (Some w) s n) p (pages_of after p.notebook.metadata ex (Some w))
+    → Follows (Begins (Some w) s n) p (pages_of after p.notebook.metadata ex (Some w) true)
 restarts p after ex w s n place found once set members =
     λ base past i e st.
     let b = book base past in
@@ -53,6 +53,7 @@ restarts p after ex w s n place found once set members =
           members q ∙ ap (λ x. bytes_eq q w || x) (st.executed q)
           ∙ sym (ap (λ v. executed_after v cs q (executed base past q)) e ∙ ap (λ x. bytes_eq q x || executed base past q) t);
       current = sym (ap (λ v. current_after v cs (current base past)) e ∙ ap (λ x. Some x) t);
+      lasts = sym (ap (λ v. lasts_after v (lasts past)) e);
     }
 
 pub restarts_once : (xs after : List Cell) (w s : List ℕ) (n place : ℕ) → ((c : Cell) × (slice_get xs place ≡ Some c) × (is_code_at w c ≡ true)) → are_distinct (ids xs) ≡ true
@@ -74,7 +75,7 @@ length-ids [] = refl
 length-ids (x ∷ xs) = ap suc (length-ids xs)
 
 pub appends : (p : Pages) (after : List Cell) (ex : List (List ℕ)) (wish : Option (List ℕ)) (id s : List ℕ) (n : ℕ) → is_there p.notebook.cells wish ≡ false → length p.notebook.cells < 2 ^ 64 → id ≡ new_id p.notebook.cells wish
-    → after ≡ p.notebook.cells ++ fresh_cell id s n ∷ [] → ((q : List ℕ) → is_among ex q ≡ (bytes_eq q id || is_among p.executed q)) → Follows (Begins wish s n) p (pages_of after p.notebook.metadata ex (Some id))
+    → after ≡ p.notebook.cells ++ fresh_cell id s n ∷ [] → ((q : List ℕ) → is_among ex q ≡ (bytes_eq q id || is_among p.executed q)) → Follows (Begins wish s n) p (pages_of after p.notebook.metadata ex (Some id) true)
 appends p after ex wish id s n gone few named more members =
     λ base past i e st.
     let b = book base past in
@@ -95,6 +96,7 @@ appends p after ex wish id s n gone few named more members =
           members q ∙ ap (λ x. bytes_eq q id || x) (st.executed q)
           ∙ sym (ap (λ v. executed_after v cs q (executed base past q)) e ∙ ap (λ x. bytes_eq q x || executed base past q) t);
       current = sym (ap (λ v. current_after v cs (current base past)) e ∙ ap (λ x. Some x) t);
+      lasts = sym (ap (λ v. lasts_after v (lasts past)) e);
     }
 
 among_end : (xs : List (List ℕ)) (x q : List ℕ) → is_among (xs ++ x ∷ []) q ≡ (is_among xs q || bytes_eq q x)
@@ -133,16 +135,17 @@ write_data : (base : Notebook) (past : List Item) (i : Item) (o : Output) → ev
 write_data base past i o e = ap (λ v. metadata_after v (metadata base past)) e
 
 write_rest : (p : Pages) (after : List Cell) (base : Notebook) (past : List Item) (i : Item) (o : Output) → event i ≡ Writes o → StandsAt p base past → notebook_of after p.notebook.metadata ≡ book base (i ∷ past)
-    → StandsAt (pages_of after p.notebook.metadata p.executed p.current) base (i ∷ past)
+    → StandsAt (pages_of after p.notebook.metadata p.executed p.current p.lasts) base (i ∷ past)
 write_rest p after base past i o e st is = record {
   notebook = is;
   executed = λ q. st.executed q ∙ sym (ap (λ v. executed_after v (cells base past) q (executed base past q)) e);
   current = st.current ∙ sym (ap (λ v. current_after v (cells base past) (current base past)) e);
+  lasts = st.lasts ∙ sym (ap (λ v. lasts_after v (lasts past)) e);
 }
 
 pub wrote_there : {E : Type 0} (p : Pages) (after : List Cell) (w : List ℕ) (o : Output) (place : ℕ) (r : Result (Unit {0}) E) → p.current ≡ Some w → ((c : Cell) × (slice_get p.notebook.cells place ≡ Some c) × (is_code_at w c ≡ true))
     → are_distinct (ids p.notebook.cells) ≡ true → OnOk r ((c : Cell) → slice_get p.notebook.cells place ≡ Some c → after ≡ slice_set p.notebook.cells place (wrote_cell o c))
-    → OnOk r (Follows (Writes o) p (pages_of after p.notebook.metadata p.executed p.current))
+    → OnOk r (Follows (Writes o) p (pages_of after p.notebook.metadata p.executed p.current p.lasts))
 wrote_there p after w o place (Err error) now found once set = tt
 wrote_there p after w o place (Ok done) now found once set =
     λ base past i e st.
@@ -178,28 +181,29 @@ found_as xs ys v w place e f h = (h.0, sym (ap (λ l. slice_get l place) e) ∙ 
 
 -- ---- a put
 
-pub puts : (p : Pages) (after : List Cell) (ex : List (List ℕ)) (n : Notebook) → are_distinct (ids n.cells) ≡ true → after ≡ map (put_cell ex p.notebook.cells) n.cells
-    → ((q : List ℕ) → is_among ex q ≡ (has_code n.cells q && is_among p.executed q)) → Follows (Puts n) p (pages_of after n.metadata ex p.current)
+pub puts : (p : Pages) (after : List Cell) (ex : List (List ℕ)) (n : Notebook) → are_distinct (ids n.cells) ≡ true → after ≡ map (put_cell ex (running_in p) p.notebook.cells) n.cells
+    → ((q : List ℕ) → is_among ex q ≡ (has_code n.cells q && is_among p.executed q)) → Follows (Puts n) p (pages_of after n.metadata ex p.current p.lasts)
 puts p after ex n once are members =
     λ base past i e st.
     let b = book base past in
     let cs = cells base past in
     let still = λ (q : List ℕ). members q ∙ ap (λ x. has_code n.cells q && x) (st.executed q) in
     let is : after ≡ (book base (i ∷ past)).cells =
-    are ∙ ap (λ m. map (put_cell ex m.cells) n.cells) st.notebook ∙ sym (put_cells base past i n ex e once still) ∙ sym (ap (λ v. map (written base (i ∷ past)) (cells_after v cs)) e) in
+    are ∙ ap₂ (λ q m. map (put_cell ex q m.cells) n.cells) (ap₂ running_by st.lasts st.current) st.notebook ∙ sym (put_cells base past i n ex e once still) ∙ sym (ap (λ v. map (written base (i ∷ past)) (cells_after v cs)) e) in
     let facts : metadata base (i ∷ past) ≡ n.metadata = ap (λ v. metadata_after v (metadata base past)) e in
     record {
       notebook = ap₂ notebook_of is (sym facts);
       executed = λ q. still q ∙ sym (ap (λ v. executed_after v cs q (executed base past q)) e);
       current = st.current ∙ sym (ap (λ v. current_after v cs (current base past)) e);
+      lasts = st.lasts ∙ sym (ap (λ v. lasts_after v (lasts past)) e);
     }
 
-ids-put : (ex : List (List ℕ)) (before cs : List Cell) → ids (map (put_cell ex before) cs) ≡ ids cs
-ids-put ex before [] = refl
-ids-put ex before (c ∷ cs) = ap (λ r. c.id ∷ r) (ids-put ex before cs)
+ids-put : (ex : List (List ℕ)) (going : Option (List ℕ)) (before cs : List Cell) → ids (map (put_cell ex going before) cs) ≡ ids cs
+ids-put ex going before [] = refl
+ids-put ex going before (c ∷ cs) = ap (λ r. c.id ∷ r) (ids-put ex going before cs)
 
-pub puts_once : (ex : List (List ℕ)) (before after cs : List Cell) → after ≡ map (put_cell ex before) cs → are_distinct (ids cs) ≡ true → are_distinct (ids after) ≡ true
-puts_once ex before after cs is once = ap (λ l. are_distinct (ids l)) is ∙ ap are_distinct (ids-put ex before cs) ∙ once
+pub puts_once : (ex : List (List ℕ)) (going : Option (List ℕ)) (before after cs : List Cell) → after ≡ map (put_cell ex going before) cs → are_distinct (ids cs) ≡ true → are_distinct (ids after) ≡ true
+puts_once ex going before after cs is once = ap (λ l. are_distinct (ids l)) is ∙ ap are_distinct (ids-put ex going before cs) ∙ once
 
 -- ---- an item is told
 

@@ -1,6 +1,6 @@
 -- A notebook that is recorded stays readable.
-use Rattle.std.proofs.Common.{◌≡◌, ℕ, zero, suc, ◌+◌, ◌<◌, ◌≤◌, ◌^◌, ℤ, List, [], ◌∷◌, ◌++◌, map, length, Bool, true, false, cond, not, ◌&&◌, Option, Some, None, refl, sym, ap, ◌∙◌, subst, arith}
-use Rattle.std.specs.Prelude.{slice_get, slice_set, Result, Ok, Err, OnOk, OnErr}
+use Rattle.std.proofs.Common.{◌≡◌, ℕ, zero, suc, ◌+◌, ◌<◌, ◌≤◌, ◌^◌, List, [], ◌∷◌, ◌++◌, map, length, Bool, true, false, cond, not, ◌&&◌, ◌||◌, Option, Some, None, refl, sym, ap, ◌∙◌, subst, arith}
+use Rattle.std.specs.Prelude.{is_some, slice_get, slice_set, Result, Ok, Err, OnOk, OnErr}
 use Rattle.serde_json.specs.Data.{Data}
 use Rattle.nb_doc.specs.declared.notebook.Notebook.{Notebook}
 use Rattle.nb_doc.specs.declared.notebook.Cell.{Cell}
@@ -12,7 +12,7 @@ use Rattle.nb_doc.specs.declared.notebook.Output.TheVariants as output
 use Rattle.nb_doc.specs.Documents.{Each, ids}
 use Rattle.nb_doc.specs.Ids.{is_allowed, is_among, name_of, least_free}
 use Rattle.nb_doc.proofs.Raised.{least_free-≤, name_allowed}
-use Rattle.nb_record.specs.Book.{is_code_at, new_id, no_run, run_of, run_in, kept_run, with_run}
+use Rattle.nb_record.specs.Book.{is_code_at, is_id, new_id, no_run, run_of, run_in, kept_run, with_run}
 use Rattle.nb_record.specs.Steps.{begun_cell, fresh_cell, add_output, wrote_cell, put_run, put_cell}
 use Rattle.nb_record.specs.Readable.{IsReadableOutput, IsReadableContent, IsReadableCell, IsReadable}
 use Rattle.nb_record.proofs.Books.{both}
@@ -123,36 +123,36 @@ run_in_readable (c ∷ cs) id are = go (is_code_at id c) (run_in_readable cs id 
     go true rest = run_readable c.content are.0.content
     go false rest = rest
 
-kept_readable : (put before : Execution) → Each IsReadableOutput before.outputs → Each IsReadableOutput (kept_run put before).outputs
-kept_readable put before are = go put.execution_count
+kept_readable : (runs : Bool) (put before : Execution) → Each IsReadableOutput before.outputs → Each IsReadableOutput (kept_run runs put before).outputs
+kept_readable runs put before are = go (runs || is_some put.execution_count)
   where
-    go : (count : Option ℤ) → Each IsReadableOutput (kept_run (record { execution_count = count; outputs = put.outputs }) before).outputs
-    go None = tt
-    go (Some n) = are
+    go : (keeps : Bool) → Each IsReadableOutput (cond keeps before no_run).outputs
+    go true = are
+    go false = tt
 
-put_readable_content : (ex : List (List ℕ)) (before : List Cell) (c : Cell) → Each IsReadableCell before → IsReadableCell c → IsReadableContent (put_cell ex before c).content
-put_readable_content ex before c were is = by c.content (run_readable c.content is.content) is.content
+put_readable_content : (ex : List (List ℕ)) (going : Option (List ℕ)) (before : List Cell) (c : Cell) → Each IsReadableCell before → IsReadableCell c → IsReadableContent (put_cell ex going before c).content
+put_readable_content ex going before c were is = by c.content (run_readable c.content is.content) is.content
   where
-    run : (b : Bool) (put : Execution) → Each IsReadableOutput put.outputs → Each IsReadableOutput (cond b (kept_run put (run_in before c.id)) put).outputs
-    run true put are = kept_readable put (run_in before c.id) (run_in_readable before c.id were)
+    run : (b : Bool) (put : Execution) → Each IsReadableOutput put.outputs → Each IsReadableOutput (cond b (kept_run (is_id c.id going) put (run_in before c.id)) put).outputs
+    run true put are = kept_readable (is_id c.id going) put (run_in before c.id) (run_in_readable before c.id were)
     run false put are = are
 
-    by : (x : Content) → Each IsReadableOutput (run_of c.content).outputs → IsReadableContent x → IsReadableContent (with_run (put_run ex before c) x)
+    by : (x : Content) → Each IsReadableOutput (run_of c.content).outputs → IsReadableContent x → IsReadableContent (with_run (put_run ex going before c) x)
     by (content.Code e) are old = run (is_among ex c.id) (run_of c.content) are
     by (content.Markdown a) are old = old
     by (content.Raw a) are old = old
 
-put_readable_cells : (ex : List (List ℕ)) (before cs : List Cell) → Each IsReadableCell before → Each IsReadableCell cs → Each IsReadableCell (map (put_cell ex before) cs)
-put_readable_cells ex before [] were are = tt
-put_readable_cells ex before (c ∷ cs) were are = (
-  record { id = are.0.id; metadata = are.0.metadata; shallow = are.0.shallow; content = put_readable_content ex before c were are.0 },
-  put_readable_cells ex before cs were are.1,
+put_readable_cells : (ex : List (List ℕ)) (going : Option (List ℕ)) (before cs : List Cell) → Each IsReadableCell before → Each IsReadableCell cs → Each IsReadableCell (map (put_cell ex going before) cs)
+put_readable_cells ex going before [] were are = tt
+put_readable_cells ex going before (c ∷ cs) were are = (
+  record { id = are.0.id; metadata = are.0.metadata; shallow = are.0.shallow; content = put_readable_content ex going before c were are.0 },
+  put_readable_cells ex going before cs were are.1,
 )
 
-pub puts_readable : (ex : List (List ℕ)) (before after : List Cell) (n : Notebook) → after ≡ map (put_cell ex before) n.cells → Each IsReadableCell before → IsReadable n → IsReadable (notebook_of after n.metadata)
-puts_readable ex before after n is were new = record {
-  cells = subst (Each IsReadableCell) (sym is) (put_readable_cells ex before n.cells were new.cells);
-  distinct = puts_once ex before after n.cells is new.distinct;
+pub puts_readable : (ex : List (List ℕ)) (going : Option (List ℕ)) (before after : List Cell) (n : Notebook) → after ≡ map (put_cell ex going before) n.cells → Each IsReadableCell before → IsReadable n → IsReadable (notebook_of after n.metadata)
+puts_readable ex going before after n is were new = record {
+  cells = subst (Each IsReadableCell) (sym is) (put_readable_cells ex going before n.cells were new.cells);
+  distinct = puts_once ex going before after n.cells is new.distinct;
   metadata = new.metadata;
   shallow = new.shallow;
 }

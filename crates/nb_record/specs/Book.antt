@@ -2,7 +2,7 @@
 -- The notebook of what a recorder was told: entries, and notebooks that were put. It is defined by questions to the
 -- whole list, newest first. Each question has one line for each thing that may happen, and none looks at a notebook
 -- that was changed step by step.
-use Rattle.std.specs.Prelude.{ℕ, ℤ, pos, List, [], ◌∷◌, ◌++◌, map, codes, Bool, true, false, not, ◌&&◌, ◌||◌, if◌then◌else◌, Option, None, Some, option_and_then}
+use Rattle.std.specs.Prelude.{ℕ, ℤ, pos, List, [], ◌∷◌, ◌++◌, map, codes, Bool, true, false, not, ◌&&◌, ◌||◌, if◌then◌else◌, Option, None, Some, is_some, option_and_then}
 use Rattle.std.specs.List.{list_any}
 use Rattle.std.specs.Str.{bytes_eq}
 use Rattle.serde_json.specs.Data.{Data}
@@ -29,7 +29,7 @@ use Rattle.nb_doc.specs.declared.notebook.Output.TheVariants as output
 use Rattle.nb_doc.specs.Building.{code_cell}
 use Rattle.nb_doc.specs.Documents.{ids}
 use Rattle.nb_record.specs.declared.event.Event.{Event}
-use Rattle.nb_record.specs.declared.event.Event.TheVariants.{Begins, Passes, Writes, Puts, Nothing}
+use Rattle.nb_record.specs.declared.event.Event.TheVariants.{Begins, Passes, Writes, Ends, Puts, Nothing}
 use Rattle.nb_doc.specs.Ids.{is_allowed, is_among, name_of, least_free}
 
 -- what a recorder is told
@@ -71,7 +71,7 @@ event_told m (told.Stream text) = Writes (output.Stream (codes "stdout") text)
 event_told m (told.Error f) = Writes (error_of f)
 event_told m (told.Status state) = Nothing
 event_told m told.InputRequest = Nothing
-event_told m (told.ExecuteReply outcome) = Nothing
+event_told m (told.ExecuteReply outcome) = Ends
 event_told m told.KernelInfoReply = Nothing
 event_told m (told.IsCompleteReply answer) = Nothing
 event_told m (told.CompleteReply cursor) = Nothing
@@ -125,6 +125,7 @@ cells_after (Begins wish source count) cs = if is_there cs wish then cs else cs 
 cells_after (Puts n) cs = n.cells
 cells_after Passes cs = cs
 cells_after (Writes o) cs = cs
+cells_after Ends cs = cs
 cells_after Nothing cs = cs
 
 -- the cells of the last put, and then those that were appended since; what they hold is asked below
@@ -139,6 +140,7 @@ metadata_after (Puts n) d = n.metadata
 metadata_after (Begins wish source count) d = d
 metadata_after Passes d = d
 metadata_after (Writes o) d = d
+metadata_after Ends d = d
 metadata_after Nothing d = d
 
 abbrev pub metadata : Notebook → List Item → Data
@@ -151,6 +153,7 @@ abbrev pub current_after : Event → List Cell → Option (List ℕ) → Option 
 current_after (Begins wish source count) cs id = Some (target cs wish)
 current_after Passes cs id = None
 current_after (Writes o) cs id = id
+current_after Ends cs id = id
 current_after (Puts n) cs id = id
 current_after Nothing cs id = id
 
@@ -163,6 +166,26 @@ abbrev pub is_id : List ℕ → Option (List ℕ) → Bool
 is_id id None = false
 is_id id (Some other) = bytes_eq id other
 
+-- whether it has not ended: the reply of an execute request ends it
+abbrev pub lasts_after : Event → Bool → Bool
+lasts_after (Begins wish source count) before = true
+lasts_after Passes before = true
+lasts_after Ends before = false
+lasts_after (Writes o) before = before
+lasts_after (Puts n) before = before
+lasts_after Nothing before = before
+
+abbrev pub lasts : List Item → Bool
+lasts [] = false
+lasts (i ∷ past) = lasts_after (event i) (lasts past)
+
+-- the id of the cell whose request has begun and not ended, if it is stored
+abbrev pub running_by : Bool → Option (List ℕ) → Option (List ℕ)
+running_by lasts now = if lasts then now else None
+
+abbrev pub running : Notebook → List Item → Option (List ℕ)
+running base items = running_by (lasts items) (current base items)
+
 -- ---- which cells were executed since the recorder began
 
 abbrev pub executed_after : Event → List Cell → List ℕ → Bool → Bool
@@ -170,6 +193,7 @@ executed_after (Begins wish source count) cs id before = bytes_eq id (target cs 
 executed_after (Puts n) cs id before = has_code n.cells id && before
 executed_after Passes cs id before = before
 executed_after (Writes o) cs id before = before
+executed_after Ends cs id before = before
 executed_after Nothing cs id before = before
 
 -- whether the code cell of that id was; one that a put leaves out is another cell when it comes back
@@ -188,6 +212,7 @@ source_after (Begins wish source count) cs id before = if bytes_eq id (target cs
 source_after (Puts n) cs id before = source_in n.cells id
 source_after Passes cs id before = before
 source_after (Writes o) cs id before = before
+source_after Ends cs id before = before
 source_after Nothing cs id before = before
 
 -- the last that a put or a cell that began gave
@@ -212,27 +237,28 @@ run_in (c ∷ cs) id = if is_code_at id c then run_of c.content else run_in cs i
 abbrev pub with_output : Execution → Output → Execution
 with_output e o = record { execution_count = e.execution_count; outputs = e.outputs ++ o ∷ [] }
 
-abbrev pub kept_run : Execution → Execution → Execution
-kept_run put before = for_count put.execution_count before
-  where
-    for_count : Option ℤ → Execution → Execution
-    for_count None before = no_run
-    for_count (Some n) before = before
+-- what an executed cell keeps at a put: all that it has, but nothing where the put has a null count and the cell does not run
+abbrev pub kept_run : Bool → Execution → Execution → Execution
+kept_run runs put before = if runs || is_some put.execution_count then before else no_run
 
-abbrev pub run_after : Event → List Cell → Option (List ℕ) → List ℕ → Bool → Execution → Execution
+-- `now` is the cell of the request that began last, and `going` the same while that request has not ended
+abbrev pub run_after : Event → List Cell → Option (List ℕ) → Option (List ℕ) → List ℕ → Bool → Execution → Execution
 -- a cell that begins sets its own
-run_after (Begins wish source count) cs now id executed before =
+run_after (Begins wish source count) cs now going id executed before =
     if bytes_eq id (target cs wish) then record { execution_count = Some (pos count); outputs = [] } else before
-run_after (Writes o) cs now id executed before = if is_id id now then with_output before o else before
--- a put sets that of a cell that was not executed, and takes away that of an executed one by a null count
-run_after (Puts n) cs now id executed before = if executed then kept_run (run_in n.cells id) before else run_in n.cells id
-run_after Passes cs now id executed before = before
-run_after Nothing cs now id executed before = before
+run_after (Writes o) cs now going id executed before = if is_id id now then with_output before o else before
+-- a put sets that of a cell that was not executed, and takes away that of an executed one by a null count, unless it runs
+run_after (Puts n) cs now going id executed before =
+    if executed then kept_run (is_id id going) (run_in n.cells id) before else run_in n.cells id
+run_after Passes cs now going id executed before = before
+run_after Ends cs now going id executed before = before
+run_after Nothing cs now going id executed before = before
 
 -- the count and the outputs of the code cell of that id
 abbrev pub run : Notebook → List Item → List ℕ → Execution
 run base [] id = run_in base.cells id
-run base (i ∷ past) id = run_after (event i) (cells base past) (current base past) id (executed base past id) (run base past id)
+run base (i ∷ past) id =
+    run_after (event i) (cells base past) (current base past) (running base past) id (executed base past id) (run base past id)
 
 -- ---- the book
 

@@ -15,9 +15,9 @@ use Rattle.nb_doc.specs.declared.notebook.Notebook.{Notebook}
 use Rattle.nb_doc.specs.Ids.{is_among}
 use Rattle.nb_doc.specs.Writing.{notebook_text}
 use Rattle.nb_record.specs.declared.event.Event.{Event}
-use Rattle.nb_record.specs.declared.event.Event.TheVariants.{Begins, Passes, Writes, Puts, Nothing}
+use Rattle.nb_record.specs.declared.event.Event.TheVariants.{Begins, Passes, Writes, Ends, Puts, Nothing}
 use Rattle.nb_record.specs.declared.pages.Pages.{Pages}
-use Rattle.nb_record.specs.Book.{Item, Shown, event, book, executed, current, is_stored}
+use Rattle.nb_record.specs.Book.{Item, Shown, event, book, executed, current, lasts, running_by, is_stored}
 use Rattle.nb_record.specs.Readable.{IsReadableOutput, IsReadable}
 
 pub record RecorderState : Type 0 where
@@ -29,6 +29,11 @@ pub record StandsAt (p : Pages) (base : Notebook) (items : List Item) : Type 0 w
   pub notebook : p.notebook ≡ book base items
   pub executed : (id : List ℕ) → is_among p.executed id ≡ executed base items id
   pub current : p.current ≡ current base items
+  pub lasts : p.lasts ≡ lasts items
+
+-- the id of the cell that runs
+abbrev pub running_in : Pages → Option (List ℕ)
+running_in p = running_by p.lasts p.current
 
 -- The pages were told an item: where they held some items over a notebook, they now hold these and the new one.
 abbrev pub IsTold : Item → Pages → Pages → Type 0
@@ -75,4 +80,5 @@ IsReadableEvent (Puts n) = IsReadable n
 IsReadableEvent (Writes o) = IsReadableOutput o
 IsReadableEvent (Begins wish source count) = Unit {0}
 IsReadableEvent Passes = Unit {0}
+IsReadableEvent Ends = Unit {0}
 IsReadableEvent Nothing = Unit {0}

@@ -7,7 +7,7 @@ use Rattle.nb_doc.specs.declared.notebook.Content.TheVariants as content
 use Rattle.nb_doc.specs.declared.notebook.Execution.{Execution}
 use Rattle.nb_doc.specs.declared.notebook.Output.{Output}
 use Rattle.nb_doc.specs.Ids.{is_among}
-use Rattle.nb_record.specs.Book.{has_code, is_code_at, run_of, run_in, with_run, with_output, kept_run}
+use Rattle.nb_record.specs.Book.{has_code, is_code_at, run_of, run_in, with_run, with_output, is_id, kept_run}
 
 -- the code cell of that id stands at this place, or there is none
 abbrev pub IsFound : List Cell → List ℕ → Option ℕ → Type 0
@@ -32,9 +32,11 @@ add_output o (content.Raw a) = content.Raw a
 abbrev pub wrote_cell : Output → Cell → Cell
 wrote_cell o c = record { id = c.id; metadata = c.metadata; source = c.source; content = add_output o c.content }
 
--- the run of a cell that is put, where these cells were executed and stood there before
-abbrev pub put_run : List (List ℕ) → List Cell → Cell → Execution
-put_run still before c = if is_among still c.id then kept_run (run_of c.content) (run_in before c.id) else run_of c.content
+-- the run of a cell that is put, where these cells were executed, one of them perhaps runs, and these stood there before
+abbrev pub put_run : List (List ℕ) → Option (List ℕ) → List Cell → Cell → Execution
+put_run still going before c =
+    if is_among still c.id then kept_run (is_id c.id going) (run_of c.content) (run_in before c.id) else run_of c.content
 
-abbrev pub put_cell : List (List ℕ) → List Cell → Cell → Cell
-put_cell still before c = record { id = c.id; metadata = c.metadata; source = c.source; content = with_run (put_run still before c) c.content }
+abbrev pub put_cell : List (List ℕ) → Option (List ℕ) → List Cell → Cell → Cell
+put_cell still going before c =
+    record { id = c.id; metadata = c.metadata; source = c.source; content = with_run (put_run still going before c) c.content }

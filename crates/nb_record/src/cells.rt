@@ -1,6 +1,6 @@
 //! The cells of a notebook that is recorded.
 
-ghost use Rattle.std.specs.Prelude.{◌≡◌, ◌<◌, ◌^◌, ℕ, ◌&&◌, true, pos, [], List, map, length, slice_get, slice_set, IfOk, OnOk, OnErr};
+ghost use Rattle.std.specs.Prelude.{◌≡◌, ◌<◌, ◌^◌, true, [], length, slice_get, slice_set, IfOk, OnOk, OnErr};
 ghost use Rattle.nb_doc.specs.declared.notebook.Cell.{Cell};
 ghost use Rattle.nb_doc.specs.declared.notebook.Content.TheVariants.{Code as CodeContent};
 ghost use Rattle.nb_doc.specs.Documents.{ids};
@@ -9,7 +9,7 @@ ghost use Rattle.nb_record.specs.Book.{has_code, is_code_at, new_id, run_in, run
 ghost use Rattle.nb_record.specs.Steps.{started_run, begun_cell, fresh_cell, add_output, wrote_cell, put_cell, IsFound};
 
 use json_form::{Json, Text, Whole};
-use nb_doc::{Cell, Content, Execution, Listed, Names, Output, free_name, is_allowed_id};
+use nb_doc::{Cell, Content, Execution, Listed, Output, free_name, is_allowed_id};
 use std::alloc::{AllocError, Global};
 
 /// Where the code cell of that id stands.
@@ -178,105 +178,4 @@ fn appended(content: Content, output: Output) -> (Content, Result<(), AllocError
         }
         other => (other, Ok(())),
     }
-}
-
-/// The executed code cells that are code cells of a notebook that is put, too.
-pub(crate) fn still_executed(
-    alloc: Global,
-    executed: &Names,
-    cells: &[Cell],
-) -> Result<Names, AllocError>
-    ensures { IfOk result (λ still. (id : List ℕ)
-        → is_among still id ≡ (has_code cells.now id && is_among executed.now id)) }
-{
-    let mut still = Names::empty(alloc);
-    for cell in cells {
-        let id = cell.id.as_str();
-        if matches!(cell.content, Content::Code(_)) && executed.contains(id) {
-            still.add(alloc, id)?;
-        }
-    }
-    Ok(still)
-}
-
-/// The cells of a notebook that is put, where those of these ids keep what their runs left.
-pub(crate) fn kept_cells(
-    alloc: Global,
-    still: &Names,
-    before: &[Cell],
-    cells: Listed<Cell>,
-) -> Result<Listed<Cell>, AllocError>
-    ensures { IfOk result (λ kept. kept ≡ map (put_cell still.now before.now) cells) }
-{
-    let mut kept = Vec::with_capacity(alloc, cells.as_slice().len())?;
-    for cell in cells.into_vec() {
-        let put = kept_cell(alloc, still, before, cell)?;
-        kept.push(put)?;
-    }
-    Ok(Listed::new(kept))
-}
-
-fn kept_cell(alloc: Global, still: &Names, before: &[Cell], cell: Cell) -> Result<Cell, AllocError>
-    ensures { IfOk result (λ c. c ≡ put_cell still.now before.now cell) }
-{
-    let Cell {
-        id,
-        metadata,
-        source,
-        content,
-    } = cell;
-    let content = if still.contains(id.as_str()) {
-        kept_content(alloc, before, id.as_str(), content)?
-    } else {
-        content
-    };
-    Ok(Cell {
-        id,
-        metadata,
-        source,
-        content,
-    })
-}
-
-fn kept_content(
-    alloc: Global,
-    before: &[Cell],
-    id: &str,
-    content: Content,
-) -> Result<Content, AllocError>
-    ensures { IfOk result (λ c. c ≡ with_run (kept_run (run_of content) (run_in before.now id.now)) content) }
-{
-    match content {
-        Content::Code(execution) => {
-            let run = match execution.execution_count {
-                None => no_run(alloc),
-                Some(_) => run_at(alloc, before, id)?,
-            };
-            Ok(Content::Code(run))
-        }
-        other => Ok(other),
-    }
-}
-
-fn no_run(alloc: Global) -> Execution
-    ensures { result ≡ empty_run }
-{
-    Execution {
-        execution_count: None,
-        outputs: Listed::empty(alloc),
-    }
-}
-
-/// What the run of the code cell of that id left.
-fn run_at(alloc: Global, cells: &[Cell], id: &str) -> Result<Execution, AllocError>
-    ensures { IfOk result (λ e. e ≡ run_in cells.now id.now) }
-{
-    for cell in cells {
-        if let Content::Code(execution) = &cell.content {
-            if id == cell.id.as_str() {
-                return execution.copy(alloc);
-            }
-        }
-    }
-    Ok(no_run(alloc))
 }

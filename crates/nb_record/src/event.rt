@@ -26,6 +26,8 @@ pub enum Event {
     Passes,
     /// The cell that began last writes.
     Writes(Output),
+    /// The cell that began last has ended.
+    Ends,
     Puts(Notebook),
     Nothing,
 }
@@ -59,6 +61,7 @@ fn told(alloc: Global, request: &Message, output: &ToldOutput) -> Result<Event, 
             text.as_str(),
         )?)),
         ToldOutput::Error(failure) => Ok(Event::Writes(error(alloc, failure)?)),
+        ToldOutput::ExecuteReply(_) => Ok(Event::Ends),
         _ => Ok(Event::Nothing),
     }
 }

@@ -3,6 +3,7 @@
 
 mod cells;
 mod event;
+mod keeping;
 mod pages;
 mod recorder;
 

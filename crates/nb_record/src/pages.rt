@@ -7,19 +7,36 @@ ghost use Rattle.nb_record.specs.Book.{is_code_at, is_there};
 ghost use Rattle.nb_record.specs.Readable.{IsReadableOutput, IsReadable};
 ghost use Rattle.nb_record.specs.State.{IsReadableEvent, Follows};
 
-use crate::cells::{begin_at, code_place, fresh, id_for, kept_cells, still_executed, write_at};
+use crate::cells::{begin_at, code_place, fresh, id_for, write_at};
 use crate::event::Event;
+use crate::keeping::{kept_cells, still_executed};
 use json_form::Text;
 use nb_doc::{Names, Notebook, Output};
 use std::alloc::{AllocError, Global};
 
-/// The notebook, the ids of the code cells that were executed since the recorder began, and the id of the cell that
-/// the request which began last was begun for, if it is stored.
+/// The notebook, the ids of the code cells that were executed since the recorder began, the id of the cell that the
+/// request which began last was begun for, if it is stored, and whether that request has not ended.
 #[derive(Drop)]
 pub struct Pages {
     pub(crate) notebook: Notebook,
     pub(crate) executed: Names,
     pub(crate) current: Option<Text>,
+    pub(crate) lasts: bool,
+}
+
+impl Pages {
+    ghost use Rattle.nb_record.specs.Book.{is_id};
+    ghost use Rattle.nb_record.specs.State.{running_in};
+
+    /// Whether the cell of that id runs.
+    pub(crate) fn runs(&self, id: &str) -> bool
+        ensures { result ≡ is_id id.now (running_in self.now) }
+    {
+        match &self.current {
+            None => false,
+            Some(current) => self.lasts && id == current.as_str(),
+        }
+    }
 }
 
 /// An event happens. Where there is no memory for it, nothing has changed.
@@ -38,9 +55,14 @@ pub(crate) fn take(alloc: Global, pages: &mut Pages, event: Event) -> Result<(),
         } => begin(alloc, pages, wish, source, count),
         Event::Passes => {
             pages.current = None;
+            pages.lasts = true;
             Ok(())
         }
         Event::Writes(output) => write(alloc, pages, output),
+        Event::Ends => {
+            pages.lasts = false;
+            Ok(())
+        }
         Event::Puts(notebook) => put(alloc, pages, notebook),
         Event::Nothing => Ok(()),
     }
@@ -85,6 +107,7 @@ fn restart(
     pages.executed.add(alloc, id.as_str())?;
     begin_at(alloc, &mut pages.notebook.cells, place, source, count);
     pages.current = Some(id);
+    pages.lasts = true;
     Ok(())
 }
 
@@ -110,6 +133,7 @@ fn append(
         return Err(error);
     }
     pages.current = Some(id);
+    pages.lasts = true;
     Ok(())
 }
 
@@ -140,7 +164,7 @@ fn put(alloc: Global, pages: &mut Pages, notebook: Notebook) -> Result<(), Alloc
 {
     let still = still_executed(alloc, &pages.executed, notebook.cells.as_slice())?;
     let Notebook { cells, metadata } = notebook;
-    let cells = kept_cells(alloc, &still, pages.notebook.cells.as_slice(), cells)?;
+    let cells = kept_cells(alloc, &still, pages, cells)?;
     pages.notebook = Notebook { cells, metadata };
     pages.executed = still;
     Ok(())

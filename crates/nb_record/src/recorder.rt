@@ -64,6 +64,7 @@ impl Recorder {
             notebook,
             executed: Names::empty(alloc),
             current: None,
+            lasts: false,
         };
         Recorder { alloc, path, pages }
     }

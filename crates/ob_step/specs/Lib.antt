@@ -1,3 +1,4 @@
+pub mod Written
 pub mod States
 pub mod Rooms
 pub mod Needs

@@ -6,6 +6,7 @@ mod input;
 pub mod jumps;
 pub mod objects;
 mod operands;
+pub mod output;
 mod places;
 pub mod state;
 pub mod step;

@@ -1,5 +1,6 @@
 // What a machine has between two instructions.
 
+use crate::output::Output;
 use ob_code::instr::{Frame, Name};
 use ob_inout::LineBuffer;
 use ob_mean::TrapKind;
@@ -13,7 +14,7 @@ pub struct State {
     pub names: Vec<Name>,
     pub frames: Vec<Frame>,
     pub cells: Vec<i32>,
-    pub written: String,
+    pub written: Output,
     pub input: LineBuffer,
 }
 

@@ -97,9 +97,9 @@ pub fn relate_texts(
     Step::Moved
 }
 
-// How many bytes a text has that is written.
+/// How many bytes a text has that is written.
 #[tactic(auto, unfolding(ob_inout::specs::Writing::char_text))]
-fn text_size(row: &[i32]) -> usize
+pub fn text_size(row: &[i32]) -> usize
     ensures { result ≡ length (string_text (map texts.character row.now)) }
 {
     let mut size = 0;
@@ -113,13 +113,14 @@ fn text_size(row: &[i32]) -> usize
     size
 }
 
-// Writes the text of a row. Where memory runs out the output is unchanged.
+/// Writes the text of a row, which has so many bytes. Where memory runs out the output is unchanged.
 #[tactic(auto, unfolding(ob_inout::specs::Writing::char_text))]
-pub fn write_text(output: &mut String, row: &[i32]) -> Result<(), AllocError>
+pub fn write_text(output: &mut String, row: &[i32], size: usize) -> Result<(), AllocError>
+    requires { size ≡ length (string_text (map texts.character row.now)) }
     ensures ok { OnOk result (string_bytes output.new ≡ string_bytes output.old ++ string_text (map texts.character row.now)) }
     ensures err { OnErr result (string_bytes output.new ≡ string_bytes output.old) }
 {
-    output.reserve(text_size(row))?;
+    output.reserve(size)?;
     for i in 0..row.len() {
         let c = character_at(row, i);
         if c == 0 {

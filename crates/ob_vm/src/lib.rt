@@ -9,4 +9,5 @@ mod run;
 
 pub use image::Image;
 pub use machine::{Machine, Room};
+pub use ob_step::output::MOST_OUTPUT;
 pub use run::Turned;

@@ -5,6 +5,7 @@ ghost use Rattle.ob_inout.specs.Reading.{given, opened};
 ghost use Rattle.ob_code.specs.Linked.{all_cells};
 ghost use Rattle.ob_code.specs.Machine as spec;
 ghost use Rattle.ob_code.specs.Kinds.{IsMeasured};
+ghost use Rattle.ob_step.specs.Written.{most_output};
 ghost use Rattle.ob_vm.specs.Images.{AsksFor, CanRun, HasTakenLine, ImageState, IsOf, IsRoomFor, IsRoomIn, WhereAsked, machine_config};
 ghost use Rattle.ob_vm.specs.Slices.{SliceDone};
 
@@ -13,6 +14,7 @@ use crate::run::{Turned, run_quickly};
 use ob_code::checked::Checked;
 use ob_code::instr::{CodeModule, Frame, Name, Procedure};
 use ob_inout::LineBuffer;
+use ob_step::output::Output;
 use ob_step::state::State;
 use std::alloc::{AllocError, Global};
 use std::marker::Model;
@@ -112,6 +114,7 @@ impl Machine {
         ensures fits { IsOf image.now result }
         ensures begins { machine_config image.now result ≡ spec.start image.now.code home (record { cells = image.now.cells; written = []; input = opened }) }
         ensures used { result.used ≡ 0 }
+        ensures silent { result.in_all ≡ 0 }
     {
         let Room { stack, names } = room;
         let procedures = &image.module(home).code.procedures;
@@ -128,7 +131,7 @@ impl Machine {
                 names,
                 frames: Vec::new(alloc),
                 cells: Vec::new(alloc),
-                written: String::new(alloc),
+                written: Output::new(alloc),
                 input: LineBuffer::new(alloc),
             },
             used: 0,
@@ -147,6 +150,7 @@ impl Machine {
         ensures fits { IsOf image.now self.new }
         ensures taken { OnOk result (HasTakenLine image.now self.old (option_copied line.entry) self.new) }
         ensures used { self.new.used ≡ self.old.used }
+        ensures in_all { self.new.in_all ≡ self.old.in_all }
         ensures none { option_copied line.entry ≡ None → IsOk result }
         ensures err { OnErr result (self.new ≡ self.old) }
     {
@@ -157,13 +161,15 @@ impl Machine {
 
     /// Goes on by at most n turns, and by no more than leave 2^64 - 1 in all. The image is the one that the machine was
     /// started with, as its last call left it. `NoMemory` stands before a turn that enters no body, and nothing of that
-    /// turn is done; a later call goes on there. What has ended or trapped stays so, and what needs a line until one is given.
+    /// turn is done; a later call goes on there. It stands also before a text of Out with which the machine would have written more
+    /// bytes in all than `MOST_OUTPUT`. What has ended or trapped stays so, and what needs a line until one is given.
     pub fn turns(&mut self, image: &mut Image, n: u64) -> Turned
         requires { IsOf image.old self.old }
         ensures fits { IsOf image.new self.new }
         ensures code { image.new.code ≡ image.old.code }
         ensures may_run { image.new.may_run ≡ image.old.may_run }
         ensures asks { WhereAsked result image.new self.new }
+        ensures limit { self.new.in_all ≤ most_output }
         ensures does { (k : ℕ) × (self.new.used ≡ self.old.used + k)
             × SliceDone image.old.code (machine_config image.old self.old) (machine_config image.new self.new) (min n (2 ^ 64 - 1 - self.old.used)) result k }
     {
@@ -172,6 +178,7 @@ impl Machine {
         let slice = run_quickly(&image.modules, &mut image.quick, &mut self.state, most);
         mem::swap(&mut image.cells, &mut self.state.cells);
         self.used += slice.used;
+        let _in_all = self.state.written.in_all();
         slice.turned
     }
 
@@ -190,7 +197,6 @@ impl Machine {
         ensures fits { (i : ImageState) → IsOf i self.old → IsOf i self.new }
         ensures asks { (i : ImageState) → AsksFor i self.old → AsksFor i self.new }
     {
-        let alloc = *self.state.stack.allocator();
-        mem::replace(&mut self.state.written, String::new(alloc))
+        self.state.written.take()
     }
 }

@@ -40,6 +40,29 @@ fn a_put_is_the_recorders(rt: HostRuntime) -> Result<(), Fail> {
     Ok(())
 }
 
+const PUT_OF_ANOTHER_DATE: &str =
+    r#"PUT /api/contents/n.ipynb {"type":"notebook","last_modified":"2001-09-08T01:46:40.123456Z","content":{"cells":[],"metadata":{},"nbformat":4,"nbformat_minor":5}}"#;
+
+// The recorder's notebook has the date of its last put or save.
+#[test]
+fn a_put_of_another_date_is_not_the_recorders(rt: HostRuntime) -> Result<(), Fail> {
+    let alloc = rt.alloc();
+    let mut server = start(alloc)?;
+    let _ = asked(&rt, alloc, &mut server, SESSION)?;
+    let _ = asked(&rt, alloc, &mut server, PUT)?;
+    let refused = asked(&rt, alloc, &mut server, PUT_OF_ANOTHER_DATE)?;
+    assert_eq!(rt; refused.as_str(), "409 Conflict\n");
+    let kept = server
+        .manager
+        .tables
+        .recordings
+        .first()
+        .ok_or("a recorder")?;
+    assert_eq!(rt; kept.recorder.notebook().cells.as_slice().len(), 1);
+    assert_eq!(rt; kept.due, false);
+    Ok(())
+}
+
 // The recorder of a file that is deleted goes, and its session stays.
 #[test]
 fn a_deleted_file_has_no_recorder(rt: HostRuntime) -> Result<(), Fail> {

@@ -182,6 +182,58 @@ fn refusals_of_a_put_in_order(rt: HostRuntime) -> Result<(), Fail> {
     assert_play(&rt, REFUSALS_OF_A_PUT_IN_ORDER)
 }
 
+const DATES_OF_PUTS: &str =
+    r#"> PUT /api/contents/a.txt {"content":"1","format":"text","last_modified":"x","type":"file"}
+201 Created {"content":null,"created":"2001-09-09T01:46:40.123456Z","format":null,"last_modified":"2001-09-09T01:46:40.123456Z","mimetype":null,"name":"a.txt","path":"a.txt","type":"file","writable":true}
+-- That of another put, and of none.
+> PUT /api/contents/a.txt {"content":"2","format":"text","last_modified":"x","type":"file"}
+409 Conflict
+> PUT /api/contents/a.txt {"content":"2","format":"text","last_modified":"","type":"file"}
+409 Conflict
+> PUT /api/contents/a.txt {"content":"2","format":"text","last_modified":"1970-01-01T00:00:00.000000Z","type":"file"}
+409 Conflict
+? a.txt
+"1"
+! a day goes by
+> PUT /api/contents/a.txt {"content":"2","format":"text","last_modified":"2001-09-09T01:46:40.123456Z","type":"file"}
+200 OK {"content":null,"created":"2001-09-10T01:46:40.123456Z","format":null,"last_modified":"2001-09-10T01:46:40.123456Z","mimetype":null,"name":"a.txt","path":"a.txt","type":"file","writable":true}
+> PUT /api/contents/a.txt {"content":"3","format":"text","last_modified":"2001-09-09T01:46:40.123456Z","type":"file"}
+409 Conflict
+> PUT /api/contents/a.txt {"content":"3","format":"text","last_modified":"2001-09-10T01:46:40.123456Z","type":"file"}
+200 OK {"content":null,"created":"2001-09-10T01:46:40.123456Z","format":null,"last_modified":"2001-09-10T01:46:40.123456Z","mimetype":null,"name":"a.txt","path":"a.txt","type":"file","writable":true}
+-- A null field counts as missing; a field of another kind is a bad one.
+> PUT /api/contents/a.txt {"content":"4","format":"text","last_modified":null,"type":"file"}
+200 OK {"content":null,"created":"2001-09-10T01:46:40.123456Z","format":null,"last_modified":"2001-09-10T01:46:40.123456Z","mimetype":null,"name":"a.txt","path":"a.txt","type":"file","writable":true}
+> PUT /api/contents/a.txt {"content":"5","format":"text","last_modified":1,"type":"file"}
+400 Bad Request
+> PUT /api/contents/a.txt {"content":"5","format":"text","last_modified":{},"type":"file"}
+400 Bad Request
+? a.txt
+"4"
+-- Where nothing is there, nothing is asked.
+> PUT /api/contents/n.ipynb {"content":{"cells":[],"metadata":{},"nbformat":4,"nbformat_minor":5},"last_modified":1,"type":"notebook"}
+400 Bad Request
+> PUT /api/contents/n.ipynb {"content":{"cells":[],"metadata":{},"nbformat":4,"nbformat_minor":5},"last_modified":"x","type":"notebook"}
+201 Created {"content":null,"created":"2001-09-10T01:46:40.123456Z","format":null,"last_modified":"2001-09-10T01:46:40.123456Z","mimetype":null,"name":"n.ipynb","path":"n.ipynb","type":"notebook","writable":true}
+> PUT /api/contents/n.ipynb {"content":{"cells":[],"metadata":{},"nbformat":4,"nbformat_minor":5},"last_modified":"x","type":"notebook"}
+409 Conflict
+-- A file of the start has its date; the path comes before the date, and the date before what the shelf refuses.
+> PUT /api/contents/ {"last_modified":"x","type":"directory"}
+409 Conflict
+> PUT /api/contents/ {"last_modified":"1970-01-01T00:00:00.000000Z","type":"directory"}
+400 Bad Request
+> PUT /api/contents/x/../a.txt {"content":"5","format":"text","last_modified":"x","type":"file"}
+400 Bad Request
+> PUT /api/contents/x/y {"content":"5","format":"text","last_modified":"x","type":"file"}
+404 Not Found
+"#;
+
+// A put over what was last put at another date than the request says changes nothing.
+#[test]
+fn dates_of_puts(rt: HostRuntime) -> Result<(), Fail> {
+    assert_play(&rt, DATES_OF_PUTS)
+}
+
 const BAD_PATHS: &str = r#"> PUT /api/contents/a%2Fb {"type":"file","format":"text","content":""}
 400 Bad Request
 > PUT /api/contents/a%2fb {"type":"file","format":"text","content":""}

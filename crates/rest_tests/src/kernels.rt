@@ -29,6 +29,8 @@ the page
 404 Not Found
 > GET /api/sessions/x/y
 404 Not Found
+> GET /api/shutdown/
+404 Not Found
 > GET /api/x
 404 Not Found
 -- The method comes before the kernel, the session and the body.
@@ -37,6 +39,12 @@ the page
 > HEAD /
 405 Method Not Allowed
 > POST /api
+405 Method Not Allowed
+> GET /api/shutdown
+405 Method Not Allowed
+> PUT /api/shutdown {
+405 Method Not Allowed
+> DELETE /api/shutdown
 405 Method Not Allowed
 > DELETE /api/kernelspecs
 405 Method Not Allowed
@@ -109,6 +117,22 @@ channels of 00000000-0000-4001-a222-222222222222
 #[test]
 fn kernels_are_made_told_and_ended(rt: HostRuntime) -> Result<(), Fail> {
     assert_play(&rt, KERNELS_ARE_MADE_TOLD_AND_ENDED)
+}
+
+const THE_SERVER_IS_TO_STOP: &str = r#"> POST /api/kernels
+201 Created at /api/kernels/00000000-0000-4001-a222-222222222222 {"connections":0,"execution_state":"idle","id":"00000000-0000-4001-a222-222222222222","last_activity":"2001-09-09T01:46:40.123456Z","name":"oberon"}
+* begin 00000000-0000-4001-a222-222222222222
+-- The body is not read.
+> POST /api/shutdown {
+the server stops
+-- The kernels end once that is answered, and not by it.
+> GET /api/kernels
+200 OK [{"connections":0,"execution_state":"idle","id":"00000000-0000-4001-a222-222222222222","last_activity":"2001-09-09T01:46:40.123456Z","name":"oberon"}]
+"#;
+
+#[test]
+fn the_server_is_to_stop(rt: HostRuntime) -> Result<(), Fail> {
+    assert_play(&rt, THE_SERVER_IS_TO_STOP)
 }
 
 const BODIES_OF_NEW_KERNELS: &str = r#"> POST /api/kernels {"name":"python"}

@@ -86,6 +86,7 @@ pub(crate) fn answer<R: Abort>(
         Answer::Ends(id) => ended(alloc, server, id),
         Answer::Reply(response) => written(alloc, &response),
         Answer::Page => Ok(String::from_str(alloc, "the page")?),
+        Answer::Stops => Ok(String::from_str(alloc, "the server stops")?),
     }
 }
 

@@ -78,7 +78,7 @@ fn put(rt: &HostRuntime, recorder: &mut Recorder, count: &str) -> Result<(), Fai
     Ok(())
 }
 
-/// Runs a cell with this metadata.
+/// Runs a cell with this metadata to its end.
 fn run_cell(
     rt: &HostRuntime,
     recorder: &mut Recorder,
@@ -87,7 +87,8 @@ fn run_cell(
     text: &str,
 ) -> Result<(), Fail> {
     let request = request(rt, "", metadata)?;
-    run(rt, recorder, &request, count, text)
+    run(rt, recorder, &request, count, text)?;
+    show(recorder, &request, Output::done_reply(count))
 }
 
 fn expect_cells_of_put(rt: &impl Abort, cells: &[Cell]) {
@@ -124,6 +125,47 @@ fn keeps_what_ran_at_a_put(rt: HostRuntime) -> Result<(), Fail> {
     put(&rt, &mut recorder, "null")?;
     assert!(rt; shows(&rt, &recorder, "\"execution_count\": null")?);
     assert!(rt; !shows(&rt, &recorder, "42")?);
+    Ok(())
+}
+
+// The cell c1 has the count 1 and these eight lines.
+const EIGHT_LINES: &str =
+    "      \"execution_count\": 1,\n      \"id\": \"c1\",\n      \"metadata\": {},\n      \"outputs\": [\n        {\n          \"name\": \"stdout\",\n          \"output_type\": \"stream\",\n          \"text\": [\n            \"1\\n\",\n            \"2\\n\",\n            \"3\\n\",\n            \"4\\n\",\n            \"5\\n\",\n            \"6\\n\",\n            \"7\\n\",\n            \"8\\n\"\n          ]\n        }\n      ],\n";
+
+// A put with a null count comes after the fourth line of eight.
+#[test]
+fn keeps_a_cell_that_runs_at_a_put(rt: HostRuntime) -> Result<(), Fail> {
+    let mut recorder = recorder(&rt)?;
+    let request = request(&rt, "", "{\"cellId\":\"c1\"}")?;
+    run(&rt, &mut recorder, &request, 1, "1\n2\n3\n4\n")?;
+    put(&rt, &mut recorder, "null")?;
+    let more = Output::stream(rt.alloc(), "5\n6\n7\n8\n")?;
+    show(&mut recorder, &request, more)?;
+    assert!(rt; shows(&rt, &recorder, EIGHT_LINES)?);
+    // With the reply the cell has ended.
+    show(&mut recorder, &request, Output::done_reply(1))?;
+    assert!(rt; shows(&rt, &recorder, EIGHT_LINES)?);
+    put(&rt, &mut recorder, "null")?;
+    assert!(rt; !shows(&rt, &recorder, "\"execution_count\": 1")?);
+    assert!(rt; !shows(&rt, &recorder, "stdout")?);
+    Ok(())
+}
+
+// Another cell runs, which is stored or not.
+#[test]
+fn empties_a_cell_while_another_runs(rt: HostRuntime) -> Result<(), Fail> {
+    let mut recorder = recorder(&rt)?;
+    for (fields, metadata) in [
+        ("", "{\"cellId\":\"c2\"}"),
+        (",\"store_history\":false", "{}"),
+    ] {
+        run_cell(&rt, &mut recorder, "{\"cellId\":\"c1\"}", 1, "1\n")?;
+        assert!(rt; shows(&rt, &recorder, "stdout")?);
+        let other = request(&rt, fields, metadata)?;
+        run(&rt, &mut recorder, &other, 2, "2\n")?;
+        put(&rt, &mut recorder, "null")?;
+        assert!(rt; !shows(&rt, &recorder, "stdout")?);
+    }
     Ok(())
 }
 

@@ -7,6 +7,10 @@ pub returns-clause-version : goal.returns-clause-version
 unfolding matchit_on_literals table with_route
 returns-clause-version c = refl
 
+pub returns-clause-shutdown : goal.returns-clause-shutdown
+unfolding matchit_on_literals table with_route
+returns-clause-shutdown c = refl
+
 pub returns-clause-specs : goal.returns-clause-specs
 unfolding matchit_on_literals table with_route
 returns-clause-specs c = refl

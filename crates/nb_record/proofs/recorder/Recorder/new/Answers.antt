@@ -9,6 +9,7 @@ returns-clause-stands c = record {
   notebook = sym (book_nil c.args.notebook c.requires.document.distinct);
   executed = λ id. ap (λ s. is_among s id) c.empty.ensures;
   current = refl;
+  lasts = refl;
 }
 
 pub invariant_of-result : goal.invariant_of-result

@@ -1,6 +1,6 @@
 use Rattle.std.proofs.Common.{◌≡◌, drop}
 use Rattle.nb_record.specs.Book.{run_in}
-use Rattle.nb_record.proofs.cells.run_at.Given as goal
+use Rattle.nb_record.proofs.keeping.run_at.Given as goal
 
 -- what the run left is found among those that are left
 abbrev pub invariant-loop-cell : goal.invariant-loop-cell
