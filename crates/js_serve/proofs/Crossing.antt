@@ -73,14 +73,14 @@ pub place_send : (L S T M : RattleType) (g : language.Ghosts L.Denot S.Denot T.D
 place_send L S T M g = declared_send (Place.the_type L S T M g) (text.the_send, (seat_send, (follower_send L S T M g, (bell_send, tt))))
 
 reply_send : (L S T M : RattleType) (g : language.Ghosts L.Denot S.Denot T.Denot M.Denot) → IsSend (Reply.the_row L S T M g)
-reply_send L S T M g = variants_send (Reply.enum L S T M g) ((response.the_send, tt), ((response.the_send, (place_send L S T M g, (names.the_send, tt))), (tt, tt)))
+reply_send L S T M g = variants_send (Reply.enum L S T M g) ((response.the_send, tt), ((response.the_send, tt), ((response.the_send, (place_send L S T M g, (names.the_send, tt))), (tt, tt))))
 
 call_send : (L S T M : RattleType) (g : language.Ghosts L.Denot S.Denot T.Denot M.Denot) → IsSend (Call.the_row L S T M g)
 call_send L S T M g = variants_send (Call.enum L S T M g) (
   (guest_send, tt),
   (
     (request.the_send, (sender_send (Reply.the_row L S T M g) (reply_send L S T M g), tt)),
-    ((place_send L S T M g, tt), (tt, tt)),
+    ((place_send L S T M g, tt), (tt, (tt, tt))),
   ),
 )
 

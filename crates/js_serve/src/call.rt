@@ -25,6 +25,8 @@ pub struct Place<L: Language> {
 #[derive(Drop)]
 pub enum Reply<L: Language> {
     Response(Response),
+    /// The last response before the server stops. Whoever has written it tells the desk so.
+    Last(Response),
     /// The switch to a WebSocket, and the place of its channel.
     Channel(Response, Place<L>, Names),
     /// The page for a browser.
@@ -40,6 +42,8 @@ pub enum Call<L: Language> {
     Asked(Request, Sender<Reply<L>>),
     /// A channel was closed, and gives its place back.
     Back(Place<L>),
+    /// The last response was written.
+    Written,
     /// The pause between two reads for recorders is over.
     Pulse,
 }

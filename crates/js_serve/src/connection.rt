@@ -104,6 +104,10 @@ pub(crate) fn serve_connection<L: Language, R: Wait + Clock + Copy + Drop>(
     match read_request(alloc, &mut limited) {
         Ok(request) => match ask(rt, alloc, calls, request) {
             Some(Reply::Response(response)) => respond(&mut limited, &response),
+            Some(Reply::Last(response)) => {
+                respond(&mut limited, &response);
+                let _ = tell(rt, calls, Call::Written);
+            }
             Some(Reply::Channel(response, place, names)) => {
                 drop(ticket);
                 respond(&mut limited, &response);

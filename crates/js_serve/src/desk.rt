@@ -22,6 +22,9 @@ use std::net::TcpListener;
 use std::random::RandomSource;
 use std::sync::Wait;
 use std::time::{Clock, Instant};
+use stopping::Stopping;
+
+mod stopping;
 
 /// How many jobs may wait with no memory for more: the thread that calls for recorders, and some more.
 const ROOM: usize = 4;
@@ -67,6 +70,8 @@ where
     /// Requests that wait for kernels that are ending, in their order, and how many of the first are to be looked at again.
     held: Vec<Held<L>>,
     again: usize,
+    /// How far the server has stopped, once it was told to.
+    stopping: Option<Stopping>,
 }
 
 /// A request that waits, and where its reply goes.
@@ -116,11 +121,12 @@ where
             endings: Endings::new(alloc),
             held: Vec::new(alloc),
             again: 0,
+            stopping: None,
         })
     }
 
     /// Does what is to be done next, and answers the job for which a thread is to be started now, if there is one. Where none
-    /// can be started the job is to be dropped.
+    /// can be started the job is to be dropped. Once the server has stopped nothing is done any more.
     pub fn next(&mut self) -> Option<Job<L>> {
         if let Some(job) = self.jobs.pop() {
             return Some(job);
@@ -128,6 +134,9 @@ where
         if let Some(awaited) = self.awaited.take() {
             self.await_ends(awaited);
             return None;
+        }
+        if self.stopping.is_some() {
+            return self.stop_on();
         }
         if let Some(held) = self.next_held() {
             return self.reply_to(held.request, held.reply);
@@ -142,7 +151,11 @@ where
                 let calls = self.sender.clone().ok()?;
                 Some(Job::Connection(stream, calls))
             }
-            Call::Asked(request, reply) => self.reply_to(request, reply),
+            Call::Asked(request, reply) => self.reply_or_refuse(request, reply),
+            Call::Written => {
+                self.note_written();
+                None
+            }
             Call::Back(place) => {
                 self.take_back(place);
                 None
@@ -479,6 +492,10 @@ where
             }
             Answer::Page => {
                 self.send(reply, Reply::Page);
+                None
+            }
+            Answer::Stops => {
+                self.stop(reply);
                 None
             }
         }

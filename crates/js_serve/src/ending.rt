@@ -138,7 +138,7 @@ impl<W: Drop> Endings<W> {
 }
 
 /// Whether whoever began to wait at a moment has waited long enough. Where the clock can't be read, they have.
-fn is_over<R: Clock>(rt: &R, begun: Option<Instant>) -> bool {
+pub(crate) fn is_over<R: Clock>(rt: &R, begun: Option<Instant>) -> bool {
     let Some(begun) = begun else {
         return true;
     };

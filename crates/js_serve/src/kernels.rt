@@ -312,6 +312,11 @@ impl<R: Wait + Drop, L: Language> Kernels<R, L> {
         self.ends.get_mut(place)
     }
 
+    /// Whether no kernel is there.
+    pub(crate) fn is_empty(&self) -> bool {
+        self.ends.is_empty()
+    }
+
     /// The kernel that was made last, where its thread was not given out yet.
     pub(crate) fn take_unopened(&mut self) -> Option<Unopened<L>> {
         self.unopened.take()

@@ -7,7 +7,7 @@ use std::io::ErrorKind;
 use std::net::{Net, SocketAddr, TcpListener, TcpStream};
 use std::random::RandomSource;
 use std::sync::Wait;
-use std::thread::Threads;
+use std::thread::{JoinHandle, Threads};
 use std::time::Clock;
 use std::{io, thread};
 use test_language::TestLanguage;
@@ -71,27 +71,34 @@ where
     thread::spawn(&rt, move || do_job(rt, alloc, limits, parses, job)).is_ok()
 }
 
-/// Serves the connections of a listener, with no files.
-fn serve<R>(rt: R, alloc: Global, manner: Manner, listener: TcpListener)
+/// Serves the connections of a listener, with no files at first, until the server has stopped. The answer are the files that
+/// it leaves. There are none where it could not begin.
+fn serve<R>(rt: R, alloc: Global, manner: Manner, listener: TcpListener) -> Option<MemoryShelf>
 where
     R: Threads + Wait + Clock + RandomSource + Copy + Drop + Send + 'static,
 {
-    let Ok(shelf) = MemoryShelf::new(alloc) else {
-        return;
-    };
-    let Some(mut desk) = Desk::<TestLanguage, R, MemoryShelf>::new(rt, alloc, listener, shelf)
-    else {
-        return;
-    };
+    let shelf = MemoryShelf::new(alloc).ok()?;
+    let mut desk = Desk::<TestLanguage, R, MemoryShelf>::new(rt, alloc, listener, shelf)?;
     for _ in rt.forever() {
         if let Some(job) = desk.next() {
             let _ = start(rt, alloc, manner, job);
         }
+        if desk.has_stopped() {
+            break;
+        }
     }
+    Some(desk.into_shelf())
 }
 
-/// Starts a server in a thread of its own, on a port of 127.0.0.1 that is free, and answers its address.
-pub fn begin<R>(rt: R, alloc: Global, manner: Manner) -> io::Result<SocketAddr>
+/// A server that runs in a thread of its own.
+#[derive(Drop)]
+pub struct Server {
+    pub address: SocketAddr,
+    pub thread: JoinHandle<Option<MemoryShelf>>,
+}
+
+/// Starts a server on a port of 127.0.0.1 that is free.
+pub fn begin<R>(rt: R, alloc: Global, manner: Manner) -> io::Result<Server>
 where
     R: Threads + Wait + Clock + RandomSource + Net<Listener = TcpListener, Stream = TcpStream>,
     R: Copy + Drop + Send + 'static,
@@ -99,7 +106,7 @@ where
     let listener = TcpListener::bind(&rt, "127.0.0.1:0")?;
     let address = listener.local_addr()?;
     match thread::spawn(&rt, move || serve(rt, alloc, manner, listener)) {
-        Ok(_) => Ok(address),
+        Ok(thread) => Ok(Server { address, thread }),
         Err(_) => Err(ErrorKind::OutOfMemory.into()),
     }
 }

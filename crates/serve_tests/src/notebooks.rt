@@ -1,9 +1,10 @@
 //! Files: an empty root, and a notebook that is saved while its cells run.
 
+use crate::client::GONE;
 use crate::rows::{
     BUSY_C, BUSY_D, CELL, IDLE_C, IDLE_D, INPUT_C, INPUT_D, OK_C, OK_D, SCREEN, SHOWS_42,
 };
-use crate::steps::{Step, play};
+use crate::steps::{Step, play, play_to_end};
 use std::test::Fail;
 
 const BOOK: &str =
@@ -125,6 +126,29 @@ const DELETED: &[Step] = &[
     ),
 ];
 
+/// A request to stop, directly after the idle of a cell.
+const STOPS: &[Step] = &[
+    PUT_BOOK,
+    SESSION,
+    Step::Notes("\"kernel\":{"),
+    SCREEN,
+    RUN,
+    SHOWN,
+    Step::Asks("POST /api/shutdown", "", "HTTP/1.1 200 OK\r\n*\r\n\r\n{}"),
+    Step::Sees(0, &[BUSY_STOP, IDLE_STOP, GONE]),
+];
+
+/// Of the shutdown that the server asks a kernel for.
+const BUSY_STOP: &str =
+    r#""content":{"execution_state":"busy"}*"parent_header":{*"msg_type":"shutdown_request""#;
+
+const IDLE_STOP: &str =
+    r#""content":{"execution_state":"idle"}*"parent_header":{*"msg_type":"shutdown_request""#;
+
+/// The cell's run in the notebook's file.
+const LEFT: &str =
+    r#""execution_count": 1,*"id": "c1",*"name": "stdout",*"output_type": "stream",*"42\n""#;
+
 const EMPTY_ROOT: &[Step] = &[Step::Asks(
     "GET /api/contents",
     "",
@@ -153,6 +177,12 @@ fn a_session_is_shut_down(rt: HostRuntime) -> Result<(), Fail> {
 #[test]
 fn a_deleted_notebook_stays_away(rt: HostRuntime) -> Result<(), Fail> {
     play(rt, rt.alloc(), DELETED)
+}
+
+/// A server that is told to stop saves what a cell showed, closes the channels and comes to its end.
+#[test]
+fn a_server_is_stopped(rt: HostRuntime) -> Result<(), Fail> {
+    play_to_end(rt, rt.alloc(), STOPS, "a.ipynb", LEFT)
 }
 
 /// A root with no files has an empty list.

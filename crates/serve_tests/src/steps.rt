@@ -2,6 +2,7 @@
 
 use crate::client::{NOTHING, connect, drip, head, message, rest, send};
 use crate::crew::{Manner, begin};
+use js_shelf::{Item, Shelf};
 use std::alloc::{AllocError, Global};
 use std::io::{ErrorKind, Write};
 use std::net::{Net, Shutdown, SocketAddr, TcpListener, TcpStream};
@@ -358,10 +359,45 @@ where
     R: Threads + Wait + Clock + RandomSource + Net<Listener = TcpListener, Stream = TcpStream>,
     R: Copy + Drop + Send + 'static,
 {
-    let address = begin(rt, alloc, manner)?;
+    let server = begin(rt, alloc, manner)?;
+    go(&rt, alloc, server.address, steps)
+}
+
+/// Does the steps of a client of a new server, waits until its call returns, and looks at a file that it leaves.
+pub fn play_to_end<R>(
+    rt: R,
+    alloc: Global,
+    steps: &[Step],
+    path: &str,
+    parts: &str,
+) -> Result<(), Fail>
+where
+    R: Threads + Wait + Clock + RandomSource + Net<Listener = TcpListener, Stream = TcpStream>,
+    R: Copy + Drop + Send + 'static,
+{
+    let server = begin(rt, alloc, Manner::usual())?;
+    go(&rt, alloc, server.address, steps)?;
+    let Some(mut shelf) = server.thread.join(&rt) else {
+        return Err(Fail::new("no server"));
+    };
+    let Ok(Item::File(bytes)) = shelf.get(path) else {
+        return Err(Fail::new("no file"));
+    };
+    match str::from_utf8(bytes.as_slice()) {
+        Ok(text) if is_like(text, parts) => Ok(()),
+        Ok(text) => Err(Fail::new(format_args!("the file: {text}"))),
+        Err(_) => Err(Fail::new("no text")),
+    }
+}
+
+/// Does the steps of a client of the server at an address.
+fn go<R>(rt: &R, alloc: Global, address: SocketAddr, steps: &[Step]) -> Result<(), Fail>
+where
+    R: Net<Stream = TcpStream> + Clock,
+{
     let mut client = Client::new(alloc);
     for (place, step) in steps.iter().enumerate() {
-        match make_in_time(&rt, address, &mut client, step) {
+        match make_in_time(rt, address, &mut client, step) {
             Ok(None) => {}
             Ok(Some(found)) => return Err(Fail::new(format_args!("step {place}: {found}"))),
             Err(error) => return Err(Fail::new(format_args!("step {place}: {error:?}"))),

@@ -1,0 +1,171 @@
+//! How the server stops: each kernel is ended as its DELETE ends it, and then the desk has nothing to do any more.
+ghost use Rattle.std.specs.Prelude.{◌≡◌, ◌&&◌, ◌||◌};
+
+use super::{Desk, refused};
+use crate::call::Reply;
+use crate::clock::date_now;
+use crate::ending::is_over;
+use crate::job::Job;
+use crate::kernels::Kernels;
+use crate::pulse::QUICK;
+use crossbeam_channel::Sender;
+use jk_language::Language;
+use js_http::{Bytes, ErrorStatus, Request, Response};
+use js_rest::Running;
+use js_shelf::Shelf;
+use js_tables::Command;
+use json_form::Text;
+use std::alloc::{AllocError, Global};
+use std::random::RandomSource;
+use std::sync::Wait;
+use std::time::{Clock, Duration, Instant};
+
+/// How far a server has stopped that was told to.
+#[derive(Drop)]
+pub(super) struct Stopping {
+    /// When it was told to.
+    begun: Option<Instant>,
+    /// Whether the request that told it has its response.
+    answered: bool,
+    /// Whether nothing is left to do.
+    done: bool,
+}
+
+/// Whether a server has stopped that was told to: its time is over; or the request has its response, and no kernel is there.
+fn has_stopped(late: bool, answered: bool, gone: bool) -> bool
+    ensures { result ≡ (late || (answered && gone)) }
+{
+    late || (answered && gone)
+}
+
+/// The content of the response to the request that tells the server to stop.
+fn nothing(alloc: Global) -> Result<Bytes, AllocError> {
+    let mut content = Vec::new(alloc);
+    content.extend_from_slice(b"{}")?;
+    Ok(Bytes::from(content))
+}
+
+impl<L, R, S> Desk<L, R, S>
+where
+    L: Language,
+    R: Wait + Clock + RandomSource + Copy + Drop,
+    S: Shelf + Drop,
+    Kernels<R, L>: Running,
+{
+    /// Whether the server was told to stop, and has: each kernel has ended, or five seconds have passed.
+    pub fn has_stopped(&self) -> bool {
+        match &self.stopping {
+            Some(stopping) => stopping.done,
+            None => false,
+        }
+    }
+
+    /// The files, once nothing is to be done with them any more.
+    pub fn into_shelf(self) -> S {
+        self.shelf
+    }
+
+    /// The server was told to stop. Requests that wait are answered that it is not there for them. Where memory is refused, it
+    /// goes on as before.
+    pub(super) fn stop(&mut self, reply: Sender<Reply<L>>) {
+        let Ok(content) = nothing(self.alloc) else {
+            self.send(reply, refused(ErrorStatus::InternalServerError));
+            return;
+        };
+        self.send(reply, Reply::Last(Response::Success(content)));
+        self.stopping = Some(Stopping {
+            begun: Instant::now(&self.rt).ok(),
+            answered: false,
+            done: false,
+        });
+        for _ in 0..self.held.len() {
+            if let Some(held) = self.held.pop() {
+                self.send(held.reply, refused(ErrorStatus::ServiceUnavailable));
+            }
+        }
+    }
+
+    /// Replies to a request, unless the server stops.
+    pub(super) fn reply_or_refuse(
+        &mut self,
+        request: Request,
+        reply: Sender<Reply<L>>,
+    ) -> Option<Job<L>> {
+        if self.stopping.is_none() {
+            return self.reply_to(request, reply);
+        }
+        self.send(reply, refused(ErrorStatus::ServiceUnavailable));
+        None
+    }
+
+    /// The request that told the server to stop has its response.
+    pub(super) fn note_written(&mut self) {
+        if let Some(stopping) = &mut self.stopping {
+            stopping.answered = true;
+        }
+    }
+
+    /// Goes on stopping, and takes a call that comes at once.
+    pub(super) fn stop_on(&mut self) -> Option<Job<L>> {
+        if self.has_stopped() {
+            return None;
+        }
+        self.end_all();
+        let gone = self.manager.running.is_empty();
+        self.note_end(gone);
+        let call = self
+            .calls
+            .recv_timeout(&self.rt, Duration::from_millis(QUICK))
+            .ok()?;
+        self.take(call)
+    }
+
+    /// Notes whether the server has stopped, where the kernels are gone or are not.
+    fn note_end(&mut self, gone: bool) {
+        if let Some(stopping) = &mut self.stopping {
+            let late = is_over(&self.rt, stopping.begun);
+            stopping.done = has_stopped(late, stopping.answered, gone);
+        }
+    }
+
+    /// Tells each kernel to shut down that was not told yet, and lets the recorders of those that end follow.
+    fn end_all(&mut self) {
+        let Some(date) = date_now(&self.rt, self.alloc) else {
+            return;
+        };
+        self.look(&date);
+        for place in (0..self.manager.tables.kernels.len()).rev() {
+            if let Some(id) = self.lasting_at(place) {
+                self.end_kernel(id);
+            }
+        }
+        self.follow_all(&date);
+    }
+
+    /// The kernel in a row that is not ending.
+    fn lasting_at(&self, place: usize) -> Option<Text> {
+        let id = self.manager.tables.kernels.get(place)?.id.copy().ok()?;
+        if self.endings.has(id.as_str()) {
+            return None;
+        }
+        Some(id)
+    }
+
+    /// Tells a kernel to shut down. One with a recorder is ending from then on, another goes at once. Where it could not be told
+    /// nothing has changed, and it is told the next time.
+    fn end_kernel(&mut self, id: Text) {
+        if self
+            .manager
+            .running
+            .tell(id.as_str(), Command::Shutdown)
+            .is_err()
+        {
+            return;
+        }
+        if self.is_recorded(id.as_str()) {
+            let _ = self.endings.begin(self.alloc, id.as_str());
+        } else {
+            let _ = self.drop_row(id);
+        }
+    }
+}
