@@ -36,14 +36,18 @@ fn chosen_for<R: Abort>(rt: &R, alloc: Global, lines: &str) -> Result<String, Fa
         panic!(rt; "the head is one of a request");
     };
     match handshake(alloc, &request) {
-        Ok(Response::SwitchingProtocols {
-            accept: _,
-            protocol: Some(name),
-        }) => Ok(name.into_string()),
-        Ok(Response::SwitchingProtocols {
-            accept: _,
-            protocol: None,
-        }) => Ok(String::new(alloc)),
+        Ok(
+            Response::SwitchingProtocols {
+                accept: _,
+                protocol: Some(name),
+            },
+        ) => Ok(name.into_string()),
+        Ok(
+            Response::SwitchingProtocols {
+                accept: _,
+                protocol: None,
+            },
+        ) => Ok(String::new(alloc)),
         _ => panic!(rt; "the answer switches protocols"),
     }
 }
@@ -65,10 +69,7 @@ fn protocols_that_are_offered(rt: HostRuntime) -> Result<(), Fail> {
 #[test]
 fn a_switch_with_a_protocol(rt: HostRuntime) -> Result<(), Fail> {
     let accept = Text::from(String::from_str(rt.alloc(), "s3pPLMBiTxaQ9kYGzzhZRbK+xOo=")?);
-    let name = Text::from(String::from_str(
-        rt.alloc(),
-        "v1.kernel.websocket.jupyter.org",
-    )?);
+    let name = Text::from(String::from_str(rt.alloc(), "v1.kernel.websocket.jupyter.org")?);
     let response = Response::SwitchingProtocols {
         accept,
         protocol: Some(name),
@@ -103,7 +104,11 @@ const ROWS: [(&str, &str, &str); 12] = [
     ),
     ("shell", "kernel_info_request", "{}"),
     ("shell", "is_complete_request", "{\"code\":\"A\"}"),
-    ("shell", "complete_request", "{\"code\":\"A\",\"cursor_pos\":1}"),
+    (
+        "shell",
+        "complete_request",
+        "{\"code\":\"A\",\"cursor_pos\":1}",
+    ),
     ("shell", "inspect_request", "{}"),
     ("shell", "history_request", "{}"),
     ("shell", "comm_info_request", "{}"),
@@ -160,9 +165,7 @@ fn requests_in_both_forms(rt: HostRuntime) -> Result<(), Fail> {
         let bytes = binary_of(alloc, &parts)?;
         let text = format!(in alloc;
             "{{\"buffers\":[],\"channel\":\"{}\",\"header\":{},\"parent_header\":{{\"msg_id\":\"p\"}},\"metadata\":{{\"cellId\":\"c\"}},\"content\":{}}}",
-            channel,
-            header,
-            content
+            channel, header, content
         )?;
         let read = deserialize_message(alloc, bytes.as_slice())?;
         let wanted = read_message(alloc, text.as_str())?;
@@ -215,7 +218,10 @@ fn parts_that_are_refused(rt: HostRuntime) -> Result<(), Fail> {
     assert_eq!(rt; fault_with(alloc, 4, "{},\"channel\":\"stdin\"")?, 1);
     assert_eq!(rt; fault_with(alloc, 4, "{}{}")?, 1);
     assert_eq!(rt; fault_with(alloc, 3, "")?, 1);
-    assert_eq!(rt; fault_with(alloc, 1, "{\"msg_id\":\"m1\",\"session\":\"s1\"}")?, 2);
+    assert_eq!(rt;
+        fault_with(alloc, 1, "{\"msg_id\":\"m1\",\"session\":\"s1\"}")?,
+        2
+    );
     assert_eq!(rt; fault_with(alloc, 2, "[]")?, 3);
     assert_eq!(rt; fault_with(alloc, 0, "iopub")?, 3);
     assert_eq!(rt; fault_with(alloc, 0, "")?, 3);
