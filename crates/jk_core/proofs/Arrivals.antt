@@ -19,14 +19,16 @@ use Rattle.jk_log.specs.declared.mark.Kind.TheVariants.{Interrupt, Join, KernelI
 use Rattle.jp_msg.specs.declared.message.Completeness.{Completeness}
 use Rattle.jk_log.specs.declared.mark.Cause.{Cause}
 use Rattle.jk_log.specs.declared.mark.Cause.TheVariants as cause
-use Rattle.jk_log.specs.Log.{Log, Running, arrivals, option_at, running, running_with, session, count as count_of, option_with, lined, unread, left, asker, asked_of, input_at}
+use Rattle.jk_log.proofs.Logs.{arrival_newest}
+use Rattle.jk_log.specs.Log.{Log, Running, arrivals, arrival_at, option_at, running, running_with, session, count as count_of, option_with, lined, unread, left, asker, asked_of}
 use Rattle.jk_core.specs.State.{KernelState}
 use Rattle.jk_core.specs.Steps.{aborting, answered, given_to, noted, shut, stops_with, took, stopped, taken}
 use Rattle.jk_core.specs.Kept.{CanStop, HoldsAt, IsHeld, IsKept, IsLineBy, IsLineFor, IsRunBy, IsWanting, RunsBy, Stands, StandsFor, WantsAt, line_to, lined_up, marked_as}
 use Rattle.jk_core.proofs.Keeps.{idle_fails, lined_runs, runs_as, some_same}
-use Rattle.jk_log.proofs.Logs.{input_grows, input_newest}
 use Rattle.jk_core.proofs.Desks.{no_given, wants_grows}
 use Rattle.jk_core.proofs.Turns.{has_more}
+use Rattle.jk_core.proofs.Needed.{none_some}
+use Rattle.jk_core.specs.Needed.{handed_back}
 use Rattle.jk_core.proofs.Orders.{waits_few}
 
 -- the cell that asks a seat
@@ -48,10 +50,10 @@ asking_cell seat at log e = by (running log) refl e
         (r, is, first_true r.asked (r.seat == seat) (not (left r.seat r.at log)) both.0, both.1)
 
 -- the line that arrived is one for the cell that asks
-line_as : (line : Option (List ℕ)) (ask : Option ℕ) (seat place : ℕ) (log : Log) (next : Log) → asker seat log ≡ ask → running next ≡ running log → input_at place next ≡ line → IsLineFor next place (line_to line ask)
-line_as None ask seat place log next e same there = tt
-line_as (Some text) None seat place log next e same there = tt
-line_as (Some text) (Some at) seat place log next e same there =
+line_as : (line : Option (List ℕ)) (ask : Option ℕ) (seat : ℕ) (a : Arrival) (log : Log) (next : Log) → asker seat log ≡ ask → running next ≡ running log → input_in a.what ≡ line → IsLineFor next a (line_to line ask)
+line_as None ask seat a log next e same there = tt
+line_as (Some text) None seat a log next e same there = tt
+line_as (Some text) (Some at) seat a log next e same there =
     let cell = asking_cell seat at log e in
     (cell.0, same ∙ cell.1, cell.2, there)
 
@@ -104,16 +106,16 @@ module _ {S T M : Type 0} (spoken : Spoken S T) (laws : IsLanguage spoken) (stat
       false_true P e = cc
 
   -- a cell that was given its line, which its machine was not given yet
-  pub give_stands : (k new : KernelState T) (d : Desk S M) (a : Active M) (place : ℕ) (text : List ℕ) → d.count ≡ count_of k.log → RunsBy spoken state k a → IsLineFor k.log place (Some text) → new ≡ noted a.at (Line (Some text)) k → Stands spoken state new (record d { place = Runs (record a { wants = wants.Given place; read = true }) })
-  give_stands k new d a place text counted h (q, runs, asked, there) e =
+  pub give_stands : (k new : KernelState T) (d : Desk S M) (a : Active M) (b : Arrival) (text : List ℕ) → d.count ≡ count_of k.log → RunsBy spoken state k a → IsLineFor k.log b (Some text) → new ≡ noted a.at (Line (Some text)) k → Stands spoken state new (record d { place = Runs (record a { wants = wants.Given b; read = true }) })
+  give_stands k new d a b text counted h (q, runs, asked, there) e =
       let r = h.runs.cell in
       let same : h.wants.0 ≡ r = some_same h.wants.0 r (sym h.wants.1 ∙ h.runs.runs) in
       let mine : q ≡ r = some_same q r (sym runs ∙ h.runs.runs) in
       let want = asks_of a.wants k.log r (state a.machine) (subst (λ (q : Running). IsWanting k.log a.wants q (state a.machine)) same h.wants.3) (ap (λ (q : Running). q.asked) (sym mine) ∙ asked) in
       let fresh : r.fresh ++ Some text ∷ [] ≡ Some text ∷ [] = ap (λ (ls : List AsLine). ls ++ Some text ∷ []) want.0 in
       let now = lined_runs (running k.log) r (Some text) h.runs.runs in
-      let b = record a { wants = wants.Given place; read = true } in
-      subst (λ (k : KernelState T). Stands spoken state k (record d { place = Runs b })) (sym e) (record {
+      let now_reads = record a { wants = wants.Given b; read = true } in
+      subst (λ (k : KernelState T). Stands spoken state k (record d { place = Runs now_reads })) (sym e) (record {
         count = counted;
         place = record {
           cell = lined (Some text) r;
@@ -124,7 +126,7 @@ module _ {S T M : Type 0} (spoken : Spoken S T) (laws : IsLanguage spoken) (stat
           onward = h.runs.onward;
           lines = h.runs.lines;
         };
-        wants = (lined (Some text) r, now, has_more r.fresh (Some text), (refl, want.1, text, input_grows k.log (Marked (record { at = a.at; kind = Line (Some text) })) place text there, fresh));
+        wants = (lined (Some text) r, now, has_more r.fresh (Some text), (refl, want.1, text, there, fresh));
       })
 
   took_quiet : (status : Option Completeness) (s : Sort) (a : Arrival) (k : KernelState T) (d : Desk S M) → s ≡ sort_as a.what → running_with s (running k.log) ≡ running k.log → Stands spoken state k d → Stands spoken state (took status a k) d
@@ -212,9 +214,9 @@ module _ {S T : Type 0} (spoken : Spoken S T) (laws : IsLanguage spoken) where
       ∙ ap (λ (line : Option (List ℕ)). marked_as s (length got.log) line (took status a got)) l
       ∙ as_answered status s a got is ∙ ap (λ (s : Sort). answered s a got.log (took status a got)) is ∙ ap (taken status a) g
 
-  line_by : (status : Option Completeness) (s : Sort) (a : Arrival) (k : KernelState T) → s ≡ sort_as a.what → IsLineBy s (took status a k).log (length k.log) (line_to (input_in a.what) (asker a.seat k.log))
+  line_by : (status : Option Completeness) (s : Sort) (a : Arrival) (k : KernelState T) → s ≡ sort_as a.what → IsLineBy s (took status a k).log a (line_to (input_in a.what) (asker a.seat k.log))
   line_by status sort.Input a k is =
-      line_as (input_in a.what) (asker a.seat k.log) a.seat (length k.log) k.log (Took a ∷ k.log) refl (runs_as spoken laws status sort.Input a k (sym is)) (input_newest k.log a)
+      line_as (input_in a.what) (asker a.seat k.log) a.seat a k.log (Took a ∷ k.log) refl (runs_as spoken laws status sort.Input a k (sym is)) refl
   line_by status sort.Join a k is = tt
   line_by status sort.Leave a k is = tt
   line_by status sort.Execute a k is = tt
@@ -224,8 +226,47 @@ module _ {S T : Type 0} (spoken : Spoken S T) (laws : IsLanguage spoken) where
   line_by status (sort.Shutdown restart) a k is = tt
   line_by status sort.Other a k is = tt
 
-  pub line_for : (status : Option Completeness) (s : Sort) (a : Arrival) (line : Option (List ℕ)) (place : ℕ) (got mid : KernelState T) → s ≡ sort_as a.what → mid ≡ took status a got → place ≡ length got.log → line ≡ line_to (input_in a.what) (asker a.seat got.log) → IsLineBy s mid.log place line
-  line_for status s a line place got mid is t at l =
-      subst (λ (k : KernelState T). IsLineBy s k.log place line) (sym t)
-      (subst (λ (p : ℕ). IsLineBy s (Took a ∷ got.log) p line) (sym at)
-      (subst (IsLineBy s (Took a ∷ got.log) (length got.log)) (sym l) (line_by status s a got is)))
+  pub line_for : (status : Option Completeness) (s : Sort) (a : Arrival) (line : Option (List ℕ)) (got mid : KernelState T) → s ≡ sort_as a.what → mid ≡ took status a got → line ≡ line_to (input_in a.what) (asker a.seat got.log) → IsLineBy s mid.log a line
+  line_for status s a line got mid is t l =
+      subst (λ (k : KernelState T). IsLineBy s k.log a line) (sym t) (subst (IsLineBy s (Took a ∷ got.log) a) (sym l) (line_by status s a got is))
+
+  -- an arrival that waits is not marked
+  pub waits_marked : (s : Sort) (a : Arrival) (place : ℕ) (line : Option (List ℕ)) (k : KernelState T) → None ≡ handed_back s a → k ≡ marked_as s place line k
+  waits_marked sort.Execute a place line k e = refl
+  waits_marked sort.Query a place line k e = refl
+  waits_marked sort.Other a place line k e = refl
+  waits_marked sort.Join a place line k e = none_some a _ e
+  waits_marked sort.Leave a place line k e = none_some a _ e
+  waits_marked sort.Input a place line k e = none_some a _ e
+  waits_marked sort.Interrupt a place line k e = none_some a _ e
+  waits_marked sort.KernelInfo a place line k e = none_some a _ e
+  waits_marked (sort.Shutdown restart) a place line k e = none_some a _ e
+
+  -- one that is handed back is the one that was taken
+  pub same_back : (s : Sort) (a b : Arrival) → Some b ≡ handed_back s a → b ≡ a
+  same_back sort.Execute a b e = none_some b _ (sym e)
+  same_back sort.Query a b e = none_some b _ (sym e)
+  same_back sort.Other a b e = some_same b a e
+  same_back sort.Join a b e = some_same b a e
+  same_back sort.Leave a b e = some_same b a e
+  same_back sort.Input a b e = some_same b a e
+  same_back sort.Interrupt a b e = some_same b a e
+  same_back sort.KernelInfo a b e = some_same b a e
+  same_back (sort.Shutdown restart) a b e = some_same b a e
+
+  -- what stands beside the script where an arrival waits
+  pub waits_stand : {M : Type 0} (state : M → MachineState S) (s : Sort) (a : Arrival) (k : KernelState T) (d : Desk S M) → None ≡ handed_back s a → StandsFor spoken state s k d → Stands spoken state k d
+  waits_stand state sort.Execute a k d e h = h
+  waits_stand state sort.Query a k d e h = h
+  waits_stand state sort.Other a k d e h = h
+  waits_stand state sort.Join a k d e h = h
+  waits_stand state sort.Leave a k d e h = h
+  waits_stand state sort.Input a k d e h = h
+  waits_stand state sort.KernelInfo a k d e h = h
+  waits_stand state sort.Interrupt a k d e h = none_some a _ e
+  waits_stand state (sort.Shutdown restart) a k d e h = none_some a _ e
+
+-- what was just taken stands at its place
+pub there_new : {T : Type 0} (status : Option Completeness) (a b : Arrival) (place : ℕ) (got mid : KernelState T) → mid ≡ took status a got → place ≡ length got.log → b ≡ a → arrival_at place mid.log ≡ Some b
+there_new status a b place got mid t at same =
+    ap (λ (k : KernelState _). arrival_at place k.log) t ∙ ap (λ (p : ℕ). arrival_at p (Took a ∷ got.log)) at ∙ arrival_newest got.log a ∙ ap (λ (x : Arrival). Some x) (sym same)

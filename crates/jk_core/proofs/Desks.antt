@@ -35,14 +35,13 @@ use Rattle.jk_core.specs.declared.kernel.Work.TheVariants as work
 use Rattle.jk_core.specs.declared.script.Waiting.{Waiting}
 use Rattle.jk_core.specs.declared.script.Task.{Task}
 use Rattle.jk_core.specs.declared.script.Task.TheVariants.{Cell, Query}
-use Rattle.jk_log.specs.Log.{Log, Running, running, session, count as count_of, meaning, shown_in, stood_in, next_count, option_or, option_with, opened, flushed_at, asking, left, execute_at, seat_at}
+use Rattle.jk_log.specs.Log.{Log, Running, running, session, count as count_of, meaning, shown_in, stood_in, next_count, option_or, option_with, opened, flushed_at, asking, left, arrival_at, execute_at, seat_at}
 use Rattle.jk_log.specs.Legal.{IsLineless, MayAsk}
 use Rattle.jk_core.specs.State.{KernelState, first_of, is_cell}
 use Rattle.jk_core.specs.Steps.{allows_at, answering, begun, closing, broken, closed, failing, flushed as flushed_to, gone_on, has_lines, limit, noted, sliced, written, written_out, stopped, stops_at, with_waits, BeginsAt, Closes, GoesOn, GoesWithout, IsBrokenAt, Starts, StartsAs, StartsFirst, Takes}
 use Rattle.jk_core.specs.Kept.{HoldsAt, IsKept, IsOf, IsRunBy, IsWanting, Opens, Stands, WantsAt, AllWait, IsCellAt, IsTaskAt}
 use Rattle.jk_core.specs.Slices.{HasAsked, HasCome, IsAtWork, may_ask, place_of, work_of}
 use Rattle.jk_core.proofs.Keeps.{answering_going, answering_idle, answering_moves, answering_waits, failing_moves, first_found, flushed_runs, asking_runs, no_lines, meaning_shown, silent_slice, kept-takes, some_same, stops_same}
-use Rattle.jk_log.proofs.Logs.{input_grows}
 use Rattle.jk_core.proofs.Turns.{count_same, lacks, law_of, may_by, not_lineless, not_stopped, ran_same, seat_left, stood_at}
 
 -- answers after which no cell runs
@@ -119,7 +118,7 @@ module _ {S T M : Type 0} (spoken : Spoken S T) (laws : IsLanguage spoken) (stat
   wanting_grows : (w : Wants) (log : Log) (e : Item) (r : Running) (m : MachineState S) → IsWanting log w r m → IsWanting (e ∷ log) w r m
   wanting_grows wants.Nothing log e r m h = h
   wanting_grows wants.Asked log e r m h = h
-  wanting_grows (wants.Given place) log e r m (asked, asks, text, there, fresh) = (asked, asks, text, input_grows log e place text there, fresh)
+  wanting_grows (wants.Given a) log e r m h = h
 
   pub wants_grows : (log : Log) (e : Item) (o : Option Running) (p : Place S M) → WantsAt state log o p → WantsAt state (e ∷ log) o p
   wants_grows log e o (Resting s) h = tt
@@ -487,6 +486,15 @@ module _ {S T M : Type 0} (spoken : Spoken S T) (laws : IsLanguage spoken) (stat
   -- the first cell is first once the queries before it are answered
   pub found_now : (old : KernelState T) (w : Waiting T) → Some w ≡ find (λ (w : Waiting T). is_cell w.task) old.waits → Some w ≡ first_of (answering old.waits old).waits
   found_now old w e = e ∙ sym (first_found old.waits) ∙ ap first_of (sym (answering_waits old.waits old refl))
+
+  -- the first that waits then is the one that was found
+  pub popped_first : (old got mid : KernelState T) (w : Waiting T) (o : Option (Waiting T)) → got ≡ old → mid ≡ answering got.waits got → Some w ≡ find (λ (w : Waiting T). is_cell w.task) got.waits → o ≡ first_of mid.waits → o ≡ Some w
+  popped_first old got mid w o g m found is =
+      is ∙ ap (λ (k : KernelState T). first_of k.waits) (m ∙ ap (λ (k : KernelState T). answering k.waits k) g)
+      ∙ sym (found_now old w (subst (λ (k : KernelState T). Some w ≡ find (λ (w : Waiting T). is_cell w.task) k.waits) g found))
+
+  pub popped_there : (v w : Waiting T) (log : Log) (a : Arrival) → Some v ≡ Some w → arrival_at v.at log ≡ Some a → arrival_at w.at log ≡ Some a
+  popped_there v w log a e h = ap (λ (x : Waiting T). arrival_at x.at log) (sym (some_same v w e)) ∙ h
 
   pub same_session : (old : KernelState T) → session spoken (answering old.waits old).log ≡ session spoken old.log
   same_session old = answering_moves (λ k. session spoken k.log ≡ session spoken old.log) (λ at status k h. h) (λ ws k h. h) old.waits old refl

@@ -1,5 +1,5 @@
 -- Each step of a kernel is a chain of small moves, so what each of these keeps is kept.
-use Rattle.std.proofs.Common.{zero, suc, true, false, ℕ, List, [], ◌∷◌, sym, subst, Option, None, Some, inl, inr}
+use Rattle.std.proofs.Common.{zero, suc, true, false, ℕ, List, [], ◌∷◌, ◌≡◌, ◌∙◌, ap, sym, subst, Option, None, Some, inl, inr}
 use Rattle.jk_language.specs.declared.outcome.Turned.{Turned}
 use Rattle.jk_language.specs.declared.outcome.Turned.TheVariants as turned
 use Rattle.jk_log.specs.declared.job.Parsed.{Parsed}
@@ -9,7 +9,10 @@ use Rattle.jk_log.specs.declared.mark.Kind.TheVariants.{Begin, Answer, Line, Res
 use Rattle.jk_core.specs.declared.kernel.Work.{Work}
 use Rattle.jk_core.specs.declared.kernel.Work.TheVariants.{Rest, NeedsParse, Ran, NeedsLine, NoMemory}
 use Rattle.jk_core.specs.declared.script.Waiting.{Waiting}
-use Rattle.jk_log.specs.Log.{Running, meaning, next_count, lined}
+use Rattle.jk_log.specs.Log.{Running, arrival_at, meaning, next_count, lined}
+use Rattle.jk_log.specs.declared.arrival.Arrival.{Arrival}
+use Rattle.jk_log.specs.declared.mark.Item.TheVariants.{Marked}
+use Rattle.jk_log.proofs.Logs.{arrival_grows}
 use Rattle.jk_log.specs.declared.mark.Cause.{Cause}
 use Rattle.std.proofs.Common.{Bool}
 use Rattle.jk_core.proofs.Keeps.{answering_moves, failing_moves}
@@ -41,6 +44,15 @@ module _ {T : Type 0} where
   aborting_moves : (P : KernelState T → Type 0) → IsMoved P → (ws : List (Waiting T)) (k : KernelState T) → P k → P (aborting ws k)
   aborting_moves P m [] k h = h
   aborting_moves P m (w ∷ ws) k h = aborting_moves P m ws (noted w.at (closing w.task) (with_waits ws k)) (m.note _ _ _ (m.wait _ _ h))
+
+  -- an arrival stands where it stood
+  arrival_moved : (at : ℕ) (a : Arrival) → IsMoved (λ (k : KernelState T). arrival_at at k.log ≡ Some a)
+  arrival_moved at a = record { note = λ place kind k h. arrival_grows k.log (Marked (record { at = place; kind = kind })) at a h; wait = λ ws k h. h; go = λ turns k h. h }
+
+  pub there_aborted : (at : ℕ) (a : Arrival) (why : Cause) (o : Option Running) (old mid over : KernelState T) → mid ≡ stopped why o old → over ≡ aborting mid.waits mid → arrival_at at old.log ≡ Some a → arrival_at at over.log ≡ Some a
+  there_aborted at a why o old mid over m e h =
+      subst (λ (k : KernelState T). arrival_at at k.log ≡ Some a) (sym (e ∙ ap (λ (k : KernelState T). aborting k.waits k) m))
+      (aborting_moves (λ (k : KernelState T). arrival_at at k.log ≡ Some a) (arrival_moved at a) (stopped why o old).waits (stopped why o old) (stopped_moves (λ (k : KernelState T). arrival_at at k.log ≡ Some a) (arrival_moved at a) why o old h))
 
   pub shut_moves : (P : KernelState T → Type 0) → IsMoved P → (at : ℕ) (restart : Bool) (o : Option Running) (k : KernelState T) → P k → P (shut at restart o k)
   shut_moves P m at restart o k h = m.note at (Restart restart) _ (aborting_moves P m k.waits _ (stopped_moves P m _ o k h))

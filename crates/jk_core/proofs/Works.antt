@@ -21,7 +21,9 @@ use Rattle.jk_core.specs.declared.script.Waiting.{Waiting}
 use Rattle.jp_msg.specs.declared.message.Completeness.{Completeness}
 use Rattle.jk_core.specs.declared.script.Task.{Task}
 use Rattle.jk_core.specs.declared.script.Task.TheVariants.{Cell, Query}
-use Rattle.jk_log.specs.Log.{Log, Running, running, session, meaning, flushed_at, asking, lined, nones, left, input_at}
+use Rattle.jk_log.specs.Log.{Log, Running, running, session, meaning, flushed_at, asking, lined, nones, left}
+use Rattle.jk_log.specs.declared.arrival.Arrival.{Arrival}
+use Rattle.jk_log.specs.Asked.{input_in}
 use Rattle.jk_log.specs.Legal.{IsLineless}
 use Rattle.jk_core.specs.State.{KernelState, first_of, is_cell}
 use Rattle.jk_core.specs.Steps.{answering, begun, by_task, has_lines, limit, noted, with_waits, AnswersFirst, FirstAsks, GoesOn, GoesWithout, IsAsking, NoneStarts, Starts, StartsAs, StartsFirst, Works}
@@ -225,11 +227,11 @@ module _ {S T M : Type 0} (spoken : Spoken S T) (laws : IsLanguage spoken) (stat
   ready_work k n a (inr e) h waits le = at_work wants.Asked k n a e tt h waits le
 
   -- a cell that was given its line now
-  pub at_work_given : (k : KernelState T) (n place : ℕ) (a : Active M) (m : M) (text : List ℕ) → a.wants ≡ wants.Given place → RunsBy spoken state k a → Some text ≡ input_at place k.log → state m ≡ line_given (Some text) (state a.machine) → k.ran ≤ n → IsAtWork spoken state k k n (record a { wants = wants.Nothing; machine = m })
-  at_work_given k n place a m text is h there given le =
+  pub at_work_given : (k : KernelState T) (n : ℕ) (b : Arrival) (a : Active M) (m : M) (text : List ℕ) → a.wants ≡ wants.Given b → RunsBy spoken state k a → Some text ≡ input_in b.what → state m ≡ line_given (Some text) (state a.machine) → k.ran ≤ n → IsAtWork spoken state k k n (record a { wants = wants.Nothing; machine = m })
+  at_work_given k n b a m text is h there given le =
       let r = h.runs.cell in
       let goes_same : h.wants.0 ≡ r = some_same h.wants.0 r (sym h.wants.1 ∙ h.runs.runs) in
-      let want : IsWanting k.log (wants.Given place) r (state a.machine) = subst (λ (w : Wants). IsWanting k.log w r (state a.machine)) is
+      let want : IsWanting k.log (wants.Given b) r (state a.machine) = subst (λ (w : Wants). IsWanting k.log w r (state a.machine)) is
       (subst (λ (q : Running). IsWanting k.log a.wants q (state a.machine)) goes_same h.wants.3) in
       let fresh : r.fresh ≡ Some text ∷ [] = want.4 ∙ ap (λ (t : List ℕ). Some t ∷ []) (some_same want.2 text (sym want.3 ∙ sym there)) in
       let code = r.request.code in

@@ -1,7 +1,9 @@
 -- What a kernel keeps true.
 use Rattle.std.specs.Prelude.{◌⊎◌, ◌≡◌, Bool, true, false, not, ◌&&◌, ℕ, ◌≤◌, is_some, find, List, [], ◌∷◌, length, map, Option, None, Some}
 use Rattle.jk_language.specs.declared.outcome.Refusal.TheVariants.{Compile}
+use Rattle.jk_log.specs.declared.arrival.Arrival.{Arrival}
 use Rattle.jk_log.specs.declared.arrival.Sort.{Sort}
+use Rattle.jk_log.specs.Asked.{input_in}
 use Rattle.jk_log.specs.declared.arrival.Sort.TheVariants as sort
 use Rattle.jk_log.specs.declared.mark.Kind.TheVariants.{Interrupt, Join, KernelInfo, Leave, Line}
 use Rattle.jk_language.specs.Parts.{Line as AsLine}
@@ -24,7 +26,7 @@ use Rattle.jk_core.specs.declared.desk.Desk.{Desk}
 use Rattle.jk_core.specs.declared.start.Opening.{Opening}
 use Rattle.jk_core.specs.declared.start.Opening.TheVariants as opening
 use Rattle.jk_log.specs.Results.{IsResult}
-use Rattle.jk_log.specs.Log.{Log, option_or, Running, running, waiting, session, shown_in, stood_in, nones, left, count, execute_at, input_at}
+use Rattle.jk_log.specs.Log.{Log, option_or, Running, running, waiting, session, shown_in, stood_in, nones, left, count, execute_at}
 use Rattle.jk_log.specs.Legal.{Answers, EachFollows, Due, owed, StopsFor}
 use Rattle.jk_core.specs.State.{KernelState, is_cell}
 use Rattle.jk_core.specs.Steps.{by_task, has_lines, interrupted, noted, shut, AnswersFirst}
@@ -98,8 +100,8 @@ pub record IsOf {M : Type 0} (r : Running) (active : Active M) : Type 0 where
 abbrev pub IsWanting : {S : Type 0} → Log → Wants → Running → MachineState S → Type 0
 IsWanting log Nothing r m = (r.asked ≡ false) × (r.fresh ≡ [])
 IsWanting log Asked r m = (r.asked ≡ true) × (r.fresh ≡ []) × (m.asks ≡ true) × ((here m).outcome ≡ outcome.NeedsLine)
-IsWanting log (Given place) r m =
-    (r.asked ≡ false) × (m.asks ≡ true) × (text : List ℕ) × (input_at place log ≡ Some text) × (r.fresh ≡ Some text ∷ [])
+IsWanting log (Given a) r m =
+    (r.asked ≡ false) × (m.asks ≡ true) × (text : List ℕ) × (input_in a.what ≡ Some text) × (r.fresh ≡ Some text ∷ [])
 
 -- between two calls the machine is that of the cell that runs
 pub record IsRunBy {S T M : Type 0} (spoken : Spoken S T) (state : M → MachineState S) (session : S) (o : Option Running) (ran : ℕ) (active : Active M) : Type 0 where
@@ -145,10 +147,10 @@ line_to None asker = None
 line_to (Some text) None = None
 line_to (Some text) (Some at) = Some text
 
--- what arrived at a place is a line for the cell that runs and asks
-abbrev pub IsLineFor : Log → ℕ → Option (List ℕ) → Type 0
-IsLineFor log place None = Unit {0}
-IsLineFor log place (Some text) = (r : Running) × (running log ≡ Some r) × (r.asked ≡ true) × (input_at place log ≡ Some text)
+-- what arrived is a line for the cell that runs and asks
+abbrev pub IsLineFor : Log → Arrival → Option (List ℕ) → Type 0
+IsLineFor log a None = Unit {0}
+IsLineFor log a (Some text) = (r : Running) × (running log ≡ Some r) × (r.asked ≡ true) × (input_in a.what ≡ Some text)
 
 -- the line is marked for the cell that runs
 abbrev pub lined_up : {T : Type 0} → Option (List ℕ) → Option Running → KernelState T → KernelState T
@@ -181,21 +183,21 @@ StandsFor spoken state sort.KernelInfo k desk = Stands spoken state k desk
 StandsFor spoken state sort.Other k desk = Stands spoken state k desk
 
 -- an input reply has a line only for the cell that asks
-abbrev pub IsLineBy : Sort → Log → ℕ → Option (List ℕ) → Type 0
-IsLineBy sort.Input log place line = IsLineFor log place line
-IsLineBy sort.Join log place line = Unit {0}
-IsLineBy sort.Leave log place line = Unit {0}
-IsLineBy sort.Execute log place line = Unit {0}
-IsLineBy sort.Query log place line = Unit {0}
-IsLineBy sort.Interrupt log place line = Unit {0}
-IsLineBy sort.KernelInfo log place line = Unit {0}
-IsLineBy (sort.Shutdown restart) log place line = Unit {0}
-IsLineBy sort.Other log place line = Unit {0}
+abbrev pub IsLineBy : Sort → Log → Arrival → Option (List ℕ) → Type 0
+IsLineBy sort.Input log a line = IsLineFor log a line
+IsLineBy sort.Join log a line = Unit {0}
+IsLineBy sort.Leave log a line = Unit {0}
+IsLineBy sort.Execute log a line = Unit {0}
+IsLineBy sort.Query log a line = Unit {0}
+IsLineBy sort.Interrupt log a line = Unit {0}
+IsLineBy sort.KernelInfo log a line = Unit {0}
+IsLineBy (sort.Shutdown restart) log a line = Unit {0}
+IsLineBy sort.Other log a line = Unit {0}
 
 abbrev pub has_asked : Wants → Bool
 has_asked Nothing = false
 has_asked Asked = true
-has_asked (Given place) = false
+has_asked (Given a) = false
 
 -- whether a cell waits for the line that it asked for
 abbrev pub is_asking : {M : Type 0} → Active M → Log → Bool

@@ -24,7 +24,7 @@ use Rattle.jk_core.specs.Kept.{IsOf}
 abbrev pub HasAsked : Wants → Running → Type 0
 HasAsked Nothing r = r.asked ≡ false
 HasAsked Asked r = r.asked ≡ true
-HasAsked (Given place) r = ⊥
+HasAsked (Given a) r = ⊥
 
 -- whether a cell may ask its seat for a line
 abbrev pub may_ask : {M : Type 0} → Active M → Log → Bool

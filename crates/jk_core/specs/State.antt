@@ -1,13 +1,11 @@
 -- To be believed.
 -- What contracts see of a kernel.
-use Rattle.std.specs.Prelude.{◌≡◌, nat_lt, slice_get, ◌&&◌, ◌<◌, ◌≤◌, ℕ, Bool, true, false, List, [], ◌∷◌, length, reverse, Option, None, Some}
+use Rattle.std.specs.Prelude.{◌≡◌, nat_lt, slice_get, ◌&&◌, ◌<◌, ◌≤◌, ℕ, Bool, true, false, List, [], ◌∷◌, length, Option, None, Some}
 use Rattle.jk_log.specs.declared.entry.Entry.{Entry}
-use Rattle.jk_log.specs.declared.mark.Item.{Item}
 use Rattle.jk_core.specs.declared.script.Waiting.{Waiting}
 use Rattle.jk_core.specs.declared.script.Task.{Task}
 use Rattle.jk_core.specs.declared.script.Task.TheVariants.{Cell, Query}
 use Rattle.jk_log.specs.Log.{Log}
-use Rattle.jk_log.specs.Pending.{pending_from}
 
 pub record KernelState (T : Type 0) : Type 0 where
   pub log : Log
@@ -29,14 +27,8 @@ pub record ScriptState (T : Type 0) : Type 0 where
   pub state : KernelState T
   pub room : ℕ
 
-abbrev pub state_of : {T : Type 0} → List Item → ℕ → List (Waiting T) → ℕ → ℕ → KernelState T
-state_of items shown waits given ran = record {
-  log = reverse items;
-  pending = pending_from shown (reverse items);
-  waits = waits;
-  given = given;
-  ran = ran;
-}
+abbrev pub state_of : {T : Type 0} → Log → List (List Entry) → List (Waiting T) → ℕ → ℕ → KernelState T
+state_of log pending waits given ran = record { log = log; pending = pending; waits = waits; given = given; ran = ran }
 
 -- whether what waits is a cell
 abbrev pub is_cell : {T : Type 0} → Task T → Bool

@@ -3,6 +3,7 @@
 ghost use Rattle.std.specs.Prelude.{◌≡◌};
 
 use jk_language::Language;
+use jk_log::Arrival;
 use std::alloc::Global;
 use std::mem;
 
@@ -12,8 +13,8 @@ pub(crate) enum Wants {
     Nothing,
     /// It asked for a line, and was given none since.
     Asked,
-    /// It asked for a line, and what arrived at this place of the log is that line. The machine was not given it.
-    Given(usize),
+    /// It asked for a line, and what arrived is that line. The machine was not given it.
+    Given(Arrival),
 }
 
 /// A cell that runs, and what has to be known of its request.

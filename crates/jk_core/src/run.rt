@@ -12,6 +12,7 @@ use crate::script::{Script, Task};
 use crate::slice::go_on;
 use crate::start::{answer_queries, start};
 use jk_language::Language;
+use jk_log::input_sent;
 use std::alloc::AllocError;
 
 /// Goes on with the cell that runs, or with what waits first.
@@ -129,10 +130,11 @@ fn give_unread<L: Language>(
     ensures used { OnOk result ((L.state active.new.machine).turns ≡ script.now.state.ran) }
     ensures err { OnErr result (RunsBy L.spoken L.state script.now.state active.new) }
 {
-    match active.wants {
+    let _ = script;
+    match &active.wants {
         Wants::Nothing | Wants::Asked => Ok(()),
-        Wants::Given(place) => {
-            let Some(text) = script.input_at(place) else {
+        Wants::Given(arrival) => {
+            let Some(text) = input_sent(&arrival.what) else {
                 unreachable!()
             };
             L::give_line(&mut active.machine, Some(text.as_str()))?;

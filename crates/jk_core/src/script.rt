@@ -1,25 +1,30 @@
 //! What was taken and marked, and what waits.
 
-ghost use Rattle.std.specs.Prelude.{◌≡◌, ◌&&◌, ◌||◌, nat_lt, ℕ, ◌+◌, ◌^◌, ◌<◌, ◌≤◌, [], ◌∷◌, ◌++◌, List, drop, find, take, length, reverse, slice_get, IsTrue, IfSome, IfNone, OnOk, OnErr, IfOk, IfErr, option_copied, None, Some};
-ghost use Rattle.std.specs.Vec.{vec_capacity, vec_len};
+ghost use Rattle.std.specs.Prelude.{◌≡◌, ◌&&◌, ◌||◌, is_some, nat_lt, ℕ, ◌+◌, ◌^◌, ◌<◌, ◌≤◌, [], ◌∷◌, ◌++◌, List, drop, find, take, length, slice_get, if◌then◌else◌, IsTrue, IfSome, IfNone, OnOk, OnErr, IfOk, IfErr, option_copied, None, Some};
+ghost use Rattle.std.specs.VecDeque.{deque_capacity, deque_len};
 ghost use Rattle.jk_core.specs.Steps.{closing, noted, took, waits_with, with_waits, with_ran, ran_after, without, GivesJob, Hands, CanKeep, first_after as first_after_of};
 ghost use Rattle.jk_core.specs.Kept.{AllWait, IsKept};
-ghost use Rattle.jk_core.specs.State.{Ascends, PassedBy, WaitingOf, is_cell as is_cell_of};
-ghost use Rattle.jk_log.specs.Log.{ended as ended_of, ends as ends_of, execute_at, input_at, seat_at, left, option_with};
-ghost use Rattle.jk_core.specs.State.{first_of, fresh};
-ghost use Rattle.jk_log.specs.Pending.{joined, pending_from};
+ghost use Rattle.jk_core.specs.State.{Ascends, PassedBy, WaitingOf, first_of, fresh, is_cell as is_cell_of};
+ghost use Rattle.jk_core.specs.Needed.{AllThere, ArrivalOf, IsFor, RunsAt, handed_back, mark_in, tasked};
+ghost use Rattle.jk_log.specs.Asked.{sort_as};
+ghost use Rattle.jk_log.specs.Log.{arrival_at, arrival_in, ended as ended_of, ends as ends_of, left, option_with};
+ghost use Rattle.jk_log.specs.Pending.{joined};
 
 use crate::kernel::Used;
+use crate::pending::Pending;
 use jk_language::Language;
 use jk_log::{
-    Arrival, Entry, Item, Job, Kind, Leaves, Mark, Parsed, ParsedCell, Sort, arrival_in,
-    execute_sent, input_sent, next_entries, sort_of,
+    Arrival, Entry, Item, Job, Kind, Leaves, Mark, Parsed, ParsedCell, Sort, execute_sent, sort_of,
 };
-use jp_msg::{Completeness, Execute};
+use jp_msg::Completeness;
 use json_form::Text;
+use past::Past;
 use std::alloc::{AllocError, AllocFailed, Global};
 use std::collections::VecDeque;
 use std::marker::Model;
+
+/// One less than the number of items that a log may have.
+const LAST_PLACE: usize = 9_223_372_036_854_775_807;
 
 /// What is to be done for a request that waits.
 #[derive(Drop)]
@@ -38,13 +43,39 @@ pub(crate) struct Waiting<T> {
     pub task: Task<T>,
 }
 
-/// What was taken and marked, and what waits.
+/// A request that waited, and what arrived.
+#[derive(Drop)]
+pub(crate) struct Popped<T> {
+    pub waiting: Waiting<T>,
+    pub arrival: Arrival,
+}
+
+impl<T: Drop> Popped<T> {
+    /// What arrived.
+    pub fn into_arrival(self) -> Arrival
+        ensures { result ≡ self.arrival }
+    {
+        let Popped {
+            waiting: _,
+            arrival,
+        } = self;
+        arrival
+    }
+}
+
+/// What was taken and marked, and what waits. Of the log itself nothing is kept but what is still needed.
 #[derive(Drop)]
 pub(crate) struct Script<T> {
-    log: Vec<Item>,
-    /// How many items of the log `take_pending` has passed.
-    shown: usize,
+    /// The log, as clauses see it.
+    past: Past<Item>,
+    /// How many items it has.
+    places: usize,
+    /// How many more marks there is room for.
+    room: usize,
+    pending: Pending,
     waiting: VecDeque<Waiting<T>>,
+    /// The arrivals of the requests that wait.
+    requests: VecDeque<Arrival>,
     given: u64,
     /// How many of the requests that wait `next_job` has passed.
     passed: usize,
@@ -57,12 +88,11 @@ pub(crate) struct Script<T> {
 }
 
 impl<T> Model for Script<T> {
-    ghost use Rattle.std.specs.Prelude.{◌≡◌, ◌-◌, ◌≤◌, ◌<◌, ℕ, Some, length, reverse, slice_get};
-    ghost use Rattle.std.specs.Vec.{vec_capacity, vec_len};
-    ghost use Rattle.jk_log.specs.Log.{arrivals, ended as ended_of};
-    ghost use Rattle.jk_core.specs.State.{Ascends, PassedBy};
+    ghost use Rattle.std.specs.Prelude.{◌≡◌, ◌+◌, ◌^◌, ◌≤◌, ◌<◌, ℕ, Some, length, slice_get};
+    ghost use Rattle.jk_log.specs.Log.{Running, arrivals, running, ended as ended_of};
+    ghost use Rattle.jk_core.specs.State.{Ascends, PassedBy, ScriptState, state_of};
+    ghost use Rattle.jk_core.specs.Needed.{AllThere, HasRequest};
     ghost use Rattle.jk_log.specs.Leaving.{last_leave};
-    ghost use Rattle.jk_core.specs.State.{ScriptState, state_of};
     ghost use Rattle.std.specs.Coded.{codes};
     ghost use Rattle.json_form.specs.contracts.kept.Json as json;
 
@@ -71,17 +101,21 @@ impl<T> Model for Script<T> {
     ghost coded = { Prim.hlevel (codes, json.the_row.coded, T.code) };
 
     ghost view = { λ s. record {
-      state = state_of s.log.items s.shown s.waiting.items s.given s.ran;
-      room = vec_capacity s.log - vec_len s.log;
+      state = state_of s.past.items s.pending.entries s.waiting.items s.given s.ran;
+      room = s.room;
     } };
 
     ghost invariant = { λ s. record {
-      shown : s.shown ≤ length s.log.items;
-      taken : s.taken ≡ arrivals (reverse s.log.items);
+      places : s.places ≡ length s.past.items;
+      small : s.places + s.room < 2 ^ 63;
+      room : s.room ≤ s.pending.room;
+      there : AllThere s.past.items s.waiting.items s.requests.items;
+      cell : (r : Running) → running s.past.items ≡ Some r → HasRequest s.pending.cell r.at s.past.items;
+      taken : s.taken ≡ arrivals s.past.items;
       order : Ascends 0 s.taken s.waiting.items;
       passed : PassedBy s.given s.passed s.waiting.items;
-      ended : s.ended ≡ ended_of (reverse s.log.items);
-      left : (seat : ℕ) → seat < 256 → slice_get s.leaves seat ≡ Some (last_leave seat (reverse s.log.items));
+      ended : s.ended ≡ ended_of s.past.items;
+      left : (seat : ℕ) → seat < 256 → slice_get s.leaves seat ≡ Some (last_leave seat s.past.items);
     } };
 }
 
@@ -90,9 +124,12 @@ impl<T: Drop> Script<T> {
         ensures { result.state ≡ fresh }
     {
         Script {
-            log: Vec::new(alloc),
-            shown: 0,
+            past: Past::new(),
+            places: 0,
+            room: 0,
+            pending: Pending::new(alloc),
             waiting: VecDeque::new(alloc),
+            requests: VecDeque::new(alloc),
             given: 0,
             passed: 0,
             taken: 0,
@@ -102,24 +139,57 @@ impl<T: Drop> Script<T> {
         }
     }
 
-    /// Makes room for so many more items.
+    /// Makes room for so many more marks.
     pub fn reserve(&mut self, more: usize) -> Result<(), AllocError>
         ensures state { self.new.state ≡ self.old.state }
         ensures kept { self.old.room ≤ self.new.room }
         ensures room { OnOk result (more ≤ self.new.room) }
     {
-        self.log.reserve(more)
+        if more > LAST_PLACE - self.places {
+            return Err(AllocError);
+        }
+        self.pending.reserve(more)?;
+        self.room = self.room.max(more);
+        Ok(())
     }
 
-    /// Marks the request at a place of the log.
+    /// Marks the request of the cell that runs, which stands at this place of the log.
     pub fn note(&mut self, at: usize, kind: Kind)
-        requires { 0 < self.old.room }
+        requires room { 0 < self.old.room }
+        requires runs { RunsAt at self.old.state.log }
+        ensures state { self.new.state ≡ noted at kind self.old.state }
+        ensures room { self.old.room ≤ self.new.room + 1 }
+    {
+        self.add(at, kind, None);
+    }
+
+    /// Marks this arrival, which stands at this place of the log.
+    pub fn note_of(&mut self, at: usize, kind: Kind, arrival: Arrival)
+        requires room { 0 < self.old.room }
+        requires there { arrival_at at self.old.state.log ≡ Some arrival }
+        ensures state { self.new.state ≡ noted at kind self.old.state }
+        ensures room { self.old.room ≤ self.new.room + 1 }
+    {
+        self.add(at, kind, Some(arrival));
+    }
+
+    /// Adds a mark of this arrival, or of the cell that runs.
+    fn add(&mut self, at: usize, kind: Kind, arrival: Option<Arrival>)
+        requires room { 0 < self.old.room }
+        requires there { IsFor at self.old.state.log arrival }
         ensures state { self.new.state ≡ noted at kind self.old.state }
         ensures room { self.old.room ≤ self.new.room + 1 }
     {
         self.ran = ran_by(&kind, self.ran);
         self.ended = ended_by(&kind, self.ended);
-        push(&mut self.log, Item::Marked(Mark { at, kind }));
+        let item = Item::Marked(Mark { at, kind });
+        self.past = self.past.and(&item);
+        self.places += 1;
+        self.room -= 1;
+        let Some(mark) = into_mark(item) else {
+            unreachable!()
+        };
+        self.pending.push(mark.kind, arrival);
     }
 
     /// The cell that runs has gone on to so many turns.
@@ -130,32 +200,46 @@ impl<T: Drop> Script<T> {
         self.ran = turns;
     }
 
-    /// Takes an arrival, for which there is room. The status is that of a query, if it is one.
+    /// Takes an arrival, for which there is room, and hands it back unless it waits. The status is that of a query,
+    /// if it is one.
     pub fn take(
         &mut self,
         arrival: Arrival,
         status: Option<Completeness>,
-    ) -> Result<(), AllocFailed<Arrival>>
+    ) -> Result<Option<Arrival>, AllocFailed<Arrival>>
         requires { 0 < self.old.room }
         ensures ok { OnOk result (self.new.state ≡ took status arrival self.old.state) }
+        ensures back { IfOk result (λ back. back ≡ handed_back (sort_as arrival.what) arrival) }
         ensures room { self.old.room ≤ self.new.room + 1 }
         ensures err { IfErr result (λ back. (back.value ≡ arrival) × (self.new.state ≡ self.old.state)) }
     {
-        let number = self.taken + 1;
-        match wait(
-            &mut self.waiting,
-            status,
-            sort_of(&arrival.what),
-            self.log.len(),
-            number,
-        ) {
-            Ok(()) => {}
-            Err(_) => return Err(AllocFailed { value: arrival }),
+        let (at, number) = (self.places, self.taken + 1);
+        let Some(task) = task_for(sort_of(&arrival.what), status) else {
+            let item = Item::Took(arrival);
+            self.past = self.past.and(&item);
+            self.taken = number;
+            self.places += 1;
+            self.room -= 1;
+            let Some(arrival) = into_arrival(item) else {
+                unreachable!()
+            };
+            self.leaves.take(&arrival, at);
+            return Ok(Some(arrival));
+        };
+        if make_room(&mut self.waiting, &mut self.requests).is_err() {
+            return Err(AllocFailed { value: arrival });
         }
+        let item = Item::Took(arrival);
+        self.past = self.past.and(&item);
         self.taken = number;
-        self.leaves.take(&arrival, self.log.len());
-        push(&mut self.log, Item::Took(arrival));
-        Ok(())
+        self.places += 1;
+        self.room -= 1;
+        let Some(arrival) = into_arrival(item) else {
+            unreachable!()
+        };
+        let request = Waiting { at, number, task };
+        hold(&mut self.waiting, &mut self.requests, request, arrival);
+        Ok(None)
     }
 
     /// How many requests wait.
@@ -171,7 +255,7 @@ impl<T: Drop> Script<T> {
         ensures place { result ≡ length self.now.state.log }
         ensures small { result < 2 ^ 63 }
     {
-        self.log.len()
+        self.places
     }
 
     /// Whether the kernel was shut down, and not to start again.
@@ -196,43 +280,20 @@ impl<T: Drop> Script<T> {
     }
 
     /// Takes the first request that waits off the others.
-    pub fn pop_waiting(&mut self) -> Option<Waiting<T>>
-        ensures first { result ≡ first_of self.old.state.waits }
+    pub fn pop_waiting(&mut self) -> Option<Popped<T>>
+        ensures first { option_with (λ p. p.waiting) result ≡ first_of self.old.state.waits }
+        ensures there { IfSome result (λ p. arrival_at p.waiting.at self.new.state.log ≡ Some p.arrival) }
         ensures rest { self.new.state ≡ with_waits (drop 1 self.old.state.waits) self.old.state }
         ensures room { self.new.room ≡ self.old.room }
     {
+        let Some(waiting) = self.waiting.pop_front() else {
+            return None;
+        };
+        let Some(arrival) = self.requests.pop_front() else {
+            unreachable!()
+        };
         self.passed = self.passed.saturating_sub(1);
-        match self.waiting.pop_front() {
-            Some(waiting) => Some(waiting),
-            None => None,
-        }
-    }
-
-    /// The execute request at a place of the log.
-    pub fn execute_at(&self, at: usize) -> Option<&Execute>
-        ensures { option_copied result ≡ execute_at at self.now.state.log }
-    {
-        execute_in(self.log.as_slice(), at)
-    }
-
-    /// The line that was sent at a place of the log.
-    pub fn input_at(&self, at: usize) -> Option<&Text>
-        ensures { option_copied result ≡ input_at at self.now.state.log }
-    {
-        match arrival_in(self.log.as_slice(), at) {
-            Some(arrival) => input_sent(&arrival.what),
-            None => None,
-        }
-    }
-
-    /// The seat of the arrival at a place of the log.
-    pub fn seat_at(&self, at: usize) -> u8
-        ensures { result ≡ seat_at at self.now.state.log }
-    {
-        match arrival_in(self.log.as_slice(), at) {
-            Some(arrival) => arrival.seat,
-            None => 0,
-        }
+        Some(Popped { waiting, arrival })
     }
 
     /// Whether a seat has left since a place of the log.
@@ -248,17 +309,14 @@ impl<T: Drop> Script<T> {
         ensures ok { OnOk result (self.new.state ≡ without most self.old.state) }
         ensures err { OnErr result (self.new.state ≡ self.old.state) }
     {
-        let alloc = *self.log.allocator();
-        let (entries, shown) = next_entries(alloc, self.log.as_slice(), self.shown, most)?;
-        self.shown = shown;
-        Ok(entries)
+        self.pending.take(most)
     }
 
     /// How many marks are pending.
     pub fn pending_marks(&self) -> usize
         ensures { result ≡ length self.now.state.pending }
     {
-        count_marks(self.log.as_slice(), self.shown)
+        self.pending.len()
     }
 
     /// The job of the next cell that waits and was not given.
@@ -272,9 +330,8 @@ impl<T: Drop> Script<T> {
         if place == self.waiting.len() {
             return Ok(None);
         }
-        let waiting = &self.waiting[place];
-        let number = waiting.number;
-        match execute_in(self.log.as_slice(), waiting.at) {
+        let number = self.waiting[place].number;
+        match execute_sent(&self.requests[place].what) {
             None => unreachable!(),
             Some(execute) => {
                 let text = execute.code.copy()?;
@@ -288,7 +345,13 @@ impl<T: Drop> Script<T> {
     pub fn keep<L: Language<Tree = T>>(&mut self, cell: ParsedCell<L>) -> Used<ParsedCell<L>>
         ensures { Hands cell self.old.state result self.new.state }
     {
-        let place = place_for(self.log.as_slice(), &self.waiting, cell.job(), cell.text());
+        let place = place_for(
+            &self.past,
+            &self.waiting,
+            &self.requests,
+            cell.job(),
+            cell.text(),
+        );
         match place {
             None => Used::Stranger(cell),
             Some(place) => {
@@ -300,16 +363,24 @@ impl<T: Drop> Script<T> {
     }
 }
 
-/// Adds an item, for which there is room.
-fn push(log: &mut Vec<Item>, item: Item)
-    requires { vec_len log.old < vec_capacity log.old }
-    ensures items { log.new.items ≡ log.old.items ++ item ∷ [] }
-    ensures length { vec_len log.new ≡ vec_len log.old + 1 }
-    ensures capacity { vec_capacity log.old ≤ vec_capacity log.new }
+/// The mark that is an item.
+fn into_mark(item: Item) -> Option<Mark>
+    ensures { result ≡ mark_in item }
 {
-    let room = log.len() < log.capacity();
-    prove!(room);
-    let _ = log.push(item);
+    match item {
+        Item::Marked(mark) => Some(mark),
+        Item::Took(_) => None,
+    }
+}
+
+/// The arrival that is an item.
+fn into_arrival(item: Item) -> Option<Arrival>
+    ensures { result ≡ arrival_in item }
+{
+    match item {
+        Item::Took(arrival) => Some(arrival),
+        Item::Marked(_) => None,
+    }
 }
 
 /// The turns of the cell that runs, after a mark.
@@ -356,42 +427,53 @@ fn ended_by(kind: &Kind, ended: bool) -> bool
     }
 }
 
-/// The execute request at a place of these items.
-fn execute_in(items: &[Item], at: usize) -> Option<&Execute>
-    ensures { option_copied result ≡ execute_at at (reverse items.now) }
+/// What is to be done for a request that is to wait. The status is that of a query.
+fn task_for<T>(sort: Sort, status: Option<Completeness>) -> Option<Task<T>>
+    ensures waits { (at number : ℕ) → waits_with status sort at number ≡ tasked result at number }
+    ensures back { (a : ArrivalOf) → handed_back sort a ≡ (if is_some result then None else Some a) }
 {
-    match arrival_in(items, at) {
-        Some(arrival) => execute_sent(&arrival.what),
-        None => None,
-    }
-}
-
-/// Adds a request that is to wait. The status is that of a query.
-fn wait<T: Drop>(
-    waiting: &mut VecDeque<Waiting<T>>,
-    status: Option<Completeness>,
-    sort: Sort,
-    at: usize,
-    number: u64,
-) -> Result<(), AllocError>
-    ensures ok { OnOk result (waiting.new.items ≡ waiting.old.items ++ waits_with status sort at number) }
-    ensures err { OnErr result (waiting.new.items ≡ waiting.old.items) }
-{
-    let task = match sort {
-        Sort::Execute => Task::Cell(None),
-        Sort::Query => Task::Query(status),
+    match sort {
+        Sort::Execute => Some(Task::Cell(None)),
+        Sort::Query => Some(Task::Query(status)),
         Sort::Join
         | Sort::Leave
         | Sort::Input
         | Sort::Interrupt
         | Sort::KernelInfo
         | Sort::Shutdown { .. }
-        | Sort::Other => return Ok(()),
-    };
-    match waiting.push_back(Waiting { at, number, task }) {
-        Ok(()) => Ok(()),
-        Err(_) => Err(AllocError),
+        | Sort::Other => None,
     }
+}
+
+/// Makes room for one more request that waits.
+fn make_room<T>(
+    waiting: &mut VecDeque<Waiting<T>>,
+    requests: &mut VecDeque<Arrival>,
+) -> Result<(), AllocError>
+    ensures waiting { waiting.new.items ≡ waiting.old.items }
+    ensures requests { requests.new.items ≡ requests.old.items }
+    ensures room { OnOk result ((deque_len waiting.new < deque_capacity waiting.new) × (deque_len requests.new < deque_capacity requests.new)) }
+{
+    waiting.reserve(1)?;
+    requests.reserve(1)
+}
+
+/// Adds a request that waits, for which there is room, and what arrived.
+fn hold<T: Drop>(
+    waiting: &mut VecDeque<Waiting<T>>,
+    requests: &mut VecDeque<Arrival>,
+    request: Waiting<T>,
+    arrival: Arrival,
+)
+    requires waiting { deque_len waiting.old < deque_capacity waiting.old }
+    requires requests { deque_len requests.old < deque_capacity requests.old }
+    ensures waiting { waiting.new.items ≡ waiting.old.items ++ request ∷ [] }
+    ensures requests { requests.new.items ≡ requests.old.items ++ arrival ∷ [] }
+{
+    let room = waiting.len() < waiting.capacity() && requests.len() < requests.capacity();
+    prove!(room);
+    let _ = waiting.push_back(request);
+    let _ = requests.push_back(arrival);
 }
 
 /// Whether what waits is a cell.
@@ -448,32 +530,23 @@ fn place_after<T>(waiting: &VecDeque<Waiting<T>>, number: u64) -> usize
     waiting.partition_point(|w| w.number <= number)
 }
 
-/// How many marks stand from a place on.
-fn count_marks(items: &[Item], from: usize) -> usize
-    requires { from ≤ length items.now }
-    ensures { result ≡ length (pending_from from (reverse items.now)) }
-{
-    let mut place = from;
-    let mut marks: usize = 0;
-    while place < items.len() {
-        match &items[place] {
-            Item::Took(_) => {}
-            Item::Marked(_) => marks += 1,
-        }
-        place += 1;
-    }
-    marks
-}
-
 /// Whether a request can keep the result of this job and text.
-fn can_keep<T>(items: &[Item], waiting: &Waiting<T>, job: u64, text: &Text) -> bool
-    ensures yes { IsTrue result → CanKeep (reverse items.now) job text.now waiting.now }
-    ensures no { CanKeep (reverse items.now) job text.now waiting.now → IsTrue result }
+fn can_keep<T>(
+    past: &Past<Item>,
+    waiting: &Waiting<T>,
+    request: &Arrival,
+    job: u64,
+    text: &Text,
+) -> bool
+    requires { arrival_at waiting.now.at past.now.items ≡ Some request.now }
+    ensures yes { IsTrue result → CanKeep past.now.items job text.now waiting.now }
+    ensures no { CanKeep past.now.items job text.now waiting.now → IsTrue result }
 {
+    let _ = past;
     if waiting.number != job || !matches!(&waiting.task, Task::Cell(None)) {
         return false;
     }
-    match execute_in(items, waiting.at) {
+    match execute_sent(&request.what) {
         Some(execute) => execute.code.as_str() == text.as_str(),
         None => false,
     }
@@ -481,21 +554,23 @@ fn can_keep<T>(items: &[Item], waiting: &Waiting<T>, job: u64, text: &Text) -> b
 
 /// The place of a request that can keep the result of this job and text.
 fn place_for<T>(
-    items: &[Item],
+    past: &Past<Item>,
     waiting: &VecDeque<Waiting<T>>,
+    requests: &VecDeque<Arrival>,
     job: u64,
     text: &Text,
 ) -> Option<usize>
-    requires { (high : ℕ) × Ascends 0 high waiting.now.items }
-    ensures found { IfSome result (λ i. (w : WaitingOf T) × (slice_get waiting.now.items i ≡ Some w) × CanKeep (reverse items.now) job text.now w) }
-    ensures none { IfNone result ((i : ℕ) (w : WaitingOf T) → slice_get waiting.now.items i ≡ Some w → CanKeep (reverse items.now) job text.now w → ⊥) }
+    requires ascends { (high : ℕ) × Ascends 0 high waiting.now.items }
+    requires there { AllThere past.now.items waiting.now.items requests.now.items }
+    ensures found { IfSome result (λ i. (w : WaitingOf T) × (slice_get waiting.now.items i ≡ Some w) × CanKeep past.now.items job text.now w) }
+    ensures none { IfNone result ((i : ℕ) (w : WaitingOf T) → slice_get waiting.now.items i ≡ Some w → CanKeep past.now.items job text.now w → ⊥) }
 {
     let after = place_after(waiting, job);
     if after == 0 {
         return None;
     }
     let place = after - 1;
-    if can_keep(items, &waiting[place], job, text) {
+    if can_keep(past, &waiting[place], &requests[place], job, text) {
         Some(place)
     } else {
         None

@@ -4,6 +4,7 @@ ghost use Rattle.std.specs.Prelude.{false, IsTrue, ◌&&◌, ◌≡◌, ℕ, ◌
 ghost use Rattle.jk_log.specs.Log.{count as count_of, left, running, Running};
 ghost use Rattle.jk_core.specs.Steps.{closed, flushed, failing, limit as limit_of, noted, GoesOn};
 ghost use Rattle.jk_core.specs.Kept.{Stands};
+ghost use Rattle.jk_core.specs.Needed.{RunsAt};
 ghost use Rattle.jk_core.specs.Slices.{IsAtWork, HasCome, HasStuck, may_ask as may_ask_of, work_of, place_of};
 ghost use Rattle.jk_language.specs.MachineState.{here};
 ghost use Rattle.jk_language.specs.Runs.{HasTurned};
@@ -103,7 +104,8 @@ fn flush<T: Drop, M>(
     turns: u64,
     text: Text,
 )
-    requires { 0 < script.old.room }
+    requires room { 0 < script.old.room }
+    requires runs { RunsAt active.now.at script.old.state.log }
     ensures state { script.new.state ≡ flushed answer.now active.now.read active.now.at turns text script.old.state }
     ensures room { script.old.room ≤ script.new.room + 1 }
 {
@@ -130,7 +132,8 @@ fn close<L: Language>(
     answer: Turned,
     turns: u64,
 ) -> Work
-    requires { 1 + length script.old.state.waits ≤ script.old.room }
+    requires room { 1 + length script.old.state.waits ≤ script.old.room }
+    requires runs { RunsAt active.at script.old.state.log }
     ensures work { result ≡ work_of answer }
     ensures state { script.new.state ≡ closed answer active.at active.stops turns desk.old.count script.old.state }
     ensures place { desk.new.place ≡ place_of answer (here (L.state active.machine)).session active }
@@ -175,6 +178,7 @@ fn end<L: Language>(
     failed: bool,
 )
     requires room { 1 + length script.old.state.waits ≤ script.old.room }
+    requires runs { RunsAt active.at script.old.state.log }
     ensures state { script.new.state ≡ failing (failed && active.stops) (noted active.at kind script.old.state) }
     ensures place { desk.new.place ≡ Place.Resting (here (L.state active.machine)).session }
     ensures count { desk.new.count ≡ desk.old.count }

@@ -1,7 +1,7 @@
 //! Beginning what waits first.
 
-ghost use Rattle.std.specs.Prelude.{◌≡◌, ◌≢◌, ℕ, ◌+◌, ◌≤◌, List, length, true, IfOk, IfErr, Some, None, ◌⊎◌};
-ghost use Rattle.jk_log.specs.Log.{count as count_of, session as session_of, next_count as next_count_of, execute_at, running};
+ghost use Rattle.std.specs.Prelude.{◌≡◌, ◌≢◌, ℕ, ◌+◌, ◌≤◌, List, length, true, IfOk, IfErr, Some, None, ◌⊎◌, option_copied};
+ghost use Rattle.jk_log.specs.Log.{count as count_of, session as session_of, next_count as next_count_of, arrival_at, execute_at, running};
 ghost use Rattle.jk_log.specs.Results.{IsResult};
 ghost use Rattle.jk_core.specs.Steps.{answering, stops_at as stops_at_of, allows_at as allows_at_of, broken, BeginsAt, IsBrokenAt};
 ghost use Rattle.jp_msg.specs.declared.message.Execute.{Execute as ExecuteOf};
@@ -14,39 +14,57 @@ use crate::script::{Script, Task};
 use crate::slice::go_on;
 use crate::taking::fail;
 use jk_language::{Begun, Language, Refusal};
-use jk_log::{Ending, Kind, Parsed};
+use jk_log::{Arrival, Ending, Kind, Parsed, execute_sent};
+use jp_msg::Execute;
 use json_form::Text;
 use std::alloc::Global;
 
+/// The execute request that arrived at a place.
+fn execute_of<'a, T: Drop>(
+    script: &Script<T>,
+    at: usize,
+    request: &'a Arrival,
+) -> Option<&'a Execute>
+    requires { arrival_at at script.now.state.log ≡ Some request.now }
+    ensures { option_copied result ≡ execute_at at script.now.state.log }
+{
+    let _ = script;
+    let _ = at;
+    execute_sent(&request.what)
+}
+
 /// The count with which the request at a place begins.
-fn next_count<T: Drop>(script: &Script<T>, at: usize, count: u64) -> u64
+fn next_count<T: Drop>(script: &Script<T>, at: usize, request: &Arrival, count: u64) -> u64
+    requires there { arrival_at at script.now.state.log ≡ Some request.now }
     requires counted { count ≡ count_of script.now.state.log }
     requires few { count ≤ length script.now.state.log }
     ensures { result ≡ next_count_of at script.now.state.log }
 {
     let places = script.next_place();
     prove!(count <= places as u64);
-    match script.execute_at(at) {
+    match execute_of(script, at, request) {
         Some(execute) if execute.store_history && !execute.silent => count + 1,
         _ => count,
     }
 }
 
 /// Whether an error of the request at a place aborts what waits.
-fn stops_at<T: Drop>(script: &Script<T>, at: usize) -> bool
+fn stops_at<T: Drop>(script: &Script<T>, at: usize, request: &Arrival) -> bool
+    requires { arrival_at at script.now.state.log ≡ Some request.now }
     ensures { result ≡ stops_at_of at script.now.state.log }
 {
-    match script.execute_at(at) {
+    match execute_of(script, at, request) {
         Some(execute) => execute.stop_on_error,
         None => false,
     }
 }
 
 /// Whether the request at a place allows input.
-fn allows_at<T: Drop>(script: &Script<T>, at: usize) -> bool
+fn allows_at<T: Drop>(script: &Script<T>, at: usize, request: &Arrival) -> bool
+    requires { arrival_at at script.now.state.log ≡ Some request.now }
     ensures { result ≡ allows_at_of at script.now.state.log }
 {
-    match script.execute_at(at) {
+    match execute_of(script, at, request) {
         Some(execute) => execute.allow_stdin,
         None => false,
     }
@@ -120,19 +138,22 @@ pub(crate) fn start<L: Language>(
         }
     };
     answer_queries(script);
-    let _ = script.pop_waiting();
+    let Some(popped) = script.pop_waiting() else {
+        unreachable!()
+    };
+    let request = popped.into_arrival();
     match opening {
         Opening::Refused(session) => {
             let count = desk.count;
-            script.note(at, Kind::Refuse { count });
+            script.note_of(at, Kind::Refuse { count }, request);
             desk.place = Place::Resting(session);
             Work::Ran
         }
         Opening::Broken(session, refusal) => {
-            end_broken::<L>(script, desk, at, session, refusal);
+            end_broken::<L>(script, desk, at, request, session, refusal);
             Work::Ran
         }
-        Opening::Runs(machine) => begin::<L>(script, desk, at, machine, turns),
+        Opening::Runs(machine) => begin::<L>(script, desk, at, request, machine, turns),
     }
 }
 
@@ -147,8 +168,10 @@ pub(crate) fn answer_queries<T: Drop>(script: &mut Script<T>)
             return;
         };
         let (at, status) = (first.at, *status);
-        let _ = script.pop_waiting();
-        script.note(at, Kind::Answer { status });
+        let Some(popped) = script.pop_waiting() else {
+            unreachable!()
+        };
+        script.note_of(at, Kind::Answer { status }, popped.into_arrival());
     }
 }
 
@@ -157,28 +180,30 @@ fn begin<L: Language>(
     script: &mut Script<L::Tree>,
     desk: &mut Desk<L::Session, L::Machine>,
     at: usize,
+    request: Arrival,
     machine: L::Machine,
     turns: u64,
 ) -> Work
     requires room { 3 + length script.old.state.waits ≤ script.old.room }
     requires counted { desk.old.count ≡ count_of script.old.state.log }
     requires few { count_of script.old.state.log ≤ length script.old.state.log }
+    requires there { arrival_at at script.old.state.log ≡ Some request }
     requires begins { (e : ExecuteOf) × (execute_at at script.old.state.log ≡ Some e) × IsFresh L.spoken (session_of L.spoken script.old.state.log) e.code (L.state machine) }
     ensures begins { BeginsAt L.spoken turns at script.old.state result script.new.state }
     ensures stands { Stands L.spoken L.state script.new.state desk.new }
 {
     let active = Active {
         at,
-        seat: script.seat_at(at),
-        stops: stops_at(script, at),
-        allows: allows_at(script, at),
+        seat: request.seat,
+        stops: stops_at(script, at, &request),
+        allows: allows_at(script, at, &request),
         wants: Wants::Nothing,
         read: false,
         machine,
     };
-    let count = next_count(script, at, desk.count);
+    let count = next_count(script, at, &request, desk.count);
     desk.count = count;
-    script.note(at, Kind::Begin { count });
+    script.note_of(at, Kind::Begin { count }, request);
     go_on::<L>(script, desk, active, turns)
 }
 
@@ -187,6 +212,7 @@ fn end_broken<L: Language>(
     script: &mut Script<L::Tree>,
     desk: &mut Desk<L::Session, L::Machine>,
     at: usize,
+    request: Arrival,
     session: L::Session,
     refusal: Refusal,
 )
@@ -194,14 +220,15 @@ fn end_broken<L: Language>(
     requires counted { desk.old.count ≡ count_of script.old.state.log }
     requires few { count_of script.old.state.log ≤ length script.old.state.log }
     requires session { session ≡ session_of L.spoken script.old.state.log }
+    requires there { arrival_at at script.old.state.log ≡ Some request }
     requires breaks { IsBrokenAt L.spoken at refusal script.old.state.log }
     ensures ended { script.new.state ≡ broken at refusal script.old.state }
     ensures stands { Stands L.spoken L.state script.new.state desk.new }
 {
-    let stops = stops_at(script, at);
-    let count = next_count(script, at, desk.count);
+    let stops = stops_at(script, at, &request);
+    let count = next_count(script, at, &request, desk.count);
     desk.count = count;
-    script.note(at, Kind::Begin { count });
+    script.note_of(at, Kind::Begin { count }, request);
     let text = Text::from_string(String::new(desk.alloc));
     script.note(at, Kind::Flush { turns: 0, text });
     let ending = Ending::Refused(refusal);

@@ -1,13 +1,13 @@
 //! Taking what arrives, and the marks that stand directly after it.
 
-ghost use Rattle.std.specs.Prelude.{◌≡◌, ℕ, ◌+◌, ◌<◌, ◌≤◌, List, is_some, length, OnOk, IfOk, IfErr, IfSome};
+ghost use Rattle.std.specs.Prelude.{◌≡◌, ℕ, ◌+◌, ◌<◌, ◌≤◌, List, Some, is_some, length, OnOk, IfOk, IfErr, IfSome};
 ghost use Rattle.jk_log.specs.Asked.{input_in};
-ghost use Rattle.jk_log.specs.Log.{asker, running};
+ghost use Rattle.jk_log.specs.Log.{arrival_at, asker, running};
 ghost use Rattle.jk_core.specs.Steps.{Takes, aborting, failing, interrupted, shut, stopped, stops_with};
 ghost use Rattle.jk_core.specs.Kept.{IsKept, IsLineBy, IsLineFor, Stands, StandsFor, CanStop, line_to, lined_up, marked_as};
 
 use crate::desk::{Active, Desk, Place, Wants, take_place};
-use crate::script::{Script, closing_kind};
+use crate::script::{Popped, Script, closing_kind};
 use jk_language::Language;
 use jk_log::{Arrival, Cause, Kind, Sort, input_sent, sort_of, status_of};
 use json_form::Text;
@@ -40,35 +40,40 @@ pub(crate) fn take_in<L: Language>(
     };
     let place = script.next_place();
     let sort = sort_of(&arrival.what);
-    script.take(arrival, status)?;
-    mark_taken::<L>(script, desk, sort, place, line);
+    let back = script.take(arrival, status)?;
+    let Some(arrival) = back else {
+        return Ok(());
+    };
+    mark_taken::<L>(script, desk, sort, place, line, arrival);
     Ok(())
 }
 
-/// Makes the marks of an arrival at this place, which gives the cell that runs this line.
+/// Makes the marks of an arrival, which stands at this place and gives the cell that runs this line.
 fn mark_taken<L: Language>(
     script: &mut Script<L::Tree>,
     desk: &mut Desk<L::Session, L::Machine>,
     sort: Sort,
     place: usize,
     line: Option<Text>,
+    arrival: Arrival,
 )
     requires room { 3 + length script.old.state.waits ≤ script.old.room }
     requires stands { StandsFor L.spoken L.state sort script.old.state desk.old }
-    requires line { IsLineBy sort script.old.state.log place line }
+    requires line { IsLineBy sort script.old.state.log arrival line }
+    requires there { arrival_at place script.old.state.log ≡ Some arrival }
     ensures marked { script.new.state ≡ marked_as sort place line script.old.state }
     ensures stands { Stands L.spoken L.state script.new.state desk.new }
 {
     match sort {
-        Sort::Join => script.note(place, Kind::Join),
-        Sort::Leave => script.note(place, Kind::Leave),
-        Sort::KernelInfo => script.note(place, Kind::KernelInfo),
+        Sort::Join => script.note_of(place, Kind::Join, arrival),
+        Sort::Leave => script.note_of(place, Kind::Leave, arrival),
+        Sort::KernelInfo => script.note_of(place, Kind::KernelInfo, arrival),
         Sort::Interrupt => {
-            script.note(place, Kind::Interrupt);
+            script.note_of(place, Kind::Interrupt, arrival);
             interrupt::<L>(script, desk);
         }
-        Sort::Shutdown { restart } => shut_down::<L>(script, desk, place, restart),
-        Sort::Input => give::<L>(script, desk, place, line),
+        Sort::Shutdown { restart } => shut_down::<L>(script, desk, place, restart, arrival),
+        Sort::Input => give::<L>(script, desk, line, arrival),
         Sort::Execute | Sort::Query | Sort::Other => {}
     }
 }
@@ -107,16 +112,16 @@ fn asks<L: Language>(
     }
 }
 
-/// Gives a line that arrived at this place to the cell that asks for one.
+/// Gives a line that arrived to the cell that asks for one.
 fn give<L: Language>(
     script: &mut Script<L::Tree>,
     desk: &mut Desk<L::Session, L::Machine>,
-    place: usize,
     line: Option<Text>,
+    arrival: Arrival,
 )
     requires room { 0 < script.old.room }
     requires stands { Stands L.spoken L.state script.old.state desk.old }
-    requires line { IsLineFor script.old.state.log place line }
+    requires line { IsLineFor script.old.state.log arrival line }
     ensures given { script.new.state ≡ lined_up line (running script.old.state.log) script.old.state }
     ensures stands { Stands L.spoken L.state script.new.state desk.new }
 {
@@ -128,7 +133,7 @@ fn give<L: Language>(
         Place::Running(mut active) => {
             let text = Some(text);
             script.note(active.at, Kind::Line { text });
-            active.wants = Wants::Given(place);
+            active.wants = Wants::Given(arrival);
             active.read = true;
             desk.place = Place::Running(active);
         }
@@ -151,8 +156,9 @@ fn abort_waiting<T: Drop>(script: &mut Script<T>)
     ensures state { script.new.state ≡ aborting script.old.state.waits script.old.state }
     ensures room { script.old.room ≤ script.new.room + length script.old.state.waits }
 {
-    while let Some(waiting) = script.pop_waiting() {
-        script.note(waiting.at, closing_kind(&waiting.task));
+    while let Some(popped) = script.pop_waiting() {
+        let Popped { waiting, arrival } = popped;
+        script.note_of(waiting.at, closing_kind(&waiting.task), arrival);
     }
 }
 
@@ -173,15 +179,17 @@ fn shut_down<L: Language>(
     desk: &mut Desk<L::Session, L::Machine>,
     place: usize,
     restart: bool,
+    arrival: Arrival,
 )
     requires room { 3 + length script.old.state.waits ≤ script.old.room }
     requires stands { CanStop L.spoken L.state script.old.state desk.old }
+    requires there { arrival_at place script.old.state.log ≡ Some arrival }
     ensures shut { script.new.state ≡ shut place restart (running script.old.state.log) script.old.state }
     ensures stands { Stands L.spoken L.state script.new.state desk.new }
 {
     let _ = stop::<L>(script, desk, Cause::Restarted);
     abort_waiting(script);
-    script.note(place, Kind::Restart { restart });
+    script.note_of(place, Kind::Restart { restart }, arrival);
     desk.count = 0;
     desk.place = Place::Resting(L::opening(desk.alloc));
 }

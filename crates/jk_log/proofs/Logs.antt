@@ -30,27 +30,6 @@ arrivals_few [] = omega arith
 arrivals_few (Took a ∷ past) = omega (arith, arrivals_few past)
 arrivals_few (Marked m ∷ past) = omega (arith, arrivals_few past)
 
--- a list with one more at its end
-get_snoc : {A : Type 0} (xs : List A) (e : A) (at : ℕ) → slice_get (xs ++ e ∷ []) at ≡ cond (eqb (length xs) at) (Some e) (slice_get xs at)
-get_snoc [] e zero = refl
-get_snoc [] e (suc k) = rw (eqb-zero-suc k) refl
-get_snoc (x ∷ xs) e zero = rw (eqb-suc-zero (length xs)) refl
-get_snoc (x ∷ xs) e (suc k) = rw (eqb-suc-suc (length xs) k) (get_snoc xs e k)
-
-at_cond : (b : Bool) (e : Item) (rest : Option Item) → option_at arrival_in (cond b (Some e) rest) ≡ cond b (arrival_in e) (option_at arrival_in rest)
-at_cond true e rest = refl
-at_cond false e rest = refl
-
-arrival_from : (log : Log) (at : ℕ) → arrival_at at log ≡ option_at arrival_in (slice_get (reverse log) at)
-arrival_from [] at = refl
-arrival_from (e ∷ past) at =
-    rw (reverse_onto past e [], get_snoc (reverse past) e at, length-reverse past, at_cond (eqb (length past) at) e (slice_get (reverse past) at))
-    (ap (cond (eqb (length past) at) (arrival_in e)) (arrival_from past at))
-
--- the arrival at a place is that of the item there
-pub arrival_found : (items : List Item) (at : ℕ) → arrival_at at (reverse items) ≡ option_at arrival_in (slice_get items at)
-arrival_found items at = arrival_from (reverse items) at ∙ ap (λ (xs : List Item). option_at arrival_in (slice_get xs at)) (reverse-reverse items)
-
 -- nothing arrived past the end
 pub arrival_past : (log : Log) (at : ℕ) → length log ≤ at → arrival_at at log ≡ None
 arrival_past [] at h = refl
@@ -76,7 +55,22 @@ execute_grows log e at x h =
     let apart : eqb (length log) at ≡ false = ne_eqb (length log) at (λ e. omega arith) in
     rw apart h
 
+pub arrival_grows : (log : Log) (e : Item) (at : ℕ) (a : Arrival) → arrival_at at log ≡ Some a → arrival_at at (e ∷ log) ≡ Some a
+arrival_grows log e at a h = further (leb (length log) at) refl
+  where
+    none_arrived : None ≡ Some a → ⊥
+    none_arrived e = cc
+    further : (b : Bool) → leb (length log) at ≡ b → arrival_at at (e ∷ log) ≡ Some a
+    further true f = absurd (none_arrived (sym (arrival_past log at (leb-true (length log) at f)) ∙ h))
+    further false f =
+        let less = leb-false (length log) at f in
+        let apart : eqb (length log) at ≡ false = ne_eqb (length log) at (λ e. omega arith) in
+        rw apart h
+
 -- what was just taken stands there
+pub arrival_newest : (log : Log) (a : Arrival) → arrival_at (length log) (Took a ∷ log) ≡ Some a
+arrival_newest log a = rw (eq-eqb (length log) (length log) refl) refl
+
 pub execute_newest : (log : Log) (a : Arrival) → execute_at (length log) (Took a ∷ log) ≡ execute_in a.what
 execute_newest log a = rw (eq-eqb (length log) (length log) refl) refl
 
@@ -271,11 +265,11 @@ left_last seat at (Took a ∷ past) = by (leaves seat a) (left_last seat at past
 left_last seat at (Marked m ∷ past) = left_last seat at past
 
 -- the table of last leaves, as an arrival is taken
-pub leave_table : (old new : List ℕ) (items : List Item) (a : Arrival) (place : ℕ) → place ≡ length items → ((seat : ℕ) → seat < 256 → slice_get old seat ≡ Some (last_leave seat (reverse items))) → ((seat : ℕ) → seat < 256 → slice_get new seat ≡ cond (leaves seat a) (Some place) (slice_get old seat)) → (seat : ℕ) → seat < 256 → slice_get new seat ≡ Some (last_leave seat (Took a ∷ reverse items))
-leave_table old new items a place at before after seat h = after seat h ∙ by (leaves seat a) (before seat h)
+pub leave_table : (old new : List ℕ) (log : Log) (a : Arrival) (place : ℕ) → place ≡ length log → ((seat : ℕ) → seat < 256 → slice_get old seat ≡ Some (last_leave seat log)) → ((seat : ℕ) → seat < 256 → slice_get new seat ≡ cond (leaves seat a) (Some place) (slice_get old seat)) → (seat : ℕ) → seat < 256 → slice_get new seat ≡ Some (last_leave seat (Took a ∷ log))
+leave_table old new log a place at before after seat h = after seat h ∙ by (leaves seat a) (before seat h)
   where
-    by : (b : Bool) → slice_get old seat ≡ Some (last_leave seat (reverse items)) → cond b (Some place) (slice_get old seat) ≡ Some (cond b (length (reverse items)) (last_leave seat (reverse items)))
-    by true e = ap (λ (n : ℕ). Some n) (at ∙ sym (length-reverse items))
+    by : (b : Bool) → slice_get old seat ≡ Some (last_leave seat log) → cond b (Some place) (slice_get old seat) ≡ Some (cond b (length log) (last_leave seat log))
+    by true e = ap (λ (n : ℕ). Some n) at
     by false e = e
 
 -- a table of zeros
@@ -284,10 +278,3 @@ zeros_get i [] h e = absurd (omega (arith, h))
 zeros_get zero (zero ∷ xs) h e = refl
 zeros_get (suc i) (zero ∷ xs) h e = zeros_get i xs (omega (arith, h)) e
 zeros_get i (suc n ∷ xs) h e = cc
-
--- the items, newest first, with one more
-pub pushed_log : (items pushed : List Item) (e : Item) → pushed ≡ items ++ e ∷ [] → reverse pushed ≡ e ∷ reverse items
-pushed_log items pushed e is = ap reverse is ∙ reverse-append items (e ∷ [])
-
-pub pushed_few : (items pushed : List Item) (e : Item) (n : ℕ) → pushed ≡ items ++ e ∷ [] → n ≤ length items → n ≤ length pushed
-pushed_few items pushed e n is h = subst (λ (xs : List Item). n ≤ length xs) (sym is) (let l = length-append items (e ∷ []) in omega (arith, l, h))

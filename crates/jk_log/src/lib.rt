@@ -14,6 +14,6 @@ pub use arrival::{Arrival, Sort, What, execute_sent, input_sent, sort_of};
 pub use entry::{Entry, To, Told};
 pub use job::{Job, Parsed, ParsedCell};
 pub use leaves::Leaves;
-pub use mark::{Cause, Ending, Item, Kind, Mark, arrival_in};
+pub use mark::{Cause, Ending, Item, Kind, Mark};
 pub use query::status_of;
-pub use show::next_entries;
+pub use show::add_entries;

@@ -1,8 +1,5 @@
 //! What the kernel writes down.
 
-ghost use Rattle.std.specs.Prelude.{◌≡◌, option_copied, reverse};
-ghost use Rattle.jk_log.specs.Log.{arrival_at};
-
 use crate::arrival::Arrival;
 use jk_language::{Refusal, Trap};
 use jp_msg::Completeness;
@@ -83,17 +80,4 @@ pub struct Mark {
 pub enum Item {
     Took(Arrival),
     Marked(Mark),
-}
-
-/// The arrival at a place of these items.
-pub fn arrival_in(items: &[Item], at: usize) -> Option<&Arrival>
-    ensures { option_copied result ≡ arrival_at at (reverse items.now) }
-{
-    match items.get(at) {
-        Some(item) => match item {
-            Item::Took(arrival) => Some(arrival),
-            Item::Marked(_) => None,
-        },
-        None => None,
-    }
 }

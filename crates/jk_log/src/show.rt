@@ -1,17 +1,16 @@
 //! The entries that a mark shows.
 
-ghost use Rattle.std.specs.Prelude.{◌≡◌, ◌++◌, ◌∷◌, [], ◌≤◌, length, reverse, take, drop, OnOk, IfOk, if◌then◌else◌};
-ghost use Rattle.jk_log.specs.Render.{answer_shown, answered, begun, control_shown, ended, entries_at, entries_of, execute_shown, failed, noticed, query_shown, replied, shown_of, told};
-ghost use Rattle.jk_log.specs.Pending.{joined, pending_from};
+ghost use Rattle.std.specs.Prelude.{◌≡◌, ◌++◌, ◌∷◌, [], OnOk, if◌then◌else◌};
+ghost use Rattle.jk_log.specs.Render.{answer_shown, answered, begun, control_shown, ended, entries_of, execute_shown, failed, noticed, query_shown, replied, shown_of, told};
 
 use crate::arrival::{Arrival, What, execute_of, query_of};
 use crate::entry::{Entry, To, Told};
 use crate::failure::{of_cause, of_refusal, of_trap};
-use crate::mark::{Cause, Ending, Item, Kind, Mark, arrival_in};
+use crate::mark::{Cause, Ending, Kind};
 use crate::query::reply_of;
 use jp_msg::{Channel, Completeness, Execute, Failure, Message, Outcome, Output, Request, State};
 use json_form::Shared;
-use std::alloc::{AllocError, Global};
+use std::alloc::AllocError;
 
 /// Adds an entry for this request.
 fn add(
@@ -298,8 +297,12 @@ fn add_told(entries: &mut Vec<Entry>, content: Told) -> Result<(), AllocError>
     Ok(())
 }
 
-/// Adds what a mark shows of what arrived.
-fn add_of(entries: &mut Vec<Entry>, kind: &Kind, arrival: &Arrival) -> Result<(), AllocError>
+/// Adds the entries of a mark for this arrival. Where memory is refused some of them may have been added.
+pub fn add_entries(
+    entries: &mut Vec<Entry>,
+    kind: &Kind,
+    arrival: &Arrival,
+) -> Result<(), AllocError>
     ensures { OnOk result (entries.new.items ≡ entries.old.items ++ entries_of kind.now arrival.now) }
 {
     let (seat, number) = (arrival.seat, arrival.number);
@@ -323,42 +326,4 @@ fn add_of(entries: &mut Vec<Entry>, kind: &Kind, arrival: &Arrival) -> Result<()
         | Kind::Refuse { .. }
         | Kind::Abort => add_execute(entries, seat, kind, what),
     }
-}
-
-/// Adds what a mark after these items shows.
-fn add_at(entries: &mut Vec<Entry>, items: &[Item], mark: &Mark) -> Result<(), AllocError>
-    ensures { OnOk result (entries.new.items ≡ entries.old.items ++ entries_at (reverse items.now) mark.now) }
-{
-    match arrival_in(items, mark.at) {
-        Some(arrival) => add_of(entries, &mark.kind, arrival),
-        None => Ok(()),
-    }
-}
-
-/// The entries of the next marks from a place on, at most so many marks, and the place after them.
-pub fn next_entries(
-    alloc: Global,
-    items: &[Item],
-    from: usize,
-    most: usize,
-) -> Result<(Vec<Entry>, usize), AllocError>
-    requires { from ≤ length items.now }
-    ensures place { IfOk result (λ next. next.1 ≤ length items.now) }
-    ensures entries { IfOk result (λ next. next.0.items ≡ joined (take most (pending_from from (reverse items.now)))) }
-    ensures rest { IfOk result (λ next. pending_from next.1 (reverse items.now) ≡ drop most (pending_from from (reverse items.now))) }
-{
-    let mut entries = Vec::new(alloc);
-    let mut place = from;
-    let mut left = most;
-    while place < items.len() && left > 0 {
-        match &items[place] {
-            Item::Took(_) => {}
-            Item::Marked(mark) => {
-                add_at(&mut entries, &items[..place], mark)?;
-                left -= 1;
-            }
-        }
-        place += 1;
-    }
-    Ok((entries, place))
 }

@@ -11,4 +11,4 @@ returns-in-Nothing g c = record {
 
 pub returns-in_ok-give_line-in-Given-clause-ok : goal.returns-in_ok-give_line-in-Given-clause-ok
 returns-in_ok-give_line-in-Given-clause-ok g c = λ n le.
-    at_work_given g.L.Language.spoken g.met.L.Language.lawful g.L.Language.state c.args.script.now.state n c.in-Given.place c.args.active.now c.give_line.new.machine c.as_str.result.now c.in-Given.is c.requires.runs (ap (λ x. Some x) c.as_str.ensures ∙ c.in-Some.ensures) c.in_ok-give_line-in-Given.ensures.ok le
+    at_work_given g.L.Language.spoken g.met.L.Language.lawful g.L.Language.state c.args.script.now.state n c.in-Given.arrival c.args.active.now c.give_line.new.machine c.as_str.result.now c.in-Given.is c.requires.runs (ap (λ x. Some x) c.as_str.ensures ∙ c.in-Some.ensures) c.in_ok-give_line-in-Given.ensures.ok le

@@ -1,4 +1,5 @@
-use Rattle.std.proofs.Common.{◌≡◌, ◌∙◌, length, ap, sym, refl, arith}
+use Rattle.std.proofs.Common.{◌≡◌, ◌∙◌, length, ap, sym, subst, refl, arith}
+use Rattle.jk_core.specs.Needed.{RunsAt}
 use Rattle.jk_language.specs.Runs.{tells_line}
 use Rattle.jk_core.specs.State.{KernelState}
 use Rattle.jk_core.proofs.Turns.{come, is_stuck, next_falls, next_work, not_err}
@@ -46,3 +47,8 @@ loop-answer-preserved g c =
       came = come g.L.Language.spoken g.met.L.Language.lawful g.L.Language.state c.args.script.now.state c.note.new.self.state c.args.limit _ c.turn_to-answer-in-NeedsLine.new.machine c.turn_to-answer-in-NeedsLine.result w c.turn_to-answer-in-NeedsLine.ensures;
       room = omega (arith, waits, room, c.waiting_len-more.ensures.count, c.note.ensures.room);
     }
+
+pub note-requires-clause-runs : goal.note-requires-clause-runs
+note-requires-clause-runs g c =
+    let stands = c.loop-answer.invariant.came.stands in
+    subst (λ (k : KernelState _). RunsAt c.loop-answer.active.at k.log) (sym c.reserve.ensures.state) (stands.cell, stands.runs, sym stands.of.at)

@@ -9,5 +9,11 @@ returns-in-Running-clause-stands g c =
     let k = c.args.script.now.state in
     let runs = subst (HoldsAt g.L.Language.spoken g.L.Language.state (session g.L.Language.spoken k.log) (running k.log) k.ran) (sym c.in-Running.ensures.value) c.requires.stands.place in
     let wants = subst (WantsAt g.L.Language.state k.log (running k.log)) (sym c.in-Running.ensures.value) c.requires.stands.wants in
-    let line = subst (IsLineFor k.log c.args.place) c.in-Some.is c.requires.line in
-    give_stands g.L.Language.spoken g.met.L.Language.lawful g.L.Language.state k c.note.new.self.state c.take_place.new.desk c.in-Running.active c.args.place c.in-Some.text (c.take_place.ensures.count ∙ c.requires.stands.count) (record { runs = runs; wants = wants }) line c.note.ensures.state
+    let line = subst (IsLineFor k.log c.args.arrival) c.in-Some.is c.requires.line in
+    give_stands g.L.Language.spoken g.met.L.Language.lawful g.L.Language.state k c.note.new.self.state c.take_place.new.desk c.in-Running.active c.args.arrival c.in-Some.text (c.take_place.ensures.count ∙ c.requires.stands.count) (record { runs = runs; wants = wants }) line c.note.ensures.state
+
+pub note-requires-clause-runs : goal.note-requires-clause-runs
+note-requires-clause-runs g c =
+    let k = c.args.script.now.state in
+    let runs = subst (HoldsAt g.L.Language.spoken g.L.Language.state (session g.L.Language.spoken k.log) (running k.log) k.ran) (sym c.in-Running.ensures.value) c.requires.stands.place in
+    (runs.cell, runs.runs, sym runs.of.at)
