@@ -2,12 +2,17 @@
 
 use crate::scene::play;
 use crate::socket::{End, Socket};
+use js_ws::Protocol;
 use std::test::Fail;
 use test_language::TestLanguage;
 
 /// A text frame of a kernel_info request, masked by zeros.
 const ASKS: &[u8] =
     b"\x81\xd7\x00\x00\x00\x00{\"header\":{\"msg_id\":\"m1\",\"session\":\"s1\",\"msg_type\":\"kernel_info_request\"},\"content\":{}}";
+
+/// A frame of the same request as a binary message, made by serialize_msg_to_ws_v1 of Jupyter Server 1.23.3, masked by zeros.
+const ASKS_V1: &[u8] =
+    b"\x82\xfe\x00\x82\x00\x00\x00\x00\x06\x00\x00\x00\x00\x00\x00\x008\x00\x00\x00\x00\x00\x00\x00=\x00\x00\x00\x00\x00\x00\x00|\x00\x00\x00\x00\x00\x00\x00~\x00\x00\x00\x00\x00\x00\x00\x80\x00\x00\x00\x00\x00\x00\x00\x82\x00\x00\x00\x00\x00\x00\x00shell{\"msg_id\":\"m1\",\"session\":\"s1\",\"msg_type\":\"kernel_info_request\"}{}{}{}";
 
 /// The text "Hello" of RFC 6455, section 5.7, masked; and the same bytes as a binary message, a ping and a pong.
 const NO_MESSAGES: &[u8] =
@@ -19,6 +24,7 @@ const PING: &[u8] = b"\x89\x80\x00\x00\x00\x00";
 
 /// Frames, what the stream gives after them, and what comes of steps.
 struct Play {
+    protocol: Protocol,
     frames: &'static [u8],
     end: End,
     is_full: bool,
@@ -26,9 +32,10 @@ struct Play {
     wanted: &'static str,
 }
 
-const PLAYS: [Play; 5] = [
+const PLAYS: [Play; 8] = [
     // No message of Jupyter is dropped as an arrival; then the stream ends.
     Play {
+        protocol: Protocol::Default,
         frames: NO_MESSAGES,
         end: End::Ends,
         is_full: false,
@@ -37,6 +44,7 @@ const PLAYS: [Play; 5] = [
     },
     // A close is answered, and the read after it is a fault.
     Play {
+        protocol: Protocol::Default,
         frames: CLOSE,
         end: End::Waits,
         is_full: false,
@@ -45,6 +53,7 @@ const PLAYS: [Play; 5] = [
     },
     // A ping is answered by the next read, and where that answer can't be written, the read is a fault.
     Play {
+        protocol: Protocol::Default,
         frames: PING,
         end: End::TakesNothing,
         is_full: false,
@@ -53,6 +62,7 @@ const PLAYS: [Play; 5] = [
     },
     // A ping whose answer is written.
     Play {
+        protocol: Protocol::Default,
         frames: PING,
         end: End::Waits,
         is_full: false,
@@ -62,11 +72,38 @@ const PLAYS: [Play; 5] = [
     // Where the inbox is full, the channel holds its arrival and reads nothing. So its leave comes after each of them, once
     // there is room.
     Play {
+        protocol: Protocol::Default,
         frames: ASKS,
         end: End::Ends,
         is_full: true,
         steps: "tttptptpt",
         wanted: "wwwwwcJ1S2L3",
+    },
+    // The same request in the other protocol.
+    Play {
+        protocol: Protocol::V1,
+        frames: ASKS_V1,
+        end: End::Waits,
+        is_full: false,
+        steps: "tt",
+        wanted: "oqJ1S2",
+    },
+    // A text is dropped in that protocol, and a binary message in the default one.
+    Play {
+        protocol: Protocol::V1,
+        frames: ASKS,
+        end: End::Waits,
+        is_full: false,
+        steps: "tt",
+        wanted: "oqJ1",
+    },
+    Play {
+        protocol: Protocol::Default,
+        frames: ASKS_V1,
+        end: End::Waits,
+        is_full: false,
+        steps: "tt",
+        wanted: "oqJ1",
     },
 ];
 
@@ -75,7 +112,14 @@ const PLAYS: [Play; 5] = [
 fn frames_that_come_at_once(rt: HostRuntime) -> Result<(), Fail> {
     for (place, row) in PLAYS.iter().enumerate() {
         let socket = Socket::new(row.frames, row.end);
-        let text = play::<_, _, TestLanguage>(&rt, rt.alloc(), socket, row.is_full, row.steps)?;
+        let text = play::<_, _, TestLanguage>(
+            &rt,
+            rt.alloc(),
+            row.protocol,
+            socket,
+            row.is_full,
+            row.steps,
+        )?;
         assert_eq!(rt; text.as_str(), row.wanted, "{place}");
     }
     Ok(())
@@ -87,10 +131,24 @@ fn frames_that_come_at_once(rt: HostRuntime) -> Result<(), Fail> {
 fn a_frame_cut_at_every_byte(rt: HostRuntime) -> Result<(), Fail> {
     for cut in 0..ASKS.len() {
         let socket = Socket::cut(ASKS, cut);
-        let text = play::<_, _, TestLanguage>(&rt, rt.alloc(), socket, false, "ttt")?;
+        let text = play::<_, _, TestLanguage>(
+            &rt,
+            rt.alloc(),
+            Protocol::Default,
+            socket,
+            false,
+            "ttt",
+        )?;
         assert_eq!(rt; text.as_str(), "qoqJ1S2", "{cut}");
         let socket = Socket::new(&ASKS[..cut], End::Ends);
-        let text = play::<_, _, TestLanguage>(&rt, rt.alloc(), socket, false, "tt")?;
+        let text = play::<_, _, TestLanguage>(
+            &rt,
+            rt.alloc(),
+            Protocol::Default,
+            socket,
+            false,
+            "tt",
+        )?;
         assert_eq!(rt; text.as_str(), "ccJ1L2", "{cut}");
     }
     Ok(())

@@ -4,15 +4,16 @@ ghost use Rattle.jk_core.specs.State.{fresh};
 ghost use Rattle.jk_queues.specs.Ends.{taken_by};
 
 use crate::scene::{DATE, names};
-use crate::socket::{End, Socket};
+use crate::socket::{Compared, End, Socket};
 use jk_board::{Board, Follower};
 use jk_core::{Kernel, Work};
 use jk_language::Language;
 use jk_log::{Arrival, ParsedCell, What};
 use jk_queues::{Gate, Inbox, Pool, Seat, Seats, Taker, WorkerEnd, worker};
 use jk_run::{Driver, Parts, drive_some};
-use js_ws::{Channel, Turn, channel_turn};
+use js_ws::{Channel, Protocol, Turn, channel_turn};
 use std::alloc::{AllocError, Global};
+use std::cell::Cell;
 use std::io::{Read, Write};
 use std::sync::Wait;
 use std::test::Fail;
@@ -28,6 +29,14 @@ const CELL: &[u8] =
 /// A text frame of a shutdown request without restart, on the control channel, masked by zeros.
 const SHUTDOWN: &[u8] =
     b"\x81\xf7\x00\x00\x00\x00{\"channel\":\"control\",\"content\":{\"restart\":false},\"header\":{\"msg_id\":\"m1\",\"session\":\"s1\",\"msg_type\":\"shutdown_request\"}}";
+
+/// A frame of the same request as a binary message, made by serialize_msg_to_ws_v1 of Jupyter Server 1.23.3, masked by zeros.
+const SHUTDOWN_V1: &[u8] =
+    b"\x82\xfe\x00\x90\x00\x00\x00\x00\x06\x00\x00\x00\x00\x00\x00\x008\x00\x00\x00\x00\x00\x00\x00?\x00\x00\x00\x00\x00\x00\x00{\x00\x00\x00\x00\x00\x00\x00}\x00\x00\x00\x00\x00\x00\x00\x7f\x00\x00\x00\x00\x00\x00\x00\x90\x00\x00\x00\x00\x00\x00\x00control{\"msg_id\":\"m1\",\"session\":\"s1\",\"msg_type\":\"shutdown_request\"}{}{}{\"restart\":false}";
+
+/// The frames of busy, the reply and idle, whose messages are made by that function.
+const SHUT_V1: &[u8] =
+    b"\x82~\x01\x10\x06\x00\x00\x00\x00\x00\x00\x008\x00\x00\x00\x00\x00\x00\x00=\x00\x00\x00\x00\x00\x00\x00\xb8\x00\x00\x00\x00\x00\x00\x00\xf4\x00\x00\x00\x00\x00\x00\x00\xf6\x00\x00\x00\x00\x00\x00\x00\x10\x01\x00\x00\x00\x00\x00\x00iopub{\"date\":\"1970-01-01T00:00:00.000000Z\",\"msg_id\":\"c_0\",\"msg_type\":\"status\",\"session\":\"k\",\"username\":\"kernel\",\"version\":\"5.4\"}{\"msg_id\":\"m1\",\"msg_type\":\"shutdown_request\",\"session\":\"s1\"}{}{\"execution_state\":\"busy\"}\x82~\x01\x1f\x06\x00\x00\x00\x00\x00\x00\x008\x00\x00\x00\x00\x00\x00\x00?\x00\x00\x00\x00\x00\x00\x00\xc2\x00\x00\x00\x00\x00\x00\x00\xfe\x00\x00\x00\x00\x00\x00\x00\x00\x01\x00\x00\x00\x00\x00\x00\x1f\x01\x00\x00\x00\x00\x00\x00control{\"date\":\"1970-01-01T00:00:00.000000Z\",\"msg_id\":\"c_1\",\"msg_type\":\"shutdown_reply\",\"session\":\"k\",\"username\":\"kernel\",\"version\":\"5.4\"}{\"msg_id\":\"m1\",\"msg_type\":\"shutdown_request\",\"session\":\"s1\"}{}{\"restart\":false,\"status\":\"ok\"}\x82~\x01\x10\x06\x00\x00\x00\x00\x00\x00\x008\x00\x00\x00\x00\x00\x00\x00=\x00\x00\x00\x00\x00\x00\x00\xb8\x00\x00\x00\x00\x00\x00\x00\xf4\x00\x00\x00\x00\x00\x00\x00\xf6\x00\x00\x00\x00\x00\x00\x00\x10\x01\x00\x00\x00\x00\x00\x00iopub{\"date\":\"1970-01-01T00:00:00.000000Z\",\"msg_id\":\"c_2\",\"msg_type\":\"status\",\"session\":\"k\",\"username\":\"kernel\",\"version\":\"5.4\"}{\"msg_id\":\"m1\",\"msg_type\":\"shutdown_request\",\"session\":\"s1\"}{}{\"execution_state\":\"idle\"}";
 
 type Parser = WorkerEnd<ParsedCell<TestLanguage>>;
 
@@ -164,11 +173,12 @@ where
 }
 
 /// How many entries a channel over this stream sends until it is closed and its kernel rests.
-fn sent<R>(rt: R, alloc: Global, socket: Socket<'_>) -> Result<Option<usize>, Fail>
+fn sent<R, S>(rt: R, alloc: Global, protocol: Protocol, stream: S) -> Result<Option<usize>, Fail>
 where
     R: Threads + Wait + Clock + Copy + Send + 'static,
+    S: Read + Write + Drop,
 {
-    let names = names(alloc)?;
+    let names = names(alloc, protocol)?;
     let cast = make_cast::<R, TestLanguage>(&rt, alloc)?;
     let Cast {
         driver,
@@ -177,7 +187,7 @@ where
         follower,
         mut parsers,
     } = cast;
-    let channel = Channel::new(alloc, socket, names, seat, follower);
+    let channel = Channel::new(alloc, stream, names, seat, follower);
     let parser = match parsers.pop() {
         Some(end) => begin(rt, alloc, end).ok(),
         None => None,
@@ -197,10 +207,31 @@ where
 /// them the channel is closed.
 #[test]
 fn channels_that_are_closed(rt: HostRuntime) -> Result<(), Fail> {
-    let lost = sent(rt, rt.alloc(), Socket::new(CELL, End::EndsAtInput))?;
+    let lost = sent(
+        rt,
+        rt.alloc(),
+        Protocol::Default,
+        Socket::new(CELL, End::EndsAtInput),
+    )?;
     assert_eq!(rt; lost, Some(3));
-    let shut = sent(rt, rt.alloc(), Socket::new(SHUTDOWN, End::Waits))?;
+    let shut = sent(
+        rt,
+        rt.alloc(),
+        Protocol::Default,
+        Socket::new(SHUTDOWN, End::Waits),
+    )?;
     assert_eq!(rt; shut, Some(3));
+    Ok(())
+}
+
+/// The same shutdown in the other protocol, and what is written.
+#[test]
+fn a_shutdown_in_binary_messages(rt: HostRuntime) -> Result<(), Fail> {
+    let left = Cell::new(SHUT_V1.len());
+    let stream = Compared::new(Socket::new(SHUTDOWN_V1, End::Waits), SHUT_V1, &left);
+    let shut = sent(rt, rt.alloc(), Protocol::V1, stream)?;
+    assert_eq!(rt; shut, Some(3));
+    assert_eq!(rt; left.get(), 0);
     Ok(())
 }
 
@@ -226,7 +257,7 @@ fn crowd<R: Wait, L: Language>(rt: &R, driver: Driver<L>, seat: Seat) -> Driver<
 /// what came before.
 #[test]
 fn second_screen(rt: HostRuntime) -> Result<(), Fail> {
-    let names = names(rt.alloc())?;
+    let names = names(rt.alloc(), Protocol::Default)?;
     let cast = make_cast::<HostRuntime, TestLanguage>(&rt, rt.alloc())?;
     let Cast {
         driver,

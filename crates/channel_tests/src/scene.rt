@@ -4,7 +4,7 @@ use jk_board::{Board, Follower};
 use jk_language::Language;
 use jk_log::{Arrival, What};
 use jk_queues::{Inbox, Seat, Taker};
-use js_ws::{Channel, Names, Turn, channel_turn};
+use js_ws::{Channel, Names, Protocol, Turn, channel_turn};
 use json_form::Text;
 use std::alloc::{AllocError, Global};
 use std::io::{Read, Write};
@@ -27,10 +27,11 @@ struct Scene<S, L: Language> {
 }
 
 /// By what a channel's messages are named.
-pub(crate) fn names(alloc: Global) -> Result<Names, AllocError> {
+pub(crate) fn names(alloc: Global, protocol: Protocol) -> Result<Names, AllocError> {
     Ok(Names {
         session: Text::from_str(alloc, "k")?,
         id: Text::from_str(alloc, "c")?,
+        protocol,
     })
 }
 
@@ -156,6 +157,7 @@ where
 pub(crate) fn play<R, S, L>(
     rt: &R,
     alloc: Global,
+    protocol: Protocol,
     stream: S,
     is_full: bool,
     steps: &str,
@@ -165,7 +167,7 @@ where
     S: Read + Write + Drop,
     L: Language,
 {
-    let names = names(alloc)?;
+    let names = names(alloc, protocol)?;
     let ends = make_ends::<R, L>(rt, alloc, is_full)?;
     let Ends {
         taker,

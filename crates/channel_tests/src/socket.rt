@@ -1,5 +1,6 @@
 //! A stream in memory.
 
+use std::cell::Cell;
 use std::io;
 use std::io::{ErrorKind, Read, Write};
 
@@ -72,6 +73,48 @@ impl Write for Socket<'_> {
             .any(|part| part == b"input_request".as_slice());
         if asks && matches!(self.end, End::EndsAtInput) {
             self.end = End::Ends;
+        }
+        Ok(buf.len())
+    }
+
+    fn flush(&mut self) -> io::Result<()> {
+        Ok(())
+    }
+}
+
+/// A stream whose written bytes are compared with others.
+#[derive(Drop)]
+pub(crate) struct Compared<'s> {
+    socket: Socket<'s>,
+    wanted: &'s [u8],
+    left: &'s Cell<usize>,
+}
+
+impl<'s> Compared<'s> {
+    /// `left` says how many of the wanted bytes were not yet written; after another byte it is `usize::MAX`.
+    pub(crate) fn new(socket: Socket<'s>, wanted: &'s [u8], left: &'s Cell<usize>) -> Compared<'s> {
+        Compared {
+            socket,
+            wanted,
+            left,
+        }
+    }
+}
+
+impl Read for Compared<'_> {
+    fn read(&mut self, buf: &mut [u8]) -> io::Result<usize> {
+        self.socket.read(buf)
+    }
+}
+
+impl Write for Compared<'_> {
+    fn write(&mut self, buf: &[u8]) -> io::Result<usize> {
+        match self.wanted.strip_prefix(buf) {
+            Some(rest) => {
+                self.wanted = rest;
+                self.left.set(rest.len());
+            }
+            None => self.left.set(usize::MAX),
         }
         Ok(buf.len())
     }

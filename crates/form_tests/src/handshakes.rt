@@ -20,7 +20,12 @@ fn answer_to<R: Abort>(rt: &R, alloc: Global, head: &str) -> Option<String> {
         panic!(rt; "the head is one of a request");
     };
     match handshake(alloc, &request) {
-        Ok(Response::SwitchingProtocols(value)) => Some(value.into_string()),
+        Ok(
+            Response::SwitchingProtocols {
+                accept,
+                protocol: None,
+            },
+        ) => Some(accept.into_string()),
         Ok(_) => panic!(rt; "the answer switches protocols"),
         Err(HttpRefusal::BadRequest) => None,
         Err(_) => panic!(rt; "there is memory"),

@@ -15,3 +15,5 @@ mod origins;
 mod requests;
 #[cfg(test)]
 mod shelves;
+#[cfg(test)]
+mod subprotocol;

@@ -295,7 +295,10 @@ fn responses_and_their_beginnings(rt: HostRuntime) -> Result<(), Fail> {
     expect_cuts(
         &rt,
         rt.alloc(),
-        &Response::SwitchingProtocols(accept),
+        &Response::SwitchingProtocols {
+            accept,
+            protocol: None,
+        },
         "HTTP/1.1 101 Switching Protocols\r\nUpgrade: websocket\r\nConnection: Upgrade\r\nSec-WebSocket-Accept: s3pPLMBiTxaQ9kYGzzhZRbK+xOo=\r\n\r\n",
     );
     expect_cuts(

@@ -3,10 +3,12 @@
 
 pub mod board;
 pub mod follower;
+pub mod marks;
 pub mod news;
 pub mod posted;
 pub mod publisher;
 pub mod rule;
+pub mod sizes;
 
 pub use board::{Board, Followers};
 pub use follower::Follower;

@@ -44,6 +44,8 @@ pub struct Posted {
     newest: Row<Publication>,
     /// How many entries these rows hold.
     end: usize,
+    /// The bytes of all that was ever put on it.
+    bytes: usize,
     ghost whole: { AreWhole oldest older newest },
     ghost ended: { end ≡ length (of_oldest oldest ++ of_older older ++ of_newest newest) },
 }

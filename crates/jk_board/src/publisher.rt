@@ -3,13 +3,15 @@ ghost use Rattle.std.specs.Prelude.{◌≡◌, [], drop};
 ghost use Rattle.left_right.specs.Sides.{view};
 ghost use Rattle.jk_board.specs.Posted.{all_of};
 
+use crate::marks::Marks;
 use crate::posted::Posted;
 use crate::rule::{Grows, Seen};
 use jk_language::Language;
 use jk_log::Entry;
 use left_right::Absorb;
 use left_right::writer::Writer;
-use std::alloc::AllocError;
+use std::alloc::{AllocError, Global};
+use std::sync::Arc;
 
 mod steps;
 mod telling;
@@ -46,6 +48,7 @@ pub type Copies<L> = Writer<Posted, Replace, Seen, Grows<L>>;
 /// Publishes entries to all followers. End it by `end`: followers find nothing from then on.
 pub struct Publisher<L: Language> {
     pub(crate) copies: Copies<L>,
+    pub(crate) marks: Arc<Marks, Global>,
     ghost nothing_pending: { drop copies.behind copies.log.items ≡ [] },
     ghost saw_all: { (view copies.desk.place).seen ≡ all_of copies.desk.shown.value },
 }

@@ -2,21 +2,27 @@
 ghost use Rattle.std.specs.Prelude.{◌≡◌, ◌≢◌, ◌≤◌, true, None};
 ghost use Rattle.jk_log.specs.Legal.{IsLegal};
 ghost use Rattle.jk_core.specs.declared.kernel.Work.TheVariants.{NoMemory};
+ghost use Rattle.jk_core.specs.Steps.{Works};
 ghost use Rattle.jk_run.specs.Driver.{HasDriven, AreSameEnds, IsRound, Rounds};
 
 use crate::arrivals::take_arrivals;
 use crate::board::{publish_hand, publish_pending};
 use crate::driver::Driver;
 use crate::jobs::{give_jobs, hand_results};
-use jk_core::Work;
+use jk_core::{Kernel, Work};
 use jk_language::Language;
 use std::sync::Wait;
 
 /// The turns of a slice.
 const SLICE: u64 = 1_000;
 
+/// How many bytes may be unread by one who is lent a place at the board, before the kernel waits.
+const UNREAD: usize = 67_108_864;
+
 /// Makes so many rounds, and answers the slice of the last one, or `NoMemory` where a call of that round was refused for
-/// memory. A round takes what arrived, gives jobs, hands results to the kernel, works one slice and publishes.
+/// memory. A round takes what arrived, gives jobs, hands results to the kernel, works one slice and publishes. While a
+/// follower that is lent is more than 67,108,864 bytes behind, it works no slice, unless the kernel was shut down: a budget
+/// that is used up counts as refused memory.
 pub fn drive_some<L: Language, R: Wait>(rt: &R, rounds: u64, driver: Driver<L>) -> (Driver<L>, Work)
     requires { 1 ≤ rounds }
     ensures rounds { Rounds L.spoken rounds driver result.1 result.0 }
@@ -96,7 +102,8 @@ fn go_round<L: Language, R: Wait>(rt: &R, driver: Driver<L>) -> (Driver<L>, Work
     let (taker, arrival) = take_arrivals(rt, &mut kernel, taker, arrival);
     let (job, gave) = give_jobs(rt, &mut kernel, &mut pool, job);
     hand_results(rt, &mut kernel, &mut pool);
-    let work = kernel.work(SLICE);
+    let room = kernel.ended() || publisher.unread() <= UNREAD;
+    let work = work_slice(&mut kernel, room);
     let (publisher, entries, shown) = publish_pending(rt, alloc, &mut kernel, publisher);
     let taken = arrival.is_none();
     let next = Driver {
@@ -110,6 +117,17 @@ fn go_round<L: Language, R: Wait>(rt: &R, driver: Driver<L>) -> (Driver<L>, Work
         entries,
     };
     (next, answer_of(taken, gave, shown, work))
+}
+
+/// Works one slice, where there is room for what it shows. Else the answer is that there is no memory.
+fn work_slice<L: Language>(kernel: &mut Kernel<L>, room: bool) -> Work
+    ensures { Works L.spoken 1000 kernel.old result kernel.new }
+{
+    if room {
+        kernel.work(SLICE)
+    } else {
+        Work::NoMemory
+    }
 }
 
 /// What a round answers: that of its slice, where memory was there for all else.

@@ -38,7 +38,7 @@ use Rattle.jk_log.specs.Log.{Log, Running, arrival_at, count, option_or, running
 use Rattle.jk_log.specs.Render.{answer_shown, control_shown, entries_at, entries_of, execute_shown, failed, query_shown, shown_of, streamed}
 use Rattle.jk_world.specs.Answers.{exchange, outputs_in}
 use Rattle.jk_world.specs.Cells as cells
-use Rattle.jk_world.specs.Cells.{answers, begins, closed_as, closed_by, ends, runs_at, times_aborted, times_answered, times_begun, times_closed, times_ended}
+use Rattle.jk_world.specs.Cells.{answers, begins, closed_as, closed_by, count_at, count_by, ends, runs_at, times_aborted, times_answered, times_begun, times_closed, times_ended}
 use Rattle.jk_world.specs.Requests.{AreFor, message_in, shown_at}
 use Rattle.jk_world.specs.Shown.{AreBetween, IsBetween, IsCellShown, IsShownAs, IsTurnedAway, TellsWhy, closes, closes_by, opens, to_all, to_asker, unless}
 use Rattle.jk_world.proofs.Answered.{addressed}
@@ -188,6 +188,12 @@ quiet_aborts true Abort aborted q = absurd q
 quiet_aborts true other aborted q = omega arith
 quiet_aborts false kind aborted q = omega arith
 
+quiet_count : (b : Bool) (kind : Kind) (n : ℕ) → IsQuiet kind → cond b (count_by kind n) n ≡ n
+quiet_count true (Begin count) n q = absurd q
+quiet_count true (Refuse count) n q = absurd q
+quiet_count true other n q = refl
+quiet_count false kind n q = refl
+
 quiet_closed : (b : Bool) (kind : Kind) (o : Option Kind) → IsQuiet kind → cond b (closed_by kind o) o ≡ o
 quiet_closed true Join o q = refl
 quiet_closed true Leave o q = refl
@@ -270,12 +276,13 @@ module _ {S T : Type 0} (spoken : Spoken S T) (at : ℕ) (a : Arrival) (e : Exec
     closed : times_closed at (i ∷ past) ≡ times_closed at past
     begun : times_begun at (i ∷ past) ≡ times_begun at past
     aborted : times_aborted at (i ∷ past) ≡ times_aborted at past
+    told : count_at at (i ∷ past) ≡ count_at at past
     ended : closed_as at (i ∷ past) ≡ closed_as at past
     counted : (r : Running) → running past ≡ Some r → count (i ∷ past) ≡ count past
 
   keeps_why : (i : Item) (past : Log) (outcome : Outcome) → IsSame i past → TellsWhy past at outcome → TellsWhy (i ∷ past) at outcome
   keeps_why i past outcome s (inl (one, is)) = inl (s.aborted ∙ one, is)
-  keeps_why i past outcome s (inr (none, n, is)) = inr (s.aborted ∙ none, n, is)
+  keeps_why i past outcome s (inr (none, is)) = inr (s.aborted ∙ none, is ∙ ap (λ (n : ℕ). Failed n (cause_failure cause.Memory)) (sym s.told))
 
   keeps : (i : Item) (past : Log) → EachFollows spoken past → IsSame i past → Now past → Now (i ∷ past)
   keeps i past each s (inl (none, shown)) = inl (s.closed ∙ none, s.shown ∙ shown)
@@ -284,6 +291,7 @@ module _ {S T : Type 0} (spoken : Spoken S T) (at : ℕ) (a : Arrival) (e : Exec
         once = s.begun ∙ b.once;
         shown = record {
           count = b.shown.count;
+          begun = s.told ∙ b.shown.begun;
           between = b.shown.between;
           are = b.shown.are;
           shown = s.shown ∙ b.shown.shown ∙ ap (λ (o : Option Kind). opens b.shown.count sent e ++ (b.shown.between ++ closes a.seat sent e b.shown.count o)) (sym s.ended);
@@ -308,6 +316,7 @@ module _ {S T : Type 0} (spoken : Spoken S T) (at : ℕ) (a : Arrival) (e : Exec
     closed = apart_times (eqb m.at at) (times_closed at past) (cells.closes m.kind) b;
     begun = apart_times (eqb m.at at) (times_begun at past) (begins m.kind) b;
     aborted = apart_times (eqb m.at at) (times_aborted at past) (cells.aborts m.kind) b;
+    told = cond_no (eqb m.at at) _ (count_at at past) b;
     ended = cond_no (eqb m.at at) _ (closed_as at past) b;
     counted = count_stays past m.at m.kind each may;
   }
@@ -331,6 +340,7 @@ module _ {S T : Type 0} (spoken : Spoken S T) (at : ℕ) (a : Arrival) (e : Exec
         closed = times.1;
         begun = times.0;
         aborted = quiet_aborts (eqb at at) kind (times_aborted at past) q;
+        told = quiet_count (eqb at at) kind (count_at at past) q;
         ended = quiet_closed (eqb at at) kind (closed_as at past) q;
         counted = count_stays past at kind each may;
       }
@@ -371,14 +381,15 @@ module _ {S T : Type 0} (spoken : Spoken S T) (at : ℕ) (a : Arrival) (e : Exec
       by (inr (inr (none, closed, away))) = let one = is_one in let lived = all in absurd (omega (arith, none, one, lived))
 
   -- it goes on, and these stand between
-  grows : (past : Log) (kind : Kind) (es : List Entry) → EachFollows spoken past → MayMark spoken past (owed past) (record { at = at; kind = kind }) → arrival_at at past ≡ Some a → outputs_in (entries_of kind a) ≡ es → AreBetween a.seat sent e es → times_begun at (Marked (record { at = at; kind = kind }) ∷ past) ≡ times_begun at past → closed_as at (Marked (record { at = at; kind = kind }) ∷ past) ≡ closed_as at past → (b : IsBegun past) → closed_as at past ≡ None → Now (Marked (record { at = at; kind = kind }) ∷ past)
-  grows past kind es each may there shows are begun ended b lives_on =
+  grows : (past : Log) (kind : Kind) (es : List Entry) → EachFollows spoken past → MayMark spoken past (owed past) (record { at = at; kind = kind }) → arrival_at at past ≡ Some a → outputs_in (entries_of kind a) ≡ es → AreBetween a.seat sent e es → times_begun at (Marked (record { at = at; kind = kind }) ∷ past) ≡ times_begun at past → closed_as at (Marked (record { at = at; kind = kind }) ∷ past) ≡ closed_as at past → count_at at (Marked (record { at = at; kind = kind }) ∷ past) ≡ count_at at past → (b : IsBegun past) → closed_as at past ≡ None → Now (Marked (record { at = at; kind = kind }) ∷ past)
+  grows past kind es each may there shows are begun ended told b lives_on =
       let c = b.shown.count in
       let ys = b.shown.between in
       inr (inl (record {
         once = begun ∙ b.once;
         shown = record {
           count = c;
+          begun = told ∙ b.shown.begun;
           between = ys ++ es;
           are = between_more a.seat sent e ys es b.shown.are are;
           shown =
@@ -392,14 +403,15 @@ module _ {S T : Type 0} (spoken : Spoken S T) (at : ℕ) (a : Arrival) (e : Exec
       }))
 
   -- it ends
-  ends_so : (past : Log) (kind : Kind) → arrival_at at past ≡ Some a → closed_as at (Marked (record { at = at; kind = kind }) ∷ past) ≡ Some kind → times_begun at (Marked (record { at = at; kind = kind }) ∷ past) ≡ times_begun at past → (b : IsBegun past) → outputs_in (entries_of kind a) ≡ closes_by a.seat sent e b.shown.count kind → closed_as at past ≡ None → Now (Marked (record { at = at; kind = kind }) ∷ past)
-  ends_so past kind there ended begun b shows lives_on =
+  ends_so : (past : Log) (kind : Kind) → arrival_at at past ≡ Some a → closed_as at (Marked (record { at = at; kind = kind }) ∷ past) ≡ Some kind → times_begun at (Marked (record { at = at; kind = kind }) ∷ past) ≡ times_begun at past → count_at at (Marked (record { at = at; kind = kind }) ∷ past) ≡ count_at at past → (b : IsBegun past) → outputs_in (entries_of kind a) ≡ closes_by a.seat sent e b.shown.count kind → closed_as at past ≡ None → Now (Marked (record { at = at; kind = kind }) ∷ past)
+  ends_so past kind there ended begun told b shows lives_on =
       let c = b.shown.count in
       let ys = b.shown.between in
       inr (inl (record {
         once = begun ∙ b.once;
         shown = record {
           count = c;
+          begun = told ∙ b.shown.begun;
           between = ys;
           are = b.shown.are;
           shown =
@@ -435,6 +447,7 @@ module _ {S T : Type 0} (spoken : Spoken S T) (at : ℕ) (a : Arrival) (e : Exec
         once = ap (λ (b : Bool). times_begun at past + cond b 1 0) here ∙ ap (λ (k : ℕ). k + 1) w.0;
         shown = record {
           count = n;
+          begun = ap (λ (b : Bool). cond b n (count_at at past)) here;
           between = [];
           are = tt;
           shown =
@@ -476,23 +489,23 @@ module _ {S T : Type 0} (spoken : Spoken S T) (at : ℕ) (a : Arrival) (e : Exec
       let f = flush_may spoken past (owed past) at turns text may in
       let b = runs_begun_at past f.0 each f.1 f.2.request now in
       let shows = ap outputs_in (cell_shows (Flush turns text)) in
-      grows past (Flush turns text) _ each may there shows (flush_between a.seat sent e e.silent text refl) (begun_same past (Flush turns text) refl) (cond_same (eqb at at) (closed_as at past)) b.0 b.1
+      grows past (Flush turns text) _ each may there shows (flush_between a.seat sent e e.silent text refl) (begun_same past (Flush turns text) refl) (cond_same (eqb at at) (closed_as at past)) (cond_same (eqb at at) (count_at at past)) b.0 b.1
   mark_here past Ask each may there now =
       let (asks_it, none) = ask_may spoken past (owed past) at may in
       let b = runs_begun_at past asks_it.0 each asks_it.1 asks_it.2.request now in
-      grows past Ask (to_asker a.seat Stdin sent InputRequest ∷ []) each may there (ap outputs_in (cell_shows Ask)) (inr refl, tt) (begun_same past Ask refl) (cond_same (eqb at at) (closed_as at past)) b.0 b.1
+      grows past Ask (to_asker a.seat Stdin sent InputRequest ∷ []) each may there (ap outputs_in (cell_shows Ask)) (inr refl, tt) (begun_same past Ask refl) (cond_same (eqb at at) (closed_as at past)) (cond_same (eqb at at) (count_at at past)) b.0 b.1
   mark_here past (End ending n) each may there now =
       let f = end_may spoken past (owed past) at n ending may in
       let b = runs_begun_at past f.0 each f.1 f.2.request now in
-      ends_so past (End ending n) there (ap (λ (c : Bool). cond c (Some (End ending n)) (closed_as at past)) here) (begun_same past (End ending n) refl) b.0 (ending_shows ending n b.0.shown.count (f.2.counted ∙ b.0.counted b.1)) b.1
+      ends_so past (End ending n) there (ap (λ (c : Bool). cond c (Some (End ending n)) (closed_as at past)) here) (begun_same past (End ending n) refl) (cond_same (eqb at at) (count_at at past)) b.0 (ending_shows ending n b.0.shown.count (f.2.counted ∙ b.0.counted b.1)) b.1
   mark_here past (Stop turns why n) each may there now =
       let f = stop_stops spoken past (owed past) at turns n why may in
       let b = runs_begun_at past f.0 each f.1 f.2.request now in
-      ends_so past (Stop turns why n) there (ap (λ (c : Bool). cond c (Some (Stop turns why n)) (closed_as at past)) here) (begun_same past (Stop turns why n) refl) b.0
+      ends_so past (Stop turns why n) there (ap (λ (c : Bool). cond c (Some (Stop turns why n)) (closed_as at past)) here) (begun_same past (Stop turns why n) refl) (cond_same (eqb at at) (count_at at past)) b.0
       (ap outputs_in (cell_shows (Stop turns why n)) ∙ failed_out a.seat sent e.silent (cause_failure why) n ∙ ap (λ (k : ℕ). failed a.seat sent e.silent (cause_failure why) k) (f.2.counted ∙ b.0.counted b.1)) b.1
   mark_here past (Refuse n) each may there now =
       let w = waits past each (answers_first spoken past at (Refuse n) each may tt) now in
-      turned_away past (Refuse n) (Failed n (cause_failure cause.Memory)) there w refl refl (inr (no_abort past w.1, n, refl)) (ap outputs_in (cell_shows (Refuse n)))
+      turned_away past (Refuse n) (Failed n (cause_failure cause.Memory)) there w refl refl (inr (no_abort past w.1, ap (λ (b : Bool). Failed (cond b n (count_at at past)) (cause_failure cause.Memory)) (sym here))) (ap outputs_in (cell_shows (Refuse n)))
   mark_here past Abort each may there now =
       let w = waits past each (answers_first spoken past at Abort each may tt) now in
       turned_away past Abort Aborted there w refl refl (inl (one_abort past w.1, refl)) (ap outputs_in (cell_shows Abort))
@@ -520,7 +533,7 @@ module _ {S T : Type 0} (spoken : Spoken S T) (at : ℕ) (a : Arrival) (e : Exec
           let unseen = not_answered_yet spoken past each at (omega (arith, same)) in
           let f = closed_few past at in
           inl (omega (arith, f, unseen), ap outputs_in (subst (λ (o : Option Arrival). AreFor o (shown_at at past)) none (addressed past at)))
-      by_place false b is_old = keeps (Took new) past each (record { shown = refl; closed = refl; begun = refl; aborted = refl; ended = refl; counted = λ r h. refl }) (before is_old)
+      by_place false b is_old = keeps (Took new) past each (record { shown = refl; closed = refl; begun = refl; aborted = refl; told = refl; ended = refl; counted = λ r h. refl }) (before is_old)
 
   before_item : (b : Bool) (o : Option Arrival) → cond b None o ≡ Some a → o ≡ Some a
   before_item true o h = absurd (none-some a h)

@@ -163,6 +163,17 @@ closed_as at [] = None
 closed_as at (Took a ∷ past) = closed_as at past
 closed_as at (Marked m ∷ past) = if m.at == at then closed_by m.kind (closed_as at past) else closed_as at past
 
+abbrev pub count_by : Kind → ℕ → ℕ
+count_by (Begin count) before = count
+count_by (Refuse count) before = count
+count_by other before = before
+
+-- the count that the mark tells which began or refused the request at a place
+abbrev pub count_at : ℕ → Log → ℕ
+count_at at [] = 0
+count_at at (Took a ∷ past) = count_at at past
+count_at at (Marked m ∷ past) = if m.at == at then count_by m.kind (count_at at past) else count_at at past
+
 -- what the cell of a request that was begun in a session has come to at its last flush
 abbrev pub flushed_meaning : {S T : Type 0} → Spoken S T → Log → ℕ → S → Execute → Meaning S
 flushed_meaning spoken log at begun request = spoken.cell begun request.code (lines_at at log) (last_turns at log)

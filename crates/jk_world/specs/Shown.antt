@@ -23,7 +23,7 @@ use Rattle.jk_log.specs.Asked.{execute_in}
 use Rattle.jk_log.specs.Failures.{refusal_failure, trap_failure, cause_failure}
 use Rattle.jk_log.specs.Log.{Log, arrival_at}
 use Rattle.jk_world.specs.Answers.{exchange, outputs_in}
-use Rattle.jk_world.specs.Cells.{times_aborted, times_begun, times_closed, closed_as}
+use Rattle.jk_world.specs.Cells.{times_aborted, times_begun, times_closed, closed_as, count_at}
 use Rattle.jk_world.specs.Requests.{message_in, shown_at}
 
 -- with the request as its parent
@@ -69,19 +69,20 @@ abbrev pub closes : ℕ → Message → Execute → ℕ → Option Kind → List
 closes seat sent e count None = []
 closes seat sent e count (Some kind) = closes_by seat sent e count kind
 
--- The outputs of a begun cell, in order: busy and the cell with its count, streams and questions, and, once it was ended or
--- stopped, the error that this names, one reply with the same count, and idle; nothing after.
+-- The outputs of a begun cell, in order: busy and the cell with the count with which it was begun, streams and questions, and,
+-- once it was ended or stopped, the error that this names, one reply with the same count, and idle; nothing after.
 pub record IsCellShown (log : Log) (at : ℕ) (a : Arrival) (e : Execute) (sent : Message) : Type 0 where
   pub count : ℕ
+  pub begun : count_at at log ≡ count
   pub between : List Entry
   pub are : AreBetween a.seat sent e between
   pub shown : outputs_in (shown_at at log) ≡ opens count sent e ++ (between ++ closes a.seat sent e count (closed_as at log))
 
--- the reply to a request that was aborted, or else refused since its parse found no memory
+-- the reply to a request that was aborted, or else refused, with a count, since its parse found no memory
 abbrev pub TellsWhy : Log → ℕ → Outcome → Type 0
 TellsWhy log at outcome =
     ((times_aborted at log ≡ 1) × (outcome ≡ Aborted))
-    ⊎ ((times_aborted at log ≡ 0) × (count : ℕ) × (outcome ≡ Failed count (cause_failure cause.Memory)))
+    ⊎ ((times_aborted at log ≡ 0) × (outcome ≡ Failed (count_at at log) (cause_failure cause.Memory)))
 
 -- The outputs of such a request: busy, that reply, idle.
 pub record IsTurnedAway (log : Log) (at : ℕ) (a : Arrival) (sent : Message) : Type 0 where

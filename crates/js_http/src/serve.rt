@@ -4,10 +4,11 @@ ghost use Rattle.std.specs.Io.KnownBytes.{Consumes};
 ghost use Rattle.js_http.specs.declared.refusal.HttpRefusal.{HttpRefusal};
 ghost use Rattle.js_http.specs.declared.request.Request.{Request};
 ghost use Rattle.js_http.specs.Requests.{Answers};
+ghost use Rattle.js_http.specs.Responses.{response_text};
 ghost use Rattle.js_http.specs.Serving.{MayCome, Replies, served_of};
 ghost use Rattle.js_http.specs.Writing.{WritesFront};
 
-use crate::{HttpRefusal, Request, Response, read_request, write_response};
+use crate::{ErrorStatus, HttpRefusal, Request, Response, read_request, write_response};
 use std::alloc::Global;
 use std::io;
 use std::io::{Read, Write};
@@ -26,6 +27,13 @@ pub enum Served {
     Answered,
     /// No request received. The status of the refusal was written, if it has one.
     Unanswered(HttpRefusal),
+}
+
+/// Writes the response of a refusal.
+fn write_refusal<W: Write>(writer: &mut W, status: ErrorStatus) -> io::Result<()>
+    ensures { WritesFront (W.contents writer.old) (W.contents writer.new) (response_text (Response.Refused status)) result }
+{
+    write_response(writer, &Response::Refused(status))
 }
 
 /// Reads one request, asks `answer` for its response, and writes that. Where the request is refused with a status,
@@ -56,7 +64,7 @@ pub fn serve_one<R: Read, W: Write, F: FnOnce(Request) -> Response + Drop>(
             let Some(status) = refusal.status() else {
                 return Ok(Served::Unanswered(refusal));
             };
-            write_response(&mut stream.writer, &Response::Refused(status))?;
+            write_refusal(&mut stream.writer, status)?;
             Ok(Served::Unanswered(refusal))
         }
     }

@@ -108,13 +108,29 @@ fn write_located<W: Write>(
 }
 
 fn write_switch<W: Write>(writer: &mut W, accept: &str) -> io::Result<()>
-    ensures { WritesFront (W.contents writer.old) (W.contents writer.new) (switch_text accept.now) result }
+    ensures { WritesFront (W.contents writer.old) (W.contents writer.new) (switch_text accept.now None) result }
 {
     write_parts(
         writer,
         &[
             b"HTTP/1.1 101 Switching Protocols\r\nUpgrade: websocket\r\nConnection: Upgrade\r\nSec-WebSocket-Accept: ",
             accept.as_bytes(),
+            b"\r\n\r\n",
+        ],
+    )
+}
+
+// The same with the line of a protocol that is chosen.
+fn write_protocol_switch<W: Write>(writer: &mut W, accept: &str, protocol: &str) -> io::Result<()>
+    ensures { WritesFront (W.contents writer.old) (W.contents writer.new) (switch_text accept.now (Some protocol.now)) result }
+{
+    write_parts(
+        writer,
+        &[
+            b"HTTP/1.1 101 Switching Protocols\r\nUpgrade: websocket\r\nConnection: Upgrade\r\nSec-WebSocket-Accept: ",
+            accept.as_bytes(),
+            b"\r\nSec-WebSocket-Protocol: ",
+            protocol.as_bytes(),
             b"\r\n\r\n",
         ],
     )
@@ -150,7 +166,14 @@ pub fn write_response<W: Write>(writer: &mut W, response: &Response) -> io::Resu
             writer,
             b"HTTP/1.1 204 No Content\r\nConnection: close\r\n\r\n",
         ),
-        Response::SwitchingProtocols(accept) => write_switch(writer, accept.as_str()),
+        Response::SwitchingProtocols {
+            accept,
+            protocol: None,
+        } => write_switch(writer, accept.as_str()),
+        Response::SwitchingProtocols {
+            accept,
+            protocol: Some(name),
+        } => write_protocol_switch(writer, accept.as_str(), name.as_str()),
         Response::Refused(status) => {
             write_content(writer, status.line(), status.content().as_bytes())
         }

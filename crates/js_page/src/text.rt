@@ -7,7 +7,7 @@ pub const PAGE: &str = r####"<!doctype html>
 <head>
 <meta charset="utf-8">
 <meta name="viewport" content="width=device-width">
-<meta http-equiv="Content-Security-Policy" content="default-src 'none'; style-src 'sha256-XoLlu6tr+T23eBlreb/qMQUcjrU61+PTbjPLsaaRh9w='; script-src 'sha256-640TYE0+u5f5qZXUz3iZcCQaYogHpKBgl/ZJVLls+qA='; connect-src 'self' ws://127.0.0.1:* ws://localhost:*; img-src data:; base-uri 'none'; form-action 'none'">
+<meta http-equiv="Content-Security-Policy" content="default-src 'none'; style-src 'sha256-XoLlu6tr+T23eBlreb/qMQUcjrU61+PTbjPLsaaRh9w='; script-src 'sha256-UEUMAI5xfZyZ1Qeo094g1Oe31nJQJUjQqz9Wszz4bSg='; connect-src 'self' ws://127.0.0.1:* ws://localhost:*; img-src data:; base-uri 'none'; form-action 'none'">
 <title>Oberon notebooks</title>
 <link rel="icon" href="data:image/svg+xml,%3Csvg xmlns='http://www.w3.org/2000/svg' viewBox='0 0 16 16'%3E%3Crect width='16' height='16' rx='4' fill='%232f6f5e'/%3E%3C/svg%3E">
 <style>
@@ -515,7 +515,7 @@ function clearOutputs() {
   edited();
 }
 
-// ---- 8. Saving: one PUT at a time, after what another window saved was taken in
+// ---- 8. Saving: one PUT at a time. Where another window has saved meanwhile it is refused with 409, and what that saved is taken in
 
 function edited() {
   nb.edits++;
@@ -535,7 +535,7 @@ function asDocument() {
   const cells = nb.cells.map(cell => {
     const common = { cell_type: cell.type, id: cell.id, metadata: cell.metadata, source: cell.source };
     if (cell.type !== "code") return cell.attachments === undefined ? common : { ...common, attachments: cell.attachments };
-    return { ...common, execution_count: countToPut(cell), outputs: cell.outputs.map(({ typed, ...output }) => output) };
+    return { ...common, execution_count: cell.count, outputs: cell.outputs.map(({ typed, ...output }) => output) };
   });
   return { cells, metadata: { ...META, ...nb.metadata }, nbformat: 4, nbformat_minor: 5 };
 }
@@ -547,12 +547,13 @@ function inTurn(work) {
 }
 const save = (force = false) => inTurn(book => saveNow(book, force));
 const refresh = () => inTurn(refreshNow);
+const refreshThen = then => refresh().catch(() => {}).then(then);
 async function saveNow(book, force) {
   if (!force && !isEdited()) return;
   clearTimeout(book.timer);
   try {
     for (let tries = 3; ; tries--) {
-      await lookBeforePut(book);
+      await findAgain(); // under the name that another window gave it
       if (book !== nb) return;
       try { return await put(book); } catch (fault) { if (fault.status !== 409 || tries === 0) throw fault; }
       await refreshNow(book); // the file has changed since it was read
@@ -564,7 +565,7 @@ async function saveNow(book, force) {
   }
 }
 async function put(book) {
-  const edits = book.edits, sources = book.cells.map(cell => [cell, cell.source, cell.base]);
+  const edits = book.edits, sources = book.cells.map(cell => [cell, cell.source]);
   const answer = await api("PUT", contents(book.path), { type: "notebook", content: asDocument(), last_modified: book.modified || null });
   if (book !== nb) return;
   nb.modified = answer.last_modified;
@@ -573,7 +574,6 @@ async function put(book) {
   for (const [cell, source] of sources) cell.base = source;
   nb.savedOrder = nb.cells.map(cell => cell.id).join(" ");
   showSaved();
-  lookAfterPut(book, answer.last_modified, sources);
 }
 // Takes in what the server has: sources of cells that weren't edited here, cells that others made or deleted, outputs of
 // cells that were not wholly seen here.
@@ -603,7 +603,7 @@ function take(there) {
     cell.attachments = theirs.attachments;
     if (theirs.cell_type === "code" && !cell.state && !cell.whole) {
       changed.add(cell);
-      cell.count = countRead(theirs.execution_count);
+      cell.count = theirs.execution_count;
       cell.outputs = theirs.outputs;
     }
     mine.delete(theirs.id);
@@ -620,38 +620,7 @@ function take(there) {
   layOut();
 }
 
-// ---- 9. Stand-ins for what the server does not do yet: each can go, with its calls, once the server does it
-
-// Until a PUT is refused with 409 where the file is not as it was read (put sends `last_modified`): what another window
-// saved is looked for before a PUT and after it. What was written over at the same moment is edited again.
-async function lookBeforePut(book) {
-  const look = () => api("GET", contents(book.path) + "?content=0").catch(fault => { if (fault.status === 404) return null; throw fault; });
-  let there = await look();
-  if (!there && book === nb && await findAgain()) there = await look(); // a new name, which stays to be looked for
-  if (there && book === nb && there.last_modified !== book.modified) await refreshNow(book);
-}
-function lookAfterPut(book, modified, sources) {
-  const verify = async () => {
-    if (nb.modified !== modified || (await api("GET", contents(nb.path) + "?content=0")).last_modified === modified) return;
-    const there = await api("GET", contents(nb.path)), theirs = new Map(there.content.cells.map(cell => [cell.id, joined(cell.source)]));
-    if (book !== nb) return;
-    let lost = false;
-    for (const [cell, source, before] of sources) {
-      if (nb.cells.includes(cell) && cell.base === source && before !== source && theirs.get(cell.id) === before) { cell.base = before; lost = true; }
-    }
-    take(there);
-    if (lost) edited();
-  };
-  setTimeout(() => { if (book === nb) inTurn(verify).catch(() => {}); }, 500);
-}
-// Until a PUT with a null count leaves a cell that runs alone: a cell that was sent is put with 0, and so are all without a
-// count while a cell runs that began before this window came. In a notebook that is read, 0 is null again.
-const countToPut = cell => cell.count === null && (cell.state || nb.others) ? 0 : cell.count;
-const countRead = count => count || null;
-// Until a GET of a notebook comes after what its recorder has read: reads it a moment after a cell has ended.
-const refreshLater = then => setTimeout(() => refresh().catch(() => {}).then(then), 400);
-
-// ---- 10. The kernel: a session, its channel, and what comes over it
+// ---- 9. The kernel: a session, its channel, and what comes over it
 
 // A request's msg_id names its cell: what the kernel shows to all carries it, and so every window knows the cell.
 const requestId = cell => `cell:${cell.id}:${TAB}:${newId()}`;
@@ -735,7 +704,7 @@ function afterRest() {
   nb.others = 0;
   const over = nb.before.filter(([cell, request]) => cell.state && cell.request === request).map(([cell]) => cell);
   for (const cell of over) { Object.assign(cell, { state: "", whole: false, question: null }); draw(cell); }
-  if (over.length) refreshLater(() => over.forEach(lateAnswer));
+  if (over.length) refreshThen(() => over.forEach(lateAnswer));
 }
 function received(message) {
   const parent = message.parent_header, id = parent.msg_id, content = message.content, kind = message.header.msg_type;
@@ -784,7 +753,7 @@ function insertForeign(id, code) {
   const cell = makeCell("code", code, id);
   nb.cells.push(cell);
   layOut();
-  refreshLater();
+  refreshThen();
   return cell;
 }
 function began(cell, id, content) {
@@ -794,12 +763,12 @@ function began(cell, id, content) {
 }
 function ended(cell, id) {
   nb.others = 0;
-  if (!cell || cell.request !== id) { refreshLater(); return; }
+  if (!cell || cell.request !== id) { refreshThen(); return; }
   const seen = cell.whole || cell.skipped, fault = cell.outputs.find(output => output.output_type === "error");
   if (isMine(id)) say(`Cell ${nb.cells.indexOf(cell) + 1} ` + (cell.skipped ? "was not run" : fault ? "failed: " + (fault.evalue || fault.ename) : "has run"));
   Object.assign(cell, { state: "", question: null });
   draw(cell, !!cell.asks.firstChild);
-  if (!seen || !isMine(id)) refreshLater(() => lateAnswer(cell));
+  if (!seen || !isMine(id)) refreshThen(() => lateAnswer(cell));
 }
 // A reply that went to a lost connection: how the cell ended is seen from its outputs.
 function lateAnswer(cell) {
@@ -862,7 +831,7 @@ function showState() {
   document.title = (busy ? "● " : "") + bareName(nb.path);
 }
 
-// ---- 11. Running
+// ---- 10. Running
 
 // Cells wait here, and each is sent once the one before has ended well. (Sent all at once, those that the kernel takes
 // after it came to an error would be run.)
@@ -948,7 +917,7 @@ async function downloadModules() {
   for (const name of names) { download(name + ".Mod", homeOf(name, nb.cells[0]).source + "\n"); await wait(250); }
 }
 
-// ---- 12. Keys
+// ---- 11. Keys
 
 function editorKey(event, cell) {
   const area = cell.area, { selectionStart: from, selectionEnd: to, value } = area, plain = !event.ctrlKey && !event.metaKey && !event.altKey;
@@ -996,7 +965,7 @@ document.addEventListener("keydown", event => {
   }[key];
   if (does && cell) { event.preventDefault(); does(); }
 });
-// ---- 13. Help: the language on one screen, keys, and examples to open
+// ---- 12. Help: the language on one screen, keys, and examples to open
 
 const MODULES = {
   Tour: `MODULE Tour; (* A cell is one module. (* Comments nest. *) *)
@@ -1161,7 +1130,7 @@ async function makeExample(path, cells) {
   await api("PUT", contents(path), { type: "notebook", content: { cells: made, metadata: META, nbformat: 4, nbformat_minor: 5 } });
 }
 
-// ---- 14. The two views: a notebook, and a folder
+// ---- 13. The two views: a notebook, and a folder
 
 const freshBook = path => ({
   path, cells: [], gone: [], chosen: null, session: null, socket: null, connected: false, restarting: false, open: new Set(), line: [], sent: null, others: 0,
@@ -1253,7 +1222,7 @@ function folderRow(path, one, session) {
     button("Rename", `Rename ${bare}`, rename, "quiet"), button("Delete", `Delete ${bare}`, remove, "quiet"));
 }
 
-// ---- 15. The place named behind `#` decides what is shown
+// ---- 14. The place named behind `#` decides what is shown
 
 function route() {
   closeNotebook();

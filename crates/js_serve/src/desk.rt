@@ -15,7 +15,7 @@ use js_http::{ErrorStatus, Method, Request, Response};
 use js_rest::{Manager, Running};
 use js_shelf::Shelf;
 use js_tables::{Answer, Given, Kernel, Update, find_by_session, find_kernel};
-use js_ws::{Names, handshake};
+use js_ws::{Names, handshake, protocol_of};
 use json_form::Text;
 use std::alloc::Global;
 use std::net::TcpListener;
@@ -616,6 +616,7 @@ where
                 let names = Names {
                     session: id,
                     id: name,
+                    protocol: protocol_of(request),
                 };
                 Reply::Channel(response, place, names)
             }

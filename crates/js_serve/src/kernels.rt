@@ -205,6 +205,13 @@ impl<L: Language> Ends<L> {
         began
     }
 
+    /// Reads for a recorder no more. The follower rests, so that the kernel does not wait for it.
+    fn end_reading(&mut self) {
+        if let Some(scribe) = self.scribe.take() {
+            scribe.follower.rest();
+        }
+    }
+
     /// Lends a seat, whose follower has passed what was shown before. What is shown to a connection comes after its join, so
     /// nothing of it is passed.
     fn lend(&mut self) -> Option<Free<L>> {
@@ -222,9 +229,10 @@ impl<L: Language> Ends<L> {
         Some(free)
     }
 
-    /// Takes a seat back. That of a kernel that has ended is not lent again.
+    /// Takes a seat back, whose follower rests. That of a kernel that has ended is not lent again.
     fn take_back(&mut self, free: Free<L>) {
         self.lent = self.lent.saturating_sub(1);
+        free.follower.rest();
         if !self.has_ended() {
             let _ = self.free.push(free);
         }
@@ -419,7 +427,7 @@ impl<R: Wait + Drop, L: Language> Kernels<R, L> {
     /// Reads for the recorder of a kernel no more.
     pub(crate) fn end_reading(&mut self, id: &str) {
         if let Some(ends) = self.ends_of(id) {
-            ends.scribe = None;
+            ends.end_reading();
         }
     }
 
@@ -427,7 +435,7 @@ impl<R: Wait + Drop, L: Language> Kernels<R, L> {
     pub(crate) fn end_readings(&mut self, tables: &Tables) {
         for (id, ends) in self.ids.iter().zip(self.ends.iter_mut()) {
             if !tables.has_recorder(id.as_str()) {
-                ends.scribe = None;
+                ends.end_reading();
             }
         }
     }

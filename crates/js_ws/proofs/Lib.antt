@@ -1,5 +1,7 @@
 pub mod Roles
 pub mod Parts
+pub mod Said
 pub mod Sending
 pub mod Frames
 pub mod Turns
+pub mod Utf8

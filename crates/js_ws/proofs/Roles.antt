@@ -28,6 +28,7 @@ use Rattle.websocket.specs.declared.protocol.config.Role.TheVariants.{Server}
 use Rattle.js_ws.specs.Hearing.{Hears, IsTimeLimit, is_fault}
 use Rattle.js_ws.specs.declared.hearing.Heard.{Heard}
 use Rattle.js_ws.specs.declared.hearing.Heard.TheVariants as heard
+use Rattle.js_ws.specs.declared.protocol.Protocol.{Protocol as Carrier}
 
 abbrev KeepsRole : Connection → Result Effect Error → Type 0
 KeepsRole conn r = (effect : Effect) → r ≡ Ok effect → effect.next.role ≡ conn.role
@@ -133,11 +134,11 @@ is_io Its.OutOfMemory h = absurd h
 
 module _ {S : Type 0} where
   -- after a read that was no fault the connection is a server's still
-  pub heard_role : (remaining : S → Option (List ℕ)) (old new : Socket S) (r : Result Message SocketError) (h : Heard)
-      → old.conn.role ≡ Server → Reads remaining old new r → Hears r h → is_fault h ≡ false → new.conn.role ≡ Server
-  heard_role remaining old new (Ok m) h serves (ps, got, c, i, sent, runs, gave) hears good = rw gave.1 (run_role _ _ ps c i runs) ∙ serves
-  heard_role remaining old new (Err e) (heard.Said w) serves reads hears good = absurd hears
-  heard_role remaining old new (Err e) heard.Other serves reads hears good = absurd hears
-  heard_role remaining old new (Err e) heard.Quiet serves (ps, got, c, i, sent, runs, gave) hears good =
+  pub heard_role : (remaining : S → Option (List ℕ)) (old new : Socket S) (protocol : Carrier) (r : Result Message SocketError) (h : Heard)
+      → old.conn.role ≡ Server → Reads remaining old new r → Hears protocol r h → is_fault h ≡ false → new.conn.role ≡ Server
+  heard_role remaining old new protocol (Ok m) h serves (ps, got, c, i, sent, runs, gave) hears good = rw gave.1 (run_role _ _ ps c i runs) ∙ serves
+  heard_role remaining old new protocol (Err e) (heard.Said w) serves reads hears good = absurd hears
+  heard_role remaining old new protocol (Err e) heard.Other serves reads hears good = absurd hears
+  heard_role remaining old new protocol (Err e) heard.Quiet serves (ps, got, c, i, sent, runs, gave) hears good =
       let kept = gave.2 (is_io e hears) in rw kept.0 (run_role _ _ ps c i runs) ∙ serves
-  heard_role remaining old new (Err e) heard.Fault serves reads hears good = absurd (cc good)
+  heard_role remaining old new protocol (Err e) heard.Fault serves reads hears good = absurd (cc good)

@@ -53,7 +53,7 @@ module _ {W : Type 0} where
   abbrev pub Listens : (W → Option (List ℕ)) → Wire W → Wire W → Option What → Option What → Option Heard → Type 0
   Listens remaining old new before now None = (new ≡ old) × ((old.failed ≡ true) ⊎ ((is_some now ≡ true) × (now ≡ before)))
   Listens remaining old new before now (Some heard) =
-      (old.failed ≡ false) × ((r : Result Message Error) × Reads remaining old.socket new.socket r × Hears r heard) × (new.failed ≡ is_fault heard)
+      (old.failed ≡ false) × ((r : Result Message Error) × Reads remaining old.socket new.socket r × Hears old.names.protocol r heard) × (new.failed ≡ is_fault heard)
 
   -- what was in hand was submitted, and then what was heard, as far as the inbox had room
   pub record Listened (remaining : W → Option (List ℕ)) (old new : Wire W) (before after : Outbox) (quiet : Bool) : Type 0 where

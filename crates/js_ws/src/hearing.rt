@@ -1,7 +1,11 @@
 //! What a message of a WebSocket comes to.
 ghost use Rattle.std.specs.Prelude.{◌≡◌, IfOk, true, false};
-ghost use Rattle.js_ws.specs.Hearing.{Hears, HearsText, IsTimeLimit, is_fault, is_quiet, on_channel};
+ghost use Rattle.js_ws.specs.Hearing.{Hears, HearsRead, HearsSaid, IsTimeLimit, is_fault, is_quiet, on_channel, said};
+ghost use Rattle.js_ws.specs.Serialized.{message_in};
+ghost use Rattle.jp_msg.specs.Reading.{message_at};
 
+use crate::deserialize::deserialize_message;
+use crate::protocol::Protocol;
 use jk_log::What;
 use jp_msg::{Bad, Channel, Message as Said, read_message};
 use json_form::Shared;
@@ -70,11 +74,11 @@ fn channelled(alloc: Global, message: Said) -> Result<What, AllocError>
     }
 }
 
-/// What a text comes to.
-fn heard_in(alloc: Global, text: &str) -> Heard
-    ensures { HearsText text.now result }
+/// What the reading of a message comes to.
+fn heard_as(alloc: Global, read: Result<Said, Bad>) -> Heard
+    ensures { HearsRead read result }
 {
-    match read_message(alloc, text) {
+    match read {
         Ok(message) => match channelled(alloc, message) {
             Ok(what) => Heard::Said(what),
             Err(_) => Heard::Fault,
@@ -84,17 +88,31 @@ fn heard_in(alloc: Global, text: &str) -> Heard
     }
 }
 
-/// What the answer of a socket's read comes to.
-pub(crate) fn heard_of(alloc: Global, read: &Result<Message, Error>) -> Heard
-    ensures { Hears read.now result }
+/// What a text comes to in the default protocol.
+#[tactic(auto, using(crate::proofs::Said::said_as))]
+fn heard_in_text(alloc: Global, text: &str) -> Heard
+    ensures { HearsSaid (said (message_at text.now)) result }
 {
-    match read {
-        Ok(Message::Text(text)) => heard_in(alloc, text.as_str()),
-        Ok(Message::Binary(_)) => Heard::Other,
-        Ok(Message::Ping(_)) => Heard::Other,
-        Ok(Message::Pong(_)) => Heard::Other,
-        Ok(Message::Close(_)) => Heard::Other,
-        Err(error) => {
+    heard_as(alloc, read_message(alloc, text))
+}
+
+/// What a binary message comes to in the other.
+#[tactic(auto, using(crate::proofs::Said::said_as))]
+fn heard_in_binary(alloc: Global, bytes: &[u8]) -> Heard
+    ensures { HearsSaid (said (message_in bytes.now)) result }
+{
+    heard_as(alloc, deserialize_message(alloc, bytes))
+}
+
+/// What the answer of a socket's read comes to.
+pub(crate) fn heard_of(alloc: Global, protocol: Protocol, read: &Result<Message, Error>) -> Heard
+    ensures { Hears protocol read.now result }
+{
+    match (protocol, read) {
+        (Protocol::Default, Ok(Message::Text(text))) => heard_in_text(alloc, text.as_str()),
+        (Protocol::V1, Ok(Message::Binary(bytes))) => heard_in_binary(alloc, bytes.as_slice()),
+        (_, Ok(_)) => Heard::Other,
+        (_, Err(error)) => {
             if is_time_limit(error) {
                 Heard::Quiet
             } else {

@@ -1,5 +1,6 @@
 //! How a channel names its messages.
 
+use crate::protocol::Protocol;
 use json_form::Text;
 
 /// The session of all messages that a channel sends, and what their identifiers begin with: that of the message sent after
@@ -8,4 +9,6 @@ use json_form::Text;
 pub struct Names {
     pub session: Text,
     pub id: Text,
+    /// The protocol that the handshake chose, in which messages are read and sent.
+    pub protocol: Protocol,
 }

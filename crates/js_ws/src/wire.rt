@@ -1,12 +1,12 @@
 //! The stream of a channel: messages are read from it, and entries are sent over it.
-ghost use Rattle.std.specs.Prelude.{◌≡◌, ◌+◌, ◌≤◌, ◌++◌, List, Result, true, false, length, take, option_map, string_bytes, []};
+ghost use Rattle.std.specs.Prelude.{◌≡◌, ◌+◌, ◌≤◌, ◌++◌, List, Result, true, false, length, take, string_bytes, []};
 ghost use Rattle.websocket.specs.declared.protocol.config.Role.TheVariants.{Server};
 ghost use Rattle.websocket.specs.Connection.{close_step};
 ghost use Rattle.js_ws.specs.Closing.{gone};
 
 use crate::hearing::{Heard, heard_of};
 use crate::names::Names;
-use crate::text::{Naming, write_entry};
+use crate::payload::{Naming, Payload, write_entry};
 use jk_log::Entry;
 use std::alloc::Global;
 use std::io::{Read, Write};
@@ -39,7 +39,7 @@ impl<S: Read + Write + Drop> Wire<S> {
     ghost use Rattle.tungstenite.specs.Socket.{Reads, Writes, IsFresh};
     ghost use Rattle.jk_log.specs.declared.entry.Entry.{Entry};
     ghost use Rattle.js_ws.specs.Hearing.{Hears, is_fault};
-    ghost use Rattle.js_ws.specs.Frames.{SentAll, frame_of, frame_or_none, text_frame};
+    ghost use Rattle.js_ws.specs.Frames.{SentAll, frame_of, payload_frame, text_frame, binary_frame};
     ghost use Rattle.js_ws.specs.Wires.{Sends};
 
     /// A wire over a stream on which nothing was read or sent since its handshake was answered.
@@ -67,12 +67,12 @@ impl<S: Read + Write + Drop> Wire<S> {
     /// Reads one message.
     pub(crate) fn hear(&mut self, alloc: Global) -> Heard
         requires good { self.old.failed ≡ false }
-        ensures heard { (r : Result Message Error) × Reads S.remaining self.old.socket self.new.socket r × Hears r result }
+        ensures heard { (r : Result Message Error) × Reads S.remaining self.old.socket self.new.socket r × Hears self.old.names.protocol r result }
         ensures failed { self.new.failed ≡ is_fault result }
         ensures same { (self.new.names ≡ self.old.names) × (self.new.sent ≡ self.old.sent) }
     {
         let read = self.socket.read();
-        let heard = heard_of(alloc, &read);
+        let heard = heard_of(alloc, self.names.protocol, &read);
         self.failed = heard.is_fault();
         heard
     }
@@ -126,15 +126,35 @@ impl<S: Read + Write + Drop> Wire<S> {
         }
     }
 
-    /// Sends the text of an entry, or where it has none, what waits.
-    fn send_made(&mut self, alloc: Global, made: Option<String>) -> Sending
+    /// Sends a binary message.
+    fn send_binary(&mut self, alloc: Global, bytes: &[u8]) -> Sending
         requires good { self.old.failed ≡ false }
-        ensures sends { Sends S.contents self.old self.new (frame_or_none (option_map string_bytes made)) result }
+        ensures sends { Sends S.contents self.old self.new (binary_frame bytes.now) result }
         ensures same { (self.new.names ≡ self.old.names) × (self.new.sent ≡ self.old.sent) }
     {
-        match made {
-            Some(text) => self.send_text(alloc, text.as_str()),
-            None => self.flush(),
+        let Ok(message) = Message::binary(alloc, bytes) else {
+            return Sending::Held;
+        };
+        match self.socket.send(message) {
+            Ok(()) => Sending::Sent,
+            Err(Error::OutOfMemory) => Sending::Held,
+            Err(_) => {
+                self.failed = true;
+                Sending::Failed
+            }
+        }
+    }
+
+    /// Sends what an entry is sent as, or where that is nothing, what waits.
+    fn send_payload(&mut self, alloc: Global, payload: Payload) -> Sending
+        requires good { self.old.failed ≡ false }
+        ensures sends { Sends S.contents self.old self.new (payload_frame payload) result }
+        ensures same { (self.new.names ≡ self.old.names) × (self.new.sent ≡ self.old.sent) }
+    {
+        match payload {
+            Payload::Text(text) => self.send_text(alloc, text.as_str()),
+            Payload::Binary(bytes) => self.send_binary(alloc, bytes.as_slice()),
+            Payload::Nothing => self.flush(),
         }
     }
 
@@ -154,10 +174,10 @@ impl<S: Read + Write + Drop> Wire<S> {
             date,
             number: self.sent,
         };
-        let Ok(made) = write_entry(alloc, naming, entry) else {
+        let Ok(payload) = write_entry(alloc, naming, entry) else {
             return Sending::Held;
         };
-        match self.send_made(alloc, made) {
+        match self.send_payload(alloc, payload) {
             Sending::Sent => {
                 self.sent = next;
                 Sending::Sent

@@ -102,8 +102,10 @@ fn main(rt: HostRuntime) -> ExitCode {
         }
         Ok(Command::Serve(port, root)) => {
             let mut writer = rt.stdout();
-            let unserved = serve_folder(rt, rt.alloc(), &mut writer, port, root.as_str());
-            ended_status(Err(fault_of(unserved)), &mut errors)
+            match serve_folder(rt, rt.alloc(), &mut writer, port, root.as_str()) {
+                Ok(()) => 0,
+                Err(unserved) => ended_status(Err(fault_of(unserved)), &mut errors),
+            }
         }
         Ok(Command::Run(runs)) => {
             let mut lines = rt.reader();

@@ -106,14 +106,17 @@ fn announce<W: Write>(output: &mut W, port: u16) -> io::Result<()> {
     output.flush()
 }
 
-/// Serves the folder of the system at `root` on a port of 127.0.0.1. It comes back only where that fails.
+/// Serves the folder of the system at `root` on a port of 127.0.0.1, until the server was told to stop, and has.
+///
+/// # Errors
+/// Where it can't serve.
 pub(crate) fn serve_folder<R, W>(
     rt: R,
     alloc: Global,
     output: &mut W,
     port: u16,
     root: &str,
-) -> Unserved
+) -> Result<(), Unserved>
 where
     R: Threads
         + Wait
@@ -129,16 +132,16 @@ where
     W: Write,
 {
     if !is_folder(&rt, root) {
-        return Unserved::Device;
+        return Err(Unserved::Device);
     }
     let Ok(shelf) = FileShelf::new(rt, root) else {
-        return Unserved::Memory;
+        return Err(Unserved::Memory);
     };
     let Ok(listener) = listen(&rt, alloc, port) else {
-        return Unserved::Device;
+        return Err(Unserved::Device);
     };
     let Some(mut desk) = Desk::<Oberon, _, _>::new(rt, alloc, listener, shelf) else {
-        return Unserved::Memory;
+        return Err(Unserved::Memory);
     };
     // The first job is that of the acceptor.
     let accepts = match desk.next() {
@@ -146,14 +149,17 @@ where
         None => false,
     };
     if !accepts {
-        return Unserved::Memory;
+        return Err(Unserved::Memory);
     }
     if announce(output, port).is_err() {
-        return Unserved::Device;
+        return Err(Unserved::Device);
     }
     for _ in rt.forever() {
         if let Some(job) = desk.next() {
             let _ = start(rt, alloc, job);
+        }
+        if desk.has_stopped() {
+            return Ok(());
         }
     }
     unreachable!()

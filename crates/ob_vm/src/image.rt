@@ -5,7 +5,7 @@ ghost use Rattle.ob_code.specs.Linked.{all_cells, IsLinked, runs_of};
 ghost use Rattle.ob_code.specs.Kinds.{IsMeasured};
 ghost use Rattle.ob_vm.specs.Images.{AreMeasured, CanRun};
 
-use crate::quick::QuickProcedure;
+use crate::kept::{Kept, none_kept};
 use ob_code::instr::LinkedModule;
 use ob_step::objects;
 use std::marker::Model;
@@ -19,7 +19,7 @@ pub struct Image {
     module_cells: usize,
     pub(crate) cells: Vec<i32>,
     // Of procedures that ran when a slice began.
-    pub(crate) quick: Vec<QuickProcedure>,
+    pub(crate) quick: Kept,
 }
 
 impl Model for Image {
@@ -36,7 +36,7 @@ impl Model for Image {
         × (all_cells i.modules.items ≤ length i.cells.items)
         × IsLinked i.modules.items (runs_of i.may_run.items)
         × AreMeasured i.modules.items (runs_of i.may_run.items)
-        × AreQuick i.modules.items i.quick.items };
+        × AreQuick i.modules.items i.quick.procedures.items };
 }
 
 impl Image {
@@ -55,7 +55,7 @@ impl Image {
             may_run,
             module_cells,
             cells,
-            quick: Vec::new(alloc),
+            quick: none_kept(alloc),
         }
     }
 

@@ -2,6 +2,7 @@
 #![tactic(auto)]
 
 mod image;
+mod kept;
 mod machine;
 mod paying;
 mod quick;

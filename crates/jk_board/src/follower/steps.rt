@@ -7,6 +7,7 @@ ghost use Rattle.jk_board.specs.Boards.{IsBoard, StartsWith};
 use super::Follower;
 use crate::news::News;
 use crate::rule::Finds;
+use crate::sizes::bytes_of;
 use jk_language::Language;
 use jk_log::Entry;
 use std::alloc::{AllocError, Global};
@@ -25,20 +26,55 @@ impl<L: Language> Follower<L> {
         ensures read { IfOk result.1 (λ v. read_by result.0 ≡ read_by self ++ v.items) }
         ensures refused { OnErr result.1 (read_by result.0 ≡ read_by self) }
     {
-        let Follower { reader, place } = self;
+        let Follower {
+            reader,
+            place,
+            mut mark,
+        } = self;
         let reading = match reader.enter_as::<Finds<L>>() {
             Ok(reading) => reading,
-            Err(reader) => return (Follower { reader, place }, Err(AllocError)),
+            Err(reader) => return (
+                Follower {
+                    reader,
+                    place,
+                    mark,
+                },
+                Err(AllocError),
+            ),
         };
         let found = reading.get().entries_from(alloc, place, max);
         let reader = reading.leave();
         let entries = match found {
             Ok(entries) => entries,
-            Err(error) => return (Follower { reader, place }, Err(error)),
+            Err(error) => return (
+                Follower {
+                    reader,
+                    place,
+                    mark,
+                },
+                Err(error),
+            ),
         };
         match place.checked_add(entries.len()) {
-            Some(place) => (Follower { reader, place }, Ok(entries)),
-            None => (Follower { reader, place }, Err(AllocError)),
+            Some(place) => {
+                mark.move_on(place, bytes_of(entries.as_slice()));
+                (
+                    Follower {
+                        reader,
+                        place,
+                        mark,
+                    },
+                    Ok(entries),
+                )
+            }
+            None => (
+                Follower {
+                    reader,
+                    place,
+                    mark,
+                },
+                Err(AllocError),
+            ),
         }
     }
 
@@ -54,15 +90,42 @@ impl<L: Language> Follower<L> {
         ensures more { StartsWith (read_by result.0) (read_by self) }
         ensures refused { OnErr result.1 (read_by result.0 ≡ read_by self) }
     {
-        let Follower { reader, place } = self;
+        let Follower {
+            reader,
+            place,
+            mut mark,
+        } = self;
+        mark.hold();
         match reader.enter_as::<Finds<L>>() {
             Ok(reading) => {
                 let end = reading.get().end();
+                let bytes = reading.get().bytes();
                 let reader = reading.leave();
-                (Follower { reader, place: end }, Ok(()))
+                mark.lend(end, bytes);
+                let place = end;
+                (
+                    Follower {
+                        reader,
+                        place,
+                        mark,
+                    },
+                    Ok(()),
+                )
             }
-            Err(reader) => (Follower { reader, place }, Err(AllocError)),
+            Err(reader) => (
+                Follower {
+                    reader,
+                    place,
+                    mark,
+                },
+                Err(AllocError),
+            ),
         }
+    }
+
+    /// It is not lent any more, and holds nothing back. What it has read stays as it was.
+    pub fn rest(&self) {
+        self.mark.rest();
     }
 
     /// Learns what was published: from now on it finds no less. What it has read stays as it was.
@@ -74,6 +137,7 @@ impl<L: Language> Follower<L> {
         Follower {
             reader: news.reader,
             place: self.place,
+            mark: self.mark,
         }
     }
 }

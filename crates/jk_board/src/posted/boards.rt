@@ -8,6 +8,7 @@ ghost use Rattle.jk_board.specs.Levels.{of_oldest, of_older, IsWholeOldest, IsWh
 ghost use Rattle.jk_board.specs.Posted.{all_of, EndsWith};
 
 use super::{Holds, Posted, Publication, Row};
+use crate::sizes::bytes_of;
 use jk_log::Entry;
 use std::alloc::{AllocError, Global};
 use std::sync::{Arc, Wait};
@@ -25,6 +26,7 @@ impl Posted {
             older,
             newest,
             end: 0,
+            bytes: 0,
         })
     }
 
@@ -33,6 +35,11 @@ impl Posted {
         ensures { result ≡ length (all_of self.now) }
     {
         self.end
+    }
+
+    /// The bytes of all that was ever put on it.
+    pub fn bytes(&self) -> usize {
+        self.bytes
     }
 
     /// The same board, by one more pointer to each of its rows.
@@ -47,6 +54,7 @@ impl Posted {
             older,
             newest,
             end: self.end,
+            bytes: self.bytes,
         })
     }
 
@@ -65,6 +73,7 @@ impl Posted {
             older,
             newest,
             end: self.end,
+            bytes: self.bytes,
         })
     }
 
@@ -95,6 +104,7 @@ impl Posted {
         let Some(end) = self.end.checked_add(entries.len()) else {
             return Err((entries, AllocError));
         };
+        let bytes = self.bytes.saturating_add(bytes_of(entries.as_slice()));
         let board = match self.with_room(alloc) {
             Ok(board) => board,
             Err(error) => return Err((entries, error)),
@@ -104,6 +114,7 @@ impl Posted {
             older,
             newest,
             end: _,
+            bytes: _,
         } = board;
         let newest = newest.with_entries(alloc, entries)?;
         Ok(Posted {
@@ -111,6 +122,7 @@ impl Posted {
             older,
             newest,
             end,
+            bytes,
         })
     }
 

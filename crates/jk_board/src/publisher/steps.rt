@@ -27,26 +27,33 @@ impl<L: Language> Publisher<L> {
         requires { IsBoard L.spoken (published self ++ entries.items) }
         ensures { MatchResult result.1 (λ _. published result.0 ≡ published self ++ entries.items) (λ back. (back.0 ≡ entries) × (published result.0 ≡ published self)) }
     {
-        let Publisher { mut copies } = self;
+        let Publisher { mut copies, marks } = self;
         let posted = match copies.published().with(alloc, entries) {
             Ok(posted) => posted,
-            Err(back) => return (Publisher { copies }, Err(back)),
+            Err(back) => return (Publisher { copies, marks }, Err(back)),
         };
         match copies.append(Replace { posted }) {
             Ok(()) => {
                 let copies = show_next::<L, R>(rt, copies);
-                (Publisher { copies }, Ok(()))
+                (Publisher { copies, marks }, Ok(()))
             }
             Err(next) => {
                 let entries = next.posted.into_last(rt);
-                (Publisher { copies }, Err((entries, AllocError)))
+                (Publisher { copies, marks }, Err((entries, AllocError)))
             }
         }
     }
 
+    /// The bytes of the entries that the slowest of those who are lent has not read: their texts, and 128 for each. None where
+    /// nobody is lent.
+    pub fn unread(&self) -> usize {
+        let posted = self.copies.published();
+        posted.bytes().saturating_sub(self.marks.least_bytes())
+    }
+
     /// Waits for those who read.
     pub fn end<R: Wait>(self, rt: &R) {
-        let Publisher { copies } = self;
+        let Publisher { copies, marks: _ } = self;
         copies.take(rt);
     }
 }

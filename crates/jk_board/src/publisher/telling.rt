@@ -5,6 +5,7 @@ ghost use Rattle.jk_board.specs.Boards.{IsBoard, StartsWith};
 
 use super::Publisher;
 use crate::follower::Follower;
+use crate::marks::SEATS;
 use crate::news::News;
 use crate::rule::{Finds, Notes};
 use jk_language::Language;
@@ -21,7 +22,7 @@ impl<L: Language> Publisher<L> {
         follower.reader.learn::<Notes>(self.copies.tell::<Notes>());
     }
 
-    /// A follower that finds at least what was published up to now.
+    /// A follower that finds at least what was published up to now. It is never lent, and holds nothing back.
     ///
     /// # Errors
     /// Where memory is refused, and where no place at the board is free. What was published stays as it was.
@@ -29,7 +30,7 @@ impl<L: Language> Publisher<L> {
         ensures same { published self.new ≡ published self.old }
         ensures told { IfOk result (λ f. told_to f ≡ published self.old ∷ []) }
     {
-        let mut follower = self.follower()?;
+        let mut follower = self.follower(SEATS)?;
         self.inform(&mut follower);
         Ok(follower)
     }
@@ -43,7 +44,7 @@ impl<L: Language> Publisher<L> {
         ensures all { IfOk result (λ n. StartsWith (news_of n) (published self.old)) }
         ensures board { IfOk result (λ n. IsBoard L.spoken (news_of n)) }
     {
-        let Follower { reader, place: _ } = self.late_follower()?;
+        let Follower { reader, .. } = self.late_follower()?;
         match reader.enter_as::<Finds<L>>() {
             Ok(reading) => {
                 let reader = reading.leave();

@@ -50,7 +50,7 @@ returns-clause-asks c =
 
 pub run_quickly-slice-requires-clause-quick : goal.run_quickly-slice-requires-clause-quick
 run_quickly-slice-requires-clause-quick c =
-    subst (λ (m : Code). AreQuick m c.image.inside.quick.items) (sym c.deref.ensures.value) c.image.invariant.4
+    subst (λ (m : Code). AreQuick m c.image.inside.quick.procedures.items) (sym c.deref.ensures.value) c.image.invariant.4
 
 pub invariant_of-image : goal.invariant_of-image
 invariant_of-image c =
@@ -60,5 +60,5 @@ invariant_of-image c =
       omega (arith, ap all_cells c.deref.ensures.value, level.modules_below, level.cells_there, ap (λ v. length v.items) c.swap-2.ensures.x_after),
       i.2,
       i.3,
-      subst (λ (m : Code). AreQuick m c.run_quickly-slice.new.quick.items) c.deref.ensures.value c.run_quickly-slice.ensures.quick,
+      subst (λ (m : Code). AreQuick m c.run_quickly-slice.new.quick.procedures.items) c.deref.ensures.value c.run_quickly-slice.ensures.quick,
     )
