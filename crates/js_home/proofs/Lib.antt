@@ -1,0 +1,5 @@
+pub mod Crossing
+pub mod Homes
+pub mod Sending
+pub mod Steps
+pub mod Telling

@@ -1,0 +1,3 @@
+pub mod Places
+pub mod Served
+pub mod Homes

@@ -1,0 +1,74 @@
+//! How a home is made.
+ghost use Rattle.std.specs.Prelude.{◌≡◌, [], IfOk};
+ghost use Rattle.jk_queues.specs.Ends.{seat_inbox, AreAllOf};
+ghost use Rattle.js_home.specs.Homes.{lent_of};
+
+use super::Home;
+use crate::free::Free;
+use jk_board::Follower;
+use jk_language::Language;
+use jk_queues::Seats;
+use std::alloc::{AllocError, Global};
+
+impl<L: Language> Home<L> {
+    /// A home with all seats of an inbox, each but seat 0 with a follower of its own; the last one is lent first.
+    ///
+    /// # Errors
+    /// Where memory is refused.
+    pub fn new(
+        alloc: Global,
+        seats: Seats,
+        followers: [Follower<L>; 7],
+    ) -> Result<Home<L>, AllocError>
+        requires { AreAllOf (seat_inbox seats.zero) seats }
+        ensures { IfOk result (λ home. (home.zero ≡ seats.zero) × (lent_of home ≡ [])) }
+    {
+        let Seats {
+            zero,
+            one,
+            two,
+            three,
+            four,
+            five,
+            six,
+            seven,
+        } = seats;
+        let [first, second, third, fourth, fifth, sixth, seventh] = followers;
+        let free = [
+            Free {
+                seat: seven,
+                follower: seventh,
+            },
+            Free {
+                seat: six,
+                follower: sixth,
+            },
+            Free {
+                seat: five,
+                follower: fifth,
+            },
+            Free {
+                seat: four,
+                follower: fourth,
+            },
+            Free {
+                seat: three,
+                follower: third,
+            },
+            Free {
+                seat: two,
+                follower: second,
+            },
+            Free {
+                seat: one,
+                follower: first,
+            },
+        ];
+        let free = Vec::from_array(alloc, free)?;
+        Ok(Home {
+            zero,
+            free,
+            lent: Vec::new(alloc),
+        })
+    }
+}
