@@ -1,4 +1,3 @@
--- To be believed.
 -- What a home holds, and what its steps are.
 use Rattle.std.specs.Prelude.{◌≡◌, ◌⊎◌, ◌<◌, ◌+◌, ◌^◌, ℕ, List, [], ◌∷◌, ◌++◌, map, length, Result, Ok, Err, slice_index_or}
 use Rattle.std.specs.List.{remove}

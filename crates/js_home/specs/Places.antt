@@ -1,4 +1,3 @@
--- To be believed.
 -- The places of a home.
 use Rattle.std.specs.Prelude.{◌≡◌, ◌<◌, ◌==◌, ℕ, List, ◌++◌, map, length, All}
 use Rattle.std.specs.List.{count_by}

@@ -1,4 +1,3 @@
--- To be believed.
 -- What a place that was lent comes back as.
 use Rattle.std.specs.Prelude.{◌≡◌, List, ◌++◌}
 use Rattle.jk_log.specs.declared.arrival.Arrival.{Arrival}
