@@ -39,15 +39,12 @@ fn chosen_for<R: Abort>(rt: &R, alloc: Global, lines: &str) -> Result<String, Fa
         Ok(
             Response::SwitchingProtocols {
                 accept: _,
-                protocol: Some(name),
+                protocol,
             },
-        ) => Ok(name.into_string()),
-        Ok(
-            Response::SwitchingProtocols {
-                accept: _,
-                protocol: None,
-            },
-        ) => Ok(String::new(alloc)),
+        ) => match protocol {
+            Some(name) => Ok(name.into_string()),
+            None => Ok(String::new(alloc)),
+        },
         _ => panic!(rt; "the answer switches protocols"),
     }
 }
