@@ -142,34 +142,59 @@ fn outcome(read: &Result<Message, Bad>) -> u8 {
     }
 }
 
+/// A binary message of a request.
+fn binary_request(
+    alloc: Global,
+    channel: &str,
+    header: &str,
+    content: &str,
+) -> Result<Vec<u8>, AllocError> {
+    let parts = [
+        channel,
+        header,
+        "{\"msg_id\":\"p\"}",
+        "{\"cellId\":\"c\"}",
+        content,
+    ];
+    binary_of(alloc, &parts)
+}
+
+/// A request that was read in each form, written again.
+fn written_again(alloc: Global, bytes: &[u8], text: &str) -> Result<(String, String), Fail> {
+    let read = deserialize_message(alloc, bytes)?;
+    let wanted = read_message(alloc, text)?;
+    let first = write_message(alloc, &read)?;
+    let second = write_message(alloc, &wanted)?;
+    Ok((first, second))
+}
+
+/// A request in both forms, read and written again.
+fn in_both_forms(
+    alloc: Global,
+    channel: &str,
+    msg_type: &str,
+    content: &str,
+) -> Result<(String, String), Fail> {
+    let header = format!(in alloc;
+        "{{\"msg_id\":\"m\",\"session\":\"s\",\"username\":\"u\",\"msg_type\":\"{}\"}}",
+        msg_type
+    )?;
+    let bytes = binary_request(alloc, channel, header.as_str(), content)?;
+    let text = format!(in alloc;
+        "{{\"buffers\":[],\"channel\":\"{}\",\"header\":{},\"parent_header\":{{\"msg_id\":\"p\"}},\"metadata\":{{\"cellId\":\"c\"}},\"content\":{}}}",
+        channel, header, content
+    )?;
+    written_again(alloc, bytes.as_slice(), text.as_str())
+}
+
 /// Each request is the same message in both forms.
 #[test]
 fn requests_in_both_forms(rt: HostRuntime) -> Result<(), Fail> {
     let alloc = rt.alloc();
     assert_eq!(rt; binary_of(alloc, &PARTS)?.as_slice(), ASKS);
     for (channel, msg_type, content) in ROWS {
-        let header = format!(in alloc;
-            "{{\"msg_id\":\"m\",\"session\":\"s\",\"username\":\"u\",\"msg_type\":\"{}\"}}",
-            msg_type
-        )?;
-        let parts = [
-            channel,
-            header.as_str(),
-            "{\"msg_id\":\"p\"}",
-            "{\"cellId\":\"c\"}",
-            content,
-        ];
-        let bytes = binary_of(alloc, &parts)?;
-        let text = format!(in alloc;
-            "{{\"buffers\":[],\"channel\":\"{}\",\"header\":{},\"parent_header\":{{\"msg_id\":\"p\"}},\"metadata\":{{\"cellId\":\"c\"}},\"content\":{}}}",
-            channel, header, content
-        )?;
-        let read = deserialize_message(alloc, bytes.as_slice())?;
-        let wanted = read_message(alloc, text.as_str())?;
-        assert_eq!(rt;
-            write_message(alloc, &read)?.as_str(),
-            write_message(alloc, &wanted)?.as_str()
-        );
+        let (read, wanted) = in_both_forms(alloc, channel, msg_type, content)?;
+        assert_eq!(rt; read.as_str(), wanted.as_str(), "{msg_type}");
     }
     Ok(())
 }
