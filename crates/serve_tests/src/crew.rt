@@ -9,7 +9,7 @@ use std::random::RandomSource;
 use std::sync::Wait;
 use std::thread::{JoinHandle, Threads};
 use std::time::Clock;
-use std::{io, thread};
+use std::{io, mem, thread};
 use test_language::TestLanguage;
 
 /// How a server is run.
@@ -87,7 +87,8 @@ where
             break;
         }
     }
-    Some(desk.into_shelf())
+    let none = MemoryShelf::new(alloc).ok()?;
+    Some(mem::replace(desk.shelf(), none))
 }
 
 /// A server that runs in a thread of its own.

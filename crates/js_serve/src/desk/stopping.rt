@@ -60,9 +60,9 @@ where
         }
     }
 
-    /// The files, once nothing is to be done with them any more.
-    pub fn into_shelf(self) -> S {
-        self.shelf
+    /// The files.
+    pub fn shelf(&mut self) -> &mut S {
+        &mut self.shelf
     }
 
     /// The server was told to stop. Requests that wait are answered that it is not there for them. Where memory is refused, it
