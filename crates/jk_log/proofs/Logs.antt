@@ -60,6 +60,7 @@ arrival_grows log e at a h = further (leb (length log) at) refl
   where
     none_arrived : None ≡ Some a → ⊥
     none_arrived e = cc
+
     further : (b : Bool) → leb (length log) at ≡ b → arrival_at at (e ∷ log) ≡ Some a
     further true f = absurd (none_arrived (sym (arrival_past log at (leb-true (length log) at f)) ∙ h))
     further false f =

@@ -132,13 +132,7 @@ fn tell_progress<E: Write>(errors: &mut E, place: usize, count: usize, path: &st
 
 /// Runs the notebooks one after another, each on a kernel of its own. The status is that of the first that did not end
 /// well, if there is one. Where `shows` says so, each is named as its turn comes.
-pub(crate) fn run_all<R, I, E>(
-    rt: R,
-    runs: &Runs,
-    lines: &mut I,
-    errors: &mut E,
-    shows: bool,
-) -> u8
+pub(crate) fn run_all<R, I, E>(rt: R, runs: &Runs, lines: &mut I, errors: &mut E, shows: bool) -> u8
 where
     R: Files + AllocGlobal + Copy + Drop,
     I: BufRead,
