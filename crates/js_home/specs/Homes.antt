@@ -12,6 +12,7 @@ use Rattle.js_home.specs.Places.{place_of}
 use Rattle.js_home.specs.Served.{HasServed}
 use Rattle.js_home.specs.declared.free.Free.{Free}
 use Rattle.js_home.specs.declared.home.Home.{Home}
+use Rattle.js_home.specs.declared.place.Place.{Place}
 use Rattle.js_home.specs.declared.refused.NoPlace.{NoPlace}
 use Rattle.js_home.specs.declared.refused.NoPlace.TheVariants as no
 
@@ -54,8 +55,13 @@ module _ {L S T M : Type 0} where
   abbrev pub Lends : Home L S T M → Free L S T M → Home L S T M → Type 0
   Lends old x new = (free_of old ≡ free_of new ++ x ∷ []) × (lent_of new ≡ lent_of old ++ x ∷ []) × (new.zero ≡ old.zero)
 
-  abbrev pub LendsPlace : Home L S T M → ℕ → Home L S T M → Type 0
-  LendsPlace old place new = (x : Free L S T M) × (place_of x ≡ place) × Lends old x new
+  abbrev pub LendsPlace : Home L S T M → Place L S T M → Home L S T M → Type 0
+  LendsPlace old place new = Lends old place.lease.value new
+
+  -- a place of this home's inbox, one of 1 to 7
+  abbrev pub IsPlaceOf : Home L S T M → Place L S T M → Type 0
+  IsPlaceOf home place =
+      (seat_inbox place.lease.value.seat ≡ seat_inbox home.zero) × (0 < place_of place.lease.value) × (place_of place.lease.value < 8)
 
   abbrev pub WasRefused : NoPlace → Home L S T M → Type 0
   WasRefused no.Lent h = free_of h ≡ []

@@ -1,3 +1,4 @@
 pub mod Places
 pub mod Served
+pub mod Sets
 pub mod Homes

@@ -1,4 +1,6 @@
 //! A seat with its follower.
+ghost use Rattle.std.specs.Prelude.{◌≡◌};
+ghost use Rattle.js_home.specs.Served.{HasServed};
 
 use jk_board::Follower;
 use jk_language::Language;
@@ -16,4 +18,16 @@ impl<L: Language> Comes for Free<L> {
     ghost use Rattle.js_home.specs.Served.{HasServed};
 
     ghost comes = { HasServed };
+}
+
+impl<L: Language> Free<L> {
+    /// It has passed all that was shown before, and says whether that was possible: it is not where the kernel's board has ended.
+    pub fn pass(self) -> (Free<L>, bool)
+        ensures seat { result.0.seat ≡ self.seat }
+        ensures served { HasServed self result.0 }
+    {
+        let Free { seat, follower } = self;
+        let (follower, passed) = follower.pass();
+        (Free { seat, follower }, passed.is_ok())
+    }
 }

@@ -1,6 +1,6 @@
 //! What a home does.
 ghost use Rattle.std.specs.Prelude.{◌≡◌, ◌<◌, length, IfOk, IfErr, MatchBool};
-ghost use Rattle.js_home.specs.Homes.{lent_of, Tells, LendsPlace, IsSame, WasRefused, TakesBackAt, HasTakenBack};
+ghost use Rattle.js_home.specs.Homes.{lent_of, Tells, LendsPlace, IsPlaceOf, IsSame, WasRefused, TakesBackAt, HasTakenBack};
 
 use super::Home;
 use crate::place::Place;
@@ -33,6 +33,7 @@ impl<L: Language> Home<L> {
     /// Where all are lent, and where memory is refused. Nothing has changed.
     pub fn lend<R: Wait>(&mut self, rt: &R, alloc: Global) -> Result<Place<L>, NoPlace>
         ensures lent { IfOk result (λ place. LendsPlace self.old place self.new) }
+        ensures own { IfOk result (λ place. IsPlaceOf self.old place) }
         ensures refused { IfErr result (λ why. IsSame self.old self.new × WasRefused why self.old) }
     {
         if self.lent.reserve(1).is_err() {

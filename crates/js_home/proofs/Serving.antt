@@ -1,0 +1,44 @@
+-- What a place comes back as, step by step.
+use Rattle.std.proofs.Common.{◌≡◌, List, [], ◌++◌, refl, sym, ap, ◌∙◌, append_assoc, append-nil, Result, Ok, Err}
+use Rattle.jk_log.specs.declared.entry.Entry.{Entry}
+use Rattle.jk_queues.specs.declared.inbox.Seat.{Seat}
+use Rattle.jk_queues.specs.Ends.{seat_inbox, sent_by}
+use Rattle.jk_board.specs.Boards.{StartsWith}
+use Rattle.jk_board.specs.Ends.{read_by}
+use Rattle.js_home.specs.Served.{HasServed}
+use Rattle.js_home.specs.declared.free.Free.{Free}
+
+module _ {L S T M : Type 0} where
+  -- nothing was sent and nothing read
+  pub unserved : (old new : Free L S T M) → seat_inbox new.seat ≡ seat_inbox old.seat → new.seat.place ≡ old.seat.place
+      → sent_by new.seat ≡ sent_by old.seat → read_by new.follower ≡ read_by old.follower → HasServed old new
+  unserved old new inbox place sent read = record {
+    inbox = inbox;
+    place = place;
+    sent = [];
+    sends = sent ∙ sym (append-nil (sent_by old.seat));
+    read = [];
+    reads = read ∙ sym (append-nil (read_by old.follower));
+  }
+
+  -- the follower has read on
+  pub passed : (old new : Free L S T M) → new.seat ≡ old.seat → StartsWith (read_by new.follower) (read_by old.follower) → HasServed old new
+  passed old new seat more = record {
+    inbox = ap seat_inbox seat;
+    place = ap (λ (s : Seat). s.place) seat;
+    sent = [];
+    sends = ap sent_by seat ∙ sym (append-nil (sent_by old.seat));
+    read = more.0;
+    reads = more.1;
+  }
+
+  -- it has served, and then served again
+  pub served_on : (old mid new : Free L S T M) → HasServed old mid → HasServed mid new → HasServed old new
+  served_on old mid new a b = record {
+    inbox = b.inbox ∙ a.inbox;
+    place = b.place ∙ a.place;
+    sent = a.sent ++ b.sent;
+    sends = b.sends ∙ (ap (λ xs. xs ++ b.sent) a.sends ∙ append_assoc (sent_by old.seat) a.sent b.sent);
+    read = a.read ++ b.read;
+    reads = b.reads ∙ (ap (λ xs. xs ++ b.read) a.reads ∙ append_assoc (read_by old.follower) a.read b.read);
+  }
