@@ -187,6 +187,7 @@ where
         follower,
         mut parsers,
     } = cast;
+    let (follower, _) = follower.pass();
     let channel = Channel::new(alloc, stream, names, seat, follower);
     let parser = match parsers.pop() {
         Some(end) => begin(rt, alloc, end).ok(),
@@ -253,12 +254,10 @@ fn crowd<R: Wait, L: Language>(rt: &R, driver: Driver<L>, seat: Seat) -> Driver<
     driver
 }
 
-/// A screen that comes when two thousand entries were shown has its answers within eight turns, since its follower has passed
-/// what came before.
-#[test]
-fn second_screen(rt: HostRuntime) -> Result<(), Fail> {
-    let names = names(rt.alloc(), Protocol::Default)?;
-    let cast = make_cast::<HostRuntime, TestLanguage>(&rt, rt.alloc())?;
+/// How many entries a screen is sent within eight turns, where it comes when two thousand were shown and asks for a shutdown.
+fn late_screen<R: Wait>(rt: &R, alloc: Global, passes: bool) -> Result<Option<usize>, Fail> {
+    let names = names(alloc, Protocol::Default)?;
+    let cast = make_cast::<R, TestLanguage>(rt, alloc)?;
     let Cast {
         driver,
         other,
@@ -266,10 +265,28 @@ fn second_screen(rt: HostRuntime) -> Result<(), Fail> {
         follower,
         parsers: _,
     } = cast;
-    let driver = crowd(&rt, driver, other);
-    let (follower, _) = follower.pass();
+    let driver = crowd(rt, driver, other);
+    let follower = if passes {
+        let (passed, _) = follower.pass();
+        passed
+    } else {
+        follower
+    };
     let socket = Socket::new(SHUTDOWN, End::Waits);
-    let channel = Channel::new(rt.alloc(), socket, names, seat, follower);
-    assert_eq!(rt; run(&rt, driver, channel, 8), Some(3));
+    let channel = Channel::new(alloc, socket, names, seat, follower);
+    Ok(run(rt, driver, channel, 8))
+}
+
+/// A screen that comes late has its answers, since its follower has passed what came before.
+#[test]
+fn second_screen(rt: HostRuntime) -> Result<(), Fail> {
+    assert_eq!(rt; late_screen(&rt, rt.alloc(), true)?, Some(3));
+    Ok(())
+}
+
+/// Where its follower was not lent, the board has dropped what comes next: the stream counts as failed, and nothing is sent.
+#[test]
+fn lost_screen(rt: HostRuntime) -> Result<(), Fail> {
+    assert_eq!(rt; late_screen(&rt, rt.alloc(), false)?, Some(0));
     Ok(())
 }

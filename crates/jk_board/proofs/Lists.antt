@@ -1,6 +1,7 @@
 -- Lists of lists, and beginnings.
-use Rattle.std.proofs.Common.{◌≡◌, ℕ, zero, suc, ◌+◌, ◌-◌, ◌≤◌, List, [], ◌∷◌, ◌++◌, take, drop, length, refl, sym, ap, ◌∙◌, arith, length-append, append-nil, append_assoc}
-use Rattle.std.proofs.lemmas.List.{length-take}
+use Rattle.std.proofs.Common.{◌≡◌, ℕ, zero, suc, ◌+◌, ◌-◌, ◌<◌, ◌≤◌, List, [], ◌∷◌, ◌++◌, take, drop, length, refl, sym, ap, ◌∙◌, arith, length-append, append-nil, append_assoc}
+use Rattle.std.proofs.lemmas.List.{length-take, length-drop, drop-append-le}
+use Rattle.std.proofs.Math.Seq.{drop-append-add}
 
 module _ {A : Type 0} where
   pub take_none : (n : ℕ) → take {A = A} n [] ≡ []
@@ -66,3 +67,29 @@ module _ {A : Type 0} where
   take-add zero n xs = let e : 0 + n ≡ n = omega arith in ap (λ k. take k xs) e
   take-add (suc m) n [] = let e : suc m + n ≡ suc (m + n) = omega arith in ap (λ k. take k []) e ∙ sym (take_none n)
   take-add (suc m) n (x ∷ xs) = let e : suc m + n ≡ suc (m + n) = omega arith in ap (λ k. take k (x ∷ xs)) e ∙ ap (λ l. x ∷ l) (take-add m n xs)
+
+  pub drop_none : (n : ℕ) → drop {A = A} n [] ≡ []
+  drop_none zero = refl
+  drop_none (suc n) = refl
+
+  pub drop-drop : (d k : ℕ) (xs : List A) → drop k (drop d xs) ≡ drop (d + k) xs
+  drop-drop zero k xs = let e : k ≡ 0 + k = omega arith in ap (λ n. drop n xs) e
+  drop-drop (suc d) k [] = drop_none k ∙ sym (drop_none (suc d + k))
+  drop-drop (suc d) k (x ∷ xs) = let e : suc (d + k) ≡ suc d + k = omega arith in drop-drop d k xs ∙ ap (λ n. drop n (x ∷ xs)) e
+
+  -- what follows a place in the first part decides all that follows that part
+  pub same_all : (d : ℕ) (xs a b : List A) → d ≤ length xs → drop d (xs ++ a) ≡ drop d (xs ++ b) → xs ++ a ≡ xs ++ b
+  same_all zero xs a b h e = e
+  same_all (suc d) [] a b h e = absurd (let f : ⊥ = omega (arith, h) in f)
+  same_all (suc d) (x ∷ xs) a b h e = ap (λ l. x ∷ l) (same_all d xs a b (omega (arith, h)) e)
+
+  -- of a list and then another, the first ones dropped: some of the other are only where all of the first list are
+  pub drop_pair : (f s : ℕ) (xs ys : List A) → f ≤ length xs → (0 < s → drop f xs ≡ []) → drop f xs ++ drop s ys ≡ drop (f + s) (xs ++ ys)
+  drop_pair f zero xs ys within none = let e : f ≡ f + 0 = omega arith in sym (drop-append-le f xs ys within) ∙ ap (λ n. drop n (xs ++ ys)) e
+  drop_pair f (suc s) xs ys within none =
+      let left = length-drop f xs in
+      let gone : drop f xs ≡ [] = none (omega arith) in
+      let size : f ≡ length xs = omega (arith, within, left, ap length gone) in
+      ap (λ l. l ++ drop (suc s) ys) gone
+      ∙ sym (drop-append-add xs ys (suc s))
+      ∙ ap (λ n. drop (n + suc s) (xs ++ ys)) (sym size)

@@ -3,12 +3,14 @@ use Rattle.std.proofs.Common.{◌≡◌, ℕ, ◌+◌, ◌<◌, ◌≤◌, List,
 use Rattle.std.proofs.Math.ListN.{get_or-append}
 use Rattle.std.proofs.Math.Seq.{get_or-append_seam, take-append_seam}
 use Rattle.std.proofs.lemmas.Bool.{cases_lt}
-use Rattle.std.proofs.lemmas.List.{take_more, take-append-le, take-append-drop}
+use Rattle.std.proofs.lemmas.List.{take_more, take-append-le, take-append-drop, get_or-drop, length-drop}
+use Rattle.std.proofs.Math.Seq.{drop-append_seam}
 use Rattle.std.proofs.lemmas.List.Concat.{flat_map-cons}
 use Rattle.std.proofs.lemmas.Grind.{flat_map-append}
 use Rattle.jk_log.specs.declared.entry.Entry.{Entry}
 use Rattle.jk_board.specs.declared.posted.Part.{Part}
 use Rattle.jk_board.specs.Rows.{flat, AreNumbered}
+use Rattle.jk_board.proofs.Lists.{take-add}
 
 module _ {T : Type 0} (entries : T → List Entry) where
   one : (p : Part T) → flat entries (p ∷ []) ≡ entries p.held
@@ -44,3 +46,25 @@ module _ {T : Type 0} (entries : T → List Entry) where
       subst (λ (l : List (Part T)). (q.before ≡ length (flat entries l)) × IsWhole q.held) (sym front)
       (ap (λ (r : Part T). r.before) same ∙ is, subst (λ (r : Part T). IsWhole r.held) (sym same) whole))
       (cases_lt i (length ps)))
+
+  -- what the parts from one on hold, and what stands before it
+  pub flat_rest : (ps : List (Part T)) (from gone : ℕ) → gone ≡ length (flat entries (take from ps)) → flat entries (drop from ps) ≡ drop gone (flat entries ps)
+  flat_rest ps from gone is =
+      sym (drop-append_seam (flat entries (take from ps)) (flat entries (drop from ps)))
+      ∙ ap (drop (length (flat entries (take from ps)))) (flat_both ps from)
+      ∙ ap (λ n. drop n (flat entries ps)) (sym is)
+
+  pub flat_within : (ps : List (Part T)) (from gone : ℕ) → gone ≡ length (flat entries (take from ps)) → gone ≤ length (flat entries ps)
+  flat_within ps from gone is = omega (arith, is, ap length (flat_both ps from), length-append (flat entries (take from ps)) (flat entries (drop from ps)))
+
+  -- of the parts from one on, each has the number of the entries before it, counted from the first part of all
+  pub numbered_rest : (IsWhole : T → Type 0) (ps rest : List (Part T)) (from gone i : ℕ) (p : Part T) → AreNumbered entries IsWhole ps → from ≤ length ps
+      → gone ≡ length (flat entries (take from ps)) → rest ≡ drop from ps → i < length rest → p ≡ get_or rest i p → (p.before ≡ gone + length (flat entries (take i rest))) × IsWhole p.held
+  numbered_rest IsWhole ps rest from gone i p h inside is all within at =
+      let long = ap length all ∙ length-drop from ps in
+      let at' : p ≡ get_or ps (from + i) p = at ∙ ap (λ (l : List (Part T)). get_or l i p) all ∙ get_or-drop from ps i p in
+      let there = h (from + i) p (omega (arith, inside, long, within)) at' in
+      let both : flat entries (take (from + i) ps) ≡ flat entries (take from ps) ++ flat entries (take i rest) =
+      ap (flat entries) (take-add from i ps) ∙ flat_map-append (λ (q : Part T). entries q.held) (take from ps) (take i (drop from ps))
+      ∙ ap (λ (l : List (Part T)). flat entries (take from ps) ++ flat entries (take i l)) (sym all) in
+      (omega (arith, there.0, is, ap length both, length-append (flat entries (take from ps)) (flat entries (take i rest))), there.1)

@@ -4,7 +4,6 @@ use Rattle.std.specs.Prelude.{◌≡◌, List, [], take}
 use Rattle.jk_log.specs.declared.entry.Entry.{Entry}
 use Rattle.atomic_table.specs.Seated.{TableId}
 use Rattle.left_right.specs.Sides.{view}
-use Rattle.jk_board.specs.Posted.{all_of}
 use Rattle.jk_board.specs.declared.publisher.Publisher.{Publisher}
 use Rattle.jk_board.specs.declared.follower.Follower.{Follower}
 use Rattle.jk_board.specs.declared.news.News.{News}
@@ -13,12 +12,12 @@ use Rattle.jk_board.specs.declared.board.Followers.{Followers}
 module _ {L S T M : Type 0} where
   -- all that was published, in order
   abbrev pub published : Publisher L S T M → List Entry
-  published p = all_of p.copies.desk.shown.value
+  published p = (view p.copies.desk.place).seen
 
   abbrev pub publisher_board : Publisher L S T M → TableId
   publisher_board p = p.copies.desk.place.table_id
 
-  -- the board that this follower found last, and those that it was told of
+  -- the whole board that this follower found last, and those that it was told of
   abbrev pub found_by : Follower L S T M → List Entry
   found_by f = (view f.reader.place).seen
 
@@ -28,7 +27,7 @@ module _ {L S T M : Type 0} where
   abbrev pub follower_board : Follower L S T M → TableId
   follower_board f = f.reader.place.table_id
 
-  -- all that this follower has read, in order
+  -- all that this follower has read or passed, in order
   abbrev pub read_by : Follower L S T M → List Entry
   read_by f = take f.place (found_by f)
 

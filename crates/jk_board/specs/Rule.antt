@@ -1,5 +1,6 @@
 -- To be believed.
--- The rule of a board: it is a beginning of what a legal log shows, and it begins with all that anyone has seen or was told of.
+-- The rule of a board: what is kept is the last part of a beginning of what a legal log shows, and that begins with all that anyone
+-- has seen or was told of.
 use Rattle.std.specs.Prelude.{◌≡◌, ℕ, List, [], ◌∷◌}
 use mathlib.Core.Option.{some}
 use lib.ListN.{get_elem?}
@@ -7,7 +8,7 @@ use Rattle.jk_language.specs.Spoken.{Spoken}
 use Rattle.jk_log.specs.declared.entry.Entry.{Entry}
 use Rattle.jk_board.specs.declared.posted.Posted.{Posted}
 use Rattle.jk_board.specs.declared.rule.Seen.{Seen}
-use Rattle.jk_board.specs.Posted.{all_of}
+use Rattle.jk_board.specs.Posted.{Shows}
 use Rattle.jk_board.specs.Boards.{StartsWith, IsBoard}
 
 abbrev pub Each : {X : Type 0} → (X → Type 0) → List X → Type 0
@@ -20,9 +21,11 @@ sees s t = record { seen = s; told = t }
 abbrev pub Begins : List Entry → Seen → Type 0
 Begins all v = StartsWith all v.seen × Each (StartsWith all) v.told
 
+-- there is one whole board, of which the last part is kept, and it begins with all that was seen and told of
 abbrev pub Grows : {S T : Type 0} → Spoken S T → Posted → List Seen → Type 0
-Grows spoken b views = IsBoard spoken (all_of b) × ((j : ℕ) (v : Seen) → get_elem? views j ≡ some v → Begins (all_of b) v)
+Grows spoken b views =
+    (all : List Entry) × IsBoard spoken all × Shows all b × ((j : ℕ) (v : Seen) → get_elem? views j ≡ some v → Begins all v)
 
--- the board that is found begins with all that was seen and told of, and is what was seen from now on
+-- the whole board begins with all that was seen and told of, and is what was seen from now on
 abbrev pub Finds : {S T : Type 0} → Spoken S T → Seen → Posted → Posted → Seen → Type 0
-Finds spoken v x y w = IsBoard spoken (all_of y) × Begins (all_of y) v × (w ≡ sees (all_of y) v.told)
+Finds spoken v x y w = IsBoard spoken w.seen × Shows w.seen y × Begins w.seen v × (w.told ≡ v.told)

@@ -11,6 +11,6 @@ pub mod rule;
 pub mod sizes;
 
 pub use board::{Board, Followers};
-pub use follower::Follower;
+pub use follower::{Follower, Refusal};
 pub use news::News;
 pub use publisher::Publisher;

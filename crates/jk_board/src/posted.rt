@@ -1,5 +1,5 @@
-//! A board: rows of what was published, which its copies share.
-ghost use Rattle.std.specs.Prelude.{◌≡◌, ◌++◌, length};
+//! What is kept of a board: rows of what was published, which its copies share.
+ghost use Rattle.std.specs.Prelude.{◌≡◌, ◌+◌, ◌++◌, length};
 ghost use Rattle.jk_board.specs.Levels.{of_newest, of_older, of_oldest, AreWhole};
 
 use jk_log::Entry;
@@ -7,6 +7,7 @@ use std::alloc::{AllocError, Global};
 use std::sync::Arc;
 
 mod boards;
+mod dropping;
 mod holds;
 mod publications;
 mod rows;
@@ -33,19 +34,21 @@ pub struct Row<T> {
     count: usize,
 }
 
-/// All that was published, in order. A copy of it is a copy of three pointers.
+/// The last part of all that was published, in order. A copy of it is a copy of three pointers.
 #[derive(Drop)]
 pub struct Posted {
+    /// How many entries stood before them, and were dropped.
+    dropped: usize,
     /// Rows of 64 rows of 64 publications.
     oldest: Row<Row<Row<Publication>>>,
     /// At most 64 rows of 64 publications.
     older: Row<Row<Publication>>,
     /// At most 64 publications.
     newest: Row<Publication>,
-    /// How many entries these rows hold.
+    /// How many entries the whole board has.
     end: usize,
     /// The bytes of all that was ever put on it.
     bytes: usize,
     ghost whole: { AreWhole oldest older newest },
-    ghost ended: { end ≡ length (of_oldest oldest ++ of_older older ++ of_newest newest) },
+    ghost ended: { end ≡ dropped + length (of_oldest oldest ++ of_older older ++ of_newest newest) },
 }

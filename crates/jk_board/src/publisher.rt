@@ -1,7 +1,9 @@
 //! The one who publishes.
 ghost use Rattle.std.specs.Prelude.{◌≡◌, [], drop};
 ghost use Rattle.left_right.specs.Sides.{view};
-ghost use Rattle.jk_board.specs.Posted.{all_of};
+ghost use Rattle.std.specs.Coded.{Coded-set, coded_list, le_prop, ×_prop};
+ghost use Rattle.jk_log.specs.contracts.entry.Entry as entry;
+ghost use Rattle.jk_board.specs.Posted.{Shows};
 
 use crate::marks::Marks;
 use crate::posted::Posted;
@@ -11,25 +13,32 @@ use jk_log::Entry;
 use left_right::Absorb;
 use left_right::writer::Writer;
 use std::alloc::{AllocError, Global};
+use std::collections::LinkedList;
 use std::sync::Arc;
 
 mod steps;
 mod telling;
 
-/// What takes the place of all that was posted.
+/// What takes the place of all that is kept.
 #[derive(Drop)]
 pub struct Replace {
     pub posted: Posted,
 }
 
+/// What the two copies have in common. No value of it is made.
+pub struct Window {
+    pub dropped: usize,
+    pub held: LinkedList<Entry>,
+}
+
 impl Absorb<Replace> for Posted {
-    ghost use Rattle.jk_board.specs.Posted.{all_of};
+    ghost use Rattle.jk_board.specs.Pending.{window_of};
 
-    type State = [Entry; 0];
+    type State = Window;
 
-    ghost state = { all_of };
+    ghost state = { window_of };
 
-    ghost applied = { λ all next. all_of next.posted };
+    ghost applied = { λ all next. window_of next.posted };
 
     fn absorb_first(&mut self, operation: &Replace, _other: &Posted) -> Result<(), AllocError> {
         *self = operation.posted.share()?;
@@ -50,5 +59,5 @@ pub struct Publisher<L: Language> {
     pub(crate) copies: Copies<L>,
     pub(crate) marks: Arc<Marks, Global>,
     ghost nothing_pending: { drop copies.behind copies.log.items ≡ [] },
-    ghost saw_all: { (view copies.desk.place).seen ≡ all_of copies.desk.shown.value },
+    ghost saw_all: { Shows (view copies.desk.place).seen copies.desk.shown.value } by { ×_prop le_prop (Coded-set (coded_list entry.the_row.coded) _ _) },
 }

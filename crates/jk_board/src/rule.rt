@@ -8,13 +8,13 @@ use jk_log::Entry;
 use std::collections::LinkedList;
 use std::marker::PhantomData;
 
-/// What a reader or the writer knows: the board that it saw last, and the boards that it was told of. No value of it is made.
+/// What a reader or the writer knows: the whole board that it saw last, and the boards that it was told of. No value of it is made.
 pub struct Seen {
     pub seen: LinkedList<Entry>,
     pub told: LinkedList<LinkedList<Entry>>,
 }
 
-/// The board is a beginning of what a legal log of the language shows, and it only grows.
+/// What is kept is the last part of a beginning of what a legal log of the language shows, and that beginning only grows.
 pub struct Grows<L> {
     language: PhantomData<L>,
 }

@@ -105,20 +105,20 @@ module _ {S T : Type 0} (spoken : Spoken S T) where
       (k, subst (λ (o : Option (Vec Entry Global)). Pends o k now) e.0 pends, board_none spoken k board more e.1)
 
   -- the arrivals taken through a round
-  pub round_took : (k1 k2 k3 k4 k5 : KernelState T) (answer : Work) (rest all : List Arrival) → takes k1.log ++ rest ≡ all → k2.log ≡ k1.log → k3.log ≡ k2.log → Works spoken 1000 k3 answer k4 → k5.log ≡ k4.log → takes k5.log ++ rest ≡ all
-  round_took k1 k2 k3 k4 k5 answer rest all took two three works five =
+  pub round_took : (turns : ℕ) (k1 k2 k3 k4 k5 : KernelState T) (answer : Work) (rest all : List Arrival) → takes k1.log ++ rest ≡ all → k2.log ≡ k1.log → k3.log ≡ k2.log → Works spoken turns k3 answer k4 → k5.log ≡ k4.log → takes k5.log ++ rest ≡ all
+  round_took turns k1 k2 k3 k4 k5 answer rest all took two three works five =
       ap (λ (log : Log). takes log ++ rest) five
-      ∙ ap (λ (ts : List Arrival). ts ++ rest) (takes_works spoken 1000 k3 answer k4 works)
+      ∙ ap (λ (ts : List Arrival). ts ++ rest) (takes_works spoken turns k3 answer k4 works)
       ∙ ap (λ (log : Log). takes log ++ rest) (three ∙ two)
       ∙ took
 
   -- what is shown, up to the slice
-  pub round_shown : (board : List Entry) (k0 k1 k2 k3 k4 : KernelState T) (first jobs : List Job) (before results : List (Reading T)) (answer : Work) → IsShown board k0 → MovesKernel spoken k0 k1 → GivesJobs spoken k1 first k2 jobs → HandsResults spoken k2 before k3 results → Works spoken 1000 k3 answer k4 → IsShown board k4
-  round_shown board k0 k1 k2 k3 k4 first jobs before results answer h take give handed works =
+  pub round_shown : (turns : ℕ) (board : List Entry) (k0 k1 k2 k3 k4 : KernelState T) (first jobs : List Job) (before results : List (Reading T)) (answer : Work) → IsShown board k0 → MovesKernel spoken k0 k1 → GivesJobs spoken k1 first k2 jobs → HandsResults spoken k2 before k3 results → Works spoken turns k3 answer k4 → IsShown board k4
+  round_shown turns board k0 k1 k2 k3 k4 first jobs before results answer h take give handed works =
       let one = leads_shown spoken (driven k0 board [] []) (driven k1 board [] []) (take board [] []) h in
       let two = leads_shown spoken (driven k1 board first []) (driven k2 board jobs []) (give board []) one in
       let three = leads_shown spoken (driven k2 board [] before) (driven k3 board [] results) (handed board []) two in
-      shown_works spoken board 1000 k3 answer k4 works three
+      shown_works spoken board turns k3 answer k4 works three
 
   -- the acts of a round up to its slice
   pub round_handed : (board : List Entry) (k0 k1 k2 k3 : KernelState T) (first jobs : List Job) (before middle results : List (Reading T)) → MovesKernel spoken k0 k1 → GivesJobs spoken k1 first k2 jobs → middle ≡ before → HandsResults spoken k2 middle k3 results → Leads spoken (driven k0 board first before) (driven k3 board jobs results)
@@ -129,27 +129,27 @@ module _ {S T : Type 0} (spoken : Spoken S T) where
       leads_on spoken d (driven k2 board jobs before) (driven k3 board jobs results) one results_from
 
   -- the acts of a round
-  pub round_acts : (board more : List Entry) (k0 k1 k2 k3 k4 k5 : KernelState T) (first jobs last : List Job) (before middle results : List (Reading T)) (answer : Work) (back : Option (Vec Entry Global)) → MovesKernel spoken k0 k1 → GivesJobs spoken k1 first k2 jobs → middle ≡ before → HandsResults spoken k2 middle k3 results → last ≡ jobs → Works spoken 1000 k3 answer k4 → Publishes spoken k4 board back k5 more → (m : KernelState T) × Pends back m k5 × Leads spoken (driven k0 board first before) (driven m more last results)
-  round_acts board more k0 k1 k2 k3 k4 k5 first jobs last before middle results answer back take give same handed still works published =
+  pub round_acts : (turns : ℕ) (board more : List Entry) (k0 k1 k2 k3 k4 k5 : KernelState T) (first jobs last : List Job) (before middle results : List (Reading T)) (answer : Work) (back : Option (Vec Entry Global)) → MovesKernel spoken k0 k1 → GivesJobs spoken k1 first k2 jobs → middle ≡ before → HandsResults spoken k2 middle k3 results → last ≡ jobs → Works spoken turns k3 answer k4 → Publishes spoken k4 board back k5 more → (m : KernelState T) × Pends back m k5 × Leads spoken (driven k0 board first before) (driven m more last results)
+  round_acts turns board more k0 k1 k2 k3 k4 k5 first jobs last before middle results answer back take give same handed still works published =
       let d = driven k0 board first before in
       let two = round_handed board k0 k1 k2 k3 first jobs before middle results take give same handed in
-      let three = leads_on spoken d (driven k3 board jobs results) (driven k4 board jobs results) two (leads_work spoken 1000 answer k3 k4 board jobs results works) in
+      let three = leads_on spoken d (driven k3 board jobs results) (driven k4 board jobs results) two (leads_work spoken turns answer k3 k4 board jobs results works) in
       let four = leads_on spoken d (driven k4 board jobs results) (driven published.0 more jobs results) three (published.2 jobs results) in
       (published.0, published.1, subst (λ (js : List Job). Leads spoken d (driven published.0 more js results)) (sym still) four)
 
-  ended_works : (old : KernelState T) (answer : Work) (new : KernelState T) → Works spoken 1000 old answer new → ended old.log ≡ true → ended new.log ≡ true
-  ended_works old answer new works over =
-      works_moves spoken (λ (k : KernelState T). ended k.log ≡ true) (record { note = λ at kind k h. or_true (ends kind) (ended k.log) h; wait = λ ws k h. h; go = λ turns k h. h }) 1000 old answer new works over
+  ended_works : (turns : ℕ) (old : KernelState T) (answer : Work) (new : KernelState T) → Works spoken turns old answer new → ended old.log ≡ true → ended new.log ≡ true
+  ended_works turns old answer new works over =
+      works_moves spoken (λ (k : KernelState T). ended k.log ≡ true) (record { note = λ at kind k h. or_true (ends kind) (ended k.log) h; wait = λ ws k h. h; go = λ turns k h. h }) turns old answer new works over
     where
       or_true : (a b : Bool) → b ≡ true → a || b ≡ true
       or_true true b e = refl
       or_true false b e = e
 
   -- once the kernel was shut down it is so at the end of the round
-  pub round_emptied : (k1 k2 k3 k4 k5 : KernelState T) (answer : Work) (view : Part) → IsEmptied k1.log view → k2.log ≡ k1.log → k3.log ≡ k2.log → Works spoken 1000 k3 answer k4 → k5.log ≡ k4.log → IsEmptied k5.log view
-  round_emptied k1 k2 k3 k4 k5 answer view (inl over) two three works five =
-      inl (ap ended five ∙ ended_works k3 answer k4 works (ap ended (three ∙ two) ∙ over))
-  round_emptied k1 k2 k3 k4 k5 answer view (inr held) two three works five = inr held
+  pub round_emptied : (turns : ℕ) (k1 k2 k3 k4 k5 : KernelState T) (answer : Work) (view : Part) → IsEmptied k1.log view → k2.log ≡ k1.log → k3.log ≡ k2.log → Works spoken turns k3 answer k4 → k5.log ≡ k4.log → IsEmptied k5.log view
+  round_emptied turns k1 k2 k3 k4 k5 answer view (inl over) two three works five =
+      inl (ap ended five ∙ ended_works turns k3 answer k4 works (ap ended (three ∙ two) ∙ over))
+  round_emptied turns k1 k2 k3 k4 k5 answer view (inr held) two three works five = inr held
 
   -- with nothing in hand, all that is pending is pending in the kernel
   pub from_kernel : (entries back : Option (Vec Entry Global)) (kernel k last : KernelState T) (board more : List Entry) (given jobs : List Job) (handed results : List (Reading T)) → entries ≡ None → Pends entries k kernel → ((m : KernelState T) × Pends back m last × Leads spoken (driven kernel board given handed) (driven m more jobs results)) → (m : KernelState T) × Pends back m last × Leads spoken (driven k board given handed) (driven m more jobs results)
@@ -157,10 +157,10 @@ module _ {S T : Type 0} (spoken : Spoken S T) where
       subst (λ (k : KernelState T). (m : KernelState T) × Pends back m last × Leads spoken (driven k board given handed) (driven m more jobs results)) (none_pends entries k kernel none pends) acts
 
   -- each request that waits was given, or a job is in hand for which the pool was full
-  pub round_given : (k2 k3 k4 k5 : KernelState T) (n : ℕ) (answer : Work) (job : Option Job) (before jobs : Hand Job) → HasGiven job before k2 → ((job : Option Job) (jobs : Hand Job) → HasGiven job jobs k2 → HasGiven job jobs k3) → jobs ≡ before → Works spoken 1000 k3 answer k4 → k5 ≡ without n k4 → HasGiven job jobs k5
-  round_given k2 k3 k4 k5 n answer job before jobs h handed same works is =
+  pub round_given : (turns : ℕ) (k2 k3 k4 k5 : KernelState T) (n : ℕ) (answer : Work) (job : Option Job) (before jobs : Hand Job) → HasGiven job before k2 → ((job : Option Job) (jobs : Hand Job) → HasGiven job jobs k2 → HasGiven job jobs k3) → jobs ≡ before → Works spoken turns k3 answer k4 → k5 ≡ without n k4 → HasGiven job jobs k5
+  round_given turns k2 k3 k4 k5 n answer job before jobs h handed same works is =
       subst (λ (v : Hand Job). HasGiven job v k5) (sym same)
-      (subst (HasGiven job before) (sym is) (given_without n k4 job before (given_works spoken 1000 k3 answer k4 works job before (handed job before h))))
+      (subst (HasGiven job before) (sym is) (given_without n k4 job before (given_works spoken turns k3 answer k4 works job before (handed job before h))))
 
 module _ {L S T M : Type 0} (spoken : Spoken S T) where
   pub driven_none : (a : Driver L S T M) → HasDriven spoken a a

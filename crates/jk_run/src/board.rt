@@ -56,7 +56,7 @@ pub(crate) fn publish_hand<L: Language, R: Wait>(
     }
 }
 
-/// Publishes entries. They come back where memory is refused.
+/// Publishes entries. They come back where memory is refused. Where there are none, the board lets go of what was read.
 fn publish<L: Language, R: Wait>(
     rt: &R,
     alloc: Global,
@@ -68,7 +68,7 @@ fn publish<L: Language, R: Wait>(
     ensures { MatchOption result.1 (published result.0 ≡ published publisher ++ entries.items) (λ back. (back ≡ entries) × (published result.0 ≡ published publisher)) }
 {
     if entries.is_empty() {
-        return (publisher, None);
+        return (publisher.let_go(rt, alloc), None);
     }
     kernel.legal();
     let (publisher, done) = publisher.publish(rt, alloc, entries);

@@ -7,6 +7,7 @@ mod board;
 mod driver;
 mod jobs;
 mod law;
+mod pace;
 mod round;
 mod running;
 

@@ -1,5 +1,5 @@
 //! Rounds of a driver.
-ghost use Rattle.std.specs.Prelude.{◌≡◌, ◌≢◌, ◌≤◌, true, None};
+ghost use Rattle.std.specs.Prelude.{◌≡◌, ◌≢◌, ◌≤◌, [], true, None};
 ghost use Rattle.jk_log.specs.Legal.{IsLegal};
 ghost use Rattle.jk_core.specs.declared.kernel.Work.TheVariants.{NoMemory};
 ghost use Rattle.jk_core.specs.Steps.{Works};
@@ -13,7 +13,7 @@ use jk_core::{Kernel, Work};
 use jk_language::Language;
 use std::sync::Wait;
 
-/// The turns of a slice.
+/// The turns of a slice of `drive_some`.
 const SLICE: u64 = 1_000;
 
 /// How many bytes may be unread by one who is lent a place at the board, before the kernel waits.
@@ -31,9 +31,9 @@ pub fn drive_some<L: Language, R: Wait>(rt: &R, rounds: u64, driver: Driver<L>) 
     ensures done { IsRound L.spoken result.1 driver result.0 }
     ensures legal { IsLegal L.spoken result.0.kernel.log }
 {
-    let (mut driver, mut work) = round(rt, driver);
+    let (mut driver, mut work, _) = round(rt, SLICE, driver);
     for _ in 1..rounds {
-        let (next, answer) = round(rt, driver);
+        let (next, answer, _) = round(rt, SLICE, driver);
         driver = next;
         work = answer;
     }
@@ -41,17 +41,24 @@ pub fn drive_some<L: Language, R: Wait>(rt: &R, rounds: u64, driver: Driver<L>) 
     (driver, work)
 }
 
-/// One round. Where entries in hand find no memory again, it is over.
-pub(crate) fn round<L: Language, R: Wait>(rt: &R, driver: Driver<L>) -> (Driver<L>, Work)
+/// One round, whose slice has so many turns. It says also how many marks its slice made. Where entries in hand find no memory
+/// again, it is over.
+pub(crate) fn round<L: Language, R: Wait>(
+    rt: &R,
+    turns: u64,
+    driver: Driver<L>,
+) -> (Driver<L>, Work, usize)
+    requires { 1 ≤ turns }
     ensures acts { HasDriven L.spoken driver result.0 }
     ensures same { AreSameEnds driver result.0 }
-    ensures done { IsRound L.spoken result.1 driver result.0 }
+    ensures shown { result.1 ≢ NoMemory → (result.0.entries ≡ None) × (result.0.kernel.pending ≡ []) }
+    ensures done { turns ≡ 1000 → IsRound L.spoken result.1 driver result.0 }
 {
     let driver = show_hand(rt, driver);
     if driver.entries.is_some() {
-        return (driver, Work::NoMemory);
+        return (driver, Work::NoMemory, 0);
     }
-    go_round(rt, driver)
+    go_round(rt, turns, driver)
 }
 
 /// Publishes the entries in hand.
@@ -83,11 +90,12 @@ fn show_hand<L: Language, R: Wait>(rt: &R, driver: Driver<L>) -> Driver<L>
 }
 
 /// A round of a driver with no entries in hand.
-fn go_round<L: Language, R: Wait>(rt: &R, driver: Driver<L>) -> (Driver<L>, Work)
+fn go_round<L: Language, R: Wait>(rt: &R, turns: u64, driver: Driver<L>) -> (Driver<L>, Work, usize)
     requires { driver.entries ≡ None }
     ensures acts { HasDriven L.spoken driver result.0 }
     ensures same { AreSameEnds driver result.0 }
-    ensures done { IsRound L.spoken result.1 driver result.0 }
+    ensures shown { result.1 ≢ NoMemory → (result.0.entries ≡ None) × (result.0.kernel.pending ≡ []) }
+    ensures done { turns ≡ 1000 → IsRound L.spoken result.1 driver result.0 }
 {
     let Driver {
         alloc,
@@ -103,7 +111,9 @@ fn go_round<L: Language, R: Wait>(rt: &R, driver: Driver<L>) -> (Driver<L>, Work
     let (job, gave) = give_jobs(rt, &mut kernel, &mut pool, job);
     hand_results(rt, &mut kernel, &mut pool);
     let room = kernel.ended() || publisher.unread() <= UNREAD;
-    let work = work_slice(&mut kernel, room);
+    let before = kernel.pending_marks();
+    let work = work_slice(&mut kernel, turns, room);
+    let marks = kernel.pending_marks().saturating_sub(before);
     let (publisher, entries, shown) = publish_pending(rt, alloc, &mut kernel, publisher);
     let taken = arrival.is_none();
     let next = Driver {
@@ -116,15 +126,15 @@ fn go_round<L: Language, R: Wait>(rt: &R, driver: Driver<L>) -> (Driver<L>, Work
         job,
         entries,
     };
-    (next, answer_of(taken, gave, shown, work))
+    (next, answer_of(taken, gave, shown, work), marks)
 }
 
 /// Works one slice, where there is room for what it shows. Else the answer is that there is no memory.
-fn work_slice<L: Language>(kernel: &mut Kernel<L>, room: bool) -> Work
-    ensures { Works L.spoken 1000 kernel.old result kernel.new }
+fn work_slice<L: Language>(kernel: &mut Kernel<L>, turns: u64, room: bool) -> Work
+    ensures { Works L.spoken turns kernel.old result kernel.new }
 {
     if room {
-        kernel.work(SLICE)
+        kernel.work(turns)
     } else {
         Work::NoMemory
     }

@@ -6,16 +6,17 @@ ghost use Rattle.jk_queues.specs.Pool.{has_stopped};
 ghost use Rattle.jk_run.specs.Driver.{HasDriven};
 
 use crate::driver::Driver;
+use crate::pace::{Pace, micros_since};
 use crate::round::round;
 use jk_core::Work;
 use jk_language::Language;
 use jk_queues::pauses::Pauses;
 use std::sync::Wait;
-use std::time::Clock;
+use std::time::{Clock, Instant};
 
 /// Makes rounds until the kernel was shut down, not to start again, and all is published. Then it stops the pool and hands
 /// the driver back, whose publisher has to outlive the followers. While there is nothing to do it pauses between rounds, the
-/// longer the longer that has been so.
+/// longer the longer that has been so. How many turns the slice of a round has follows from how long the last round took.
 pub fn drive<L: Language, R: Wait + Clock>(rt: &R, driver: Driver<L>) -> Driver<L>
     ensures acts { HasDriven L.spoken driver result }
     ensures ended { ended result.kernel.log ≡ true }
@@ -24,18 +25,29 @@ pub fn drive<L: Language, R: Wait + Clock>(rt: &R, driver: Driver<L>) -> Driver<
 {
     let mut pauses = Pauses::new();
     let mut last = Work::Rest;
+    let mut pace = Pace::first();
     let mut driver = driver;
     for _ in rt.forever() {
-        let (next, work) = round(rt, driver);
+        let start = Instant::now(rt);
+        let (next, work, marks) = round(rt, pace.turns, driver);
         driver = next;
         if found_memory(work) && driver.kernel.ended() {
             driver.pool.stop(rt);
             return driver;
         }
+        pace = next_pace(pace, work, micros_since(rt, start), marks);
         pauses.pause_unless(rt, goes_on(last, work));
         last = work;
     }
     unreachable!()
+}
+
+/// The pace after a round that answered this, took so many microseconds and made so many marks in its slice.
+fn next_pace(pace: Pace, work: Work, micros: u64, marks: usize) -> Pace {
+    match work {
+        Work::Ran => pace.after(micros, marks),
+        Work::Rest | Work::NeedsParse | Work::NeedsLine | Work::NoMemory => Pace::first(),
+    }
 }
 
 /// Whether no call of a round was refused for memory.

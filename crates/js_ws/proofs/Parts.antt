@@ -1,7 +1,7 @@
 -- What one more entry adds to a part.
 use Rattle.std.proofs.Common.{◌≡◌, ℕ, ◌≤◌, Bool, true, false, cond, List, [], ◌∷◌, ◌++◌, length, take, length-take, append_assoc, append-nil, Result, Ok, Err, arith, refl, ◌∙◌, ap, sym}
 use Rattle.std.specs.Prelude.{◌||◌, IfOk, OnErr}
-use Rattle.std.specs.declared.alloc.AllocError.{AllocError}
+use Rattle.jk_board.specs.declared.follower.Refusal.{Refusal}
 use Rattle.std.specs.declared.alloc.Global.{Global}
 use Rattle.std.specs.declared.vec.Vec.{Vec}
 use Rattle.jk_log.specs.declared.entry.Entry.{Entry}
@@ -50,12 +50,12 @@ pub busy_more : (busy next : Bool) (e : Entry) (es : List Entry)
 busy_more busy next e es more = ap (λ (b : Bool). busy_after b es) (sym more)
 
 -- no more were read than were asked for
-pub few : (r : Result (Vec Entry Global) AllocError) (n : ℕ) (all : List Entry) → IfOk r (λ v. v.items ≡ take n all) → length (items_read r) ≤ n
+pub few : (r : Result (Vec Entry Global) Refusal) (n : ℕ) (all : List Entry) → IfOk r (λ v. v.items ≡ take n all) → length (items_read r) ≤ n
 few (Ok v) n all is = omega (arith, ap length is, length-take n all)
 few (Err e) n all is = omega arith
 
 -- what was read follows what was read before
-pub read_on : (r : Result (Vec Entry Global) AllocError) (before after : List Entry) → IfOk r (λ v. after ≡ before ++ v.items) → OnErr r (after ≡ before)
+pub read_on : (r : Result (Vec Entry Global) Refusal) (before after : List Entry) → IfOk r (λ v. after ≡ before ++ v.items) → OnErr r (after ≡ before)
     → after ≡ before ++ items_read r
 read_on (Ok v) before after more same = more
 read_on (Err e) before after more same = same ∙ sym (append-nil before)

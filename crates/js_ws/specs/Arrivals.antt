@@ -1,10 +1,13 @@
 -- To be believed.
 -- What a connection sends to the inbox of its kernel.
-use Rattle.std.specs.Prelude.{ℕ, ◌+◌, Bool, true, false, ◌&&◌, not, List, [], ◌∷◌, ◌++◌, length, Option, None, Some, if◌then◌else◌}
+use Rattle.std.specs.Prelude.{◌⊎◌, ℕ, ◌+◌, ◌<◌, ◌^◌, Bool, true, false, ◌&&◌, not, List, [], ◌∷◌, ◌++◌, length, Option, None, Some, if◌then◌else◌}
 use Rattle.jk_log.specs.declared.arrival.Arrival.{Arrival}
 use Rattle.jk_log.specs.declared.arrival.What.{What}
 use Rattle.jk_log.specs.declared.arrival.What.TheVariants.{Leave}
-use Rattle.jk_queues.specs.Ends.{sent_by}
+use Rattle.crossbeam_queue.specs.Fifo.{Held}
+use Rattle.jk_queues.specs.declared.inbox.Seat.{Seat}
+use Rattle.jk_queues.specs.Ends.{seat_view, sent_by}
+use Rattle.jk_queues.specs.Inbox.{Stands}
 use Rattle.js_ws.specs.declared.hearing.Heard.{Heard}
 use Rattle.js_ws.specs.declared.hearing.Heard.TheVariants as heard
 use Rattle.js_ws.specs.declared.outbox.Outbox.{Outbox}
@@ -35,3 +38,8 @@ is_due failed ended leaving None = failed && not ended && not leaving
 
 abbrev pub leave_of : Bool → ℕ → List Arrival → List Arrival
 leave_of due place sent = if due then next_arrival place sent Leave ∷ [] else []
+
+-- the inbox had no room for what this seat sends next: at one moment it held 256 arrivals, by what the seat has sent, or the seat has sent
+-- nearly all that can be numbered
+abbrev pub WasFull : Seat → Type 0
+WasFull s = Held 256 (Stands (seat_view s)) ⊎ (2 ^ 62 < length (sent_by s))

@@ -13,7 +13,7 @@ use Rattle.jk_queues.specs.declared.inbox.Seat.{Seat}
 use Rattle.jk_queues.specs.Ends.{seat_inbox, sent_by}
 use Rattle.jk_board.specs.declared.follower.Follower.{Follower}
 use Rattle.jk_board.specs.Ends.{read_by}
-use Rattle.js_ws.specs.Arrivals.{sent_or_held, arrivals_of, is_due, leave_of}
+use Rattle.js_ws.specs.Arrivals.{sent_or_held, arrivals_of, is_due, leave_of, WasFull}
 use Rattle.js_ws.specs.Frames.{SentAll, Tells, EndsIn, frames_of}
 use Rattle.js_ws.specs.Hearing.{Hears, is_fault, is_quiet}
 use Rattle.js_ws.specs.Shutdowns.{has_last}
@@ -98,6 +98,8 @@ module _ {W : Type 0} where
           ≡ (sent_or_held old.outbox ++ came) ++ leave_of due old.outbox.seat.place (sent_or_held old.outbox ++ came)
       pub leaving : new.outbox.leaving ≡ (old.outbox.leaving || due)
       pub waits : is_some hand ≡ true → new.outbox.hand ≡ hand
+      -- Something is in hand after the turn only where the inbox had no room for it.
+      pub full : is_some new.outbox.hand ≡ true → WasFull new.outbox.seat
       pub seat : (new.outbox.seat.place ≡ old.outbox.seat.place) × (seat_inbox new.outbox.seat ≡ seat_inbox old.outbox.seat)
       -- Of the entries held and then the connection's part of those that the follower gave, the first were sent and the rest is held.
       pub got : List Entry

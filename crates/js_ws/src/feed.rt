@@ -4,10 +4,10 @@ ghost use Rattle.jk_board.specs.Ends.{read_by};
 ghost use Rattle.js_ws.specs.Reads.{items_read};
 
 use crate::view::{busy_with, goes_to, is_join, is_last};
-use jk_board::Follower;
+use jk_board::{Follower, Refusal};
 use jk_language::Language;
 use jk_log::Entry;
-use std::alloc::{AllocError, Global};
+use std::alloc::Global;
 
 /// How many entries a channel asks its follower for at once.
 pub const ENTRIES: usize = 64;
@@ -86,14 +86,14 @@ impl<L: Language> Feed<L> {
     ghost use Rattle.jk_log.specs.declared.entry.Entry.{Entry};
 
     /// Takes the next entries that the follower gives, and holds those of the connection at this seat. None are taken where
-    /// there is no memory.
-    pub(crate) fn take(self, alloc: Global, seat: u8) -> Feed<L>
-        ensures found { (got : List Entry) × (read_by result.follower ≡ read_by self.follower ++ got)
-            × (result.held.items ≡ self.held.items ++ part self.joined got seat self.join)
-            × (result.joined ≡ (self.joined || has_joined seat self.join got))
-            × (result.ended ≡ (self.ended || has_last got))
-            × (result.busy ≡ busy_after self.busy got) }
-        ensures same { result.join ≡ self.join }
+    /// there is no memory. It says whether those that come next were lost.
+    pub(crate) fn take(self, alloc: Global, seat: u8) -> (Feed<L>, bool)
+        ensures found { (got : List Entry) × (read_by result.0.follower ≡ read_by self.follower ++ got)
+            × (result.0.held.items ≡ self.held.items ++ part self.joined got seat self.join)
+            × (result.0.joined ≡ (self.joined || has_joined seat self.join got))
+            × (result.0.ended ≡ (self.ended || has_last got))
+            × (result.0.busy ≡ busy_after self.busy got) }
+        ensures same { result.0.join ≡ self.join }
     {
         let Feed {
             follower,
@@ -111,21 +111,22 @@ impl<L: Language> Feed<L> {
             busy,
         };
         let next = read_next(alloc, follower, &mut held);
-        let (follower, given) = next;
+        let (follower, given, lost) = next;
         let place = place.take_all(given, &mut held);
-        Feed {
+        let feed = Feed {
             follower,
             held,
             join,
             joined: place.joined,
             ended: place.ended,
             busy: place.busy,
-        }
+        };
+        (feed, lost)
     }
 }
 
 /// The entries that were read, or none.
-fn or_none(alloc: Global, read: Result<Vec<Entry>, AllocError>) -> Vec<Entry>
+fn or_none(alloc: Global, read: Result<Vec<Entry>, Refusal>) -> Vec<Entry>
     ensures { result.items ≡ items_read read }
 {
     match read {
@@ -134,21 +135,23 @@ fn or_none(alloc: Global, read: Result<Vec<Entry>, AllocError>) -> Vec<Entry>
     }
 }
 
-/// The next entries that a follower gives, and room for them among the held ones. None are read where there is no memory.
+/// The next entries that a follower gives, and room for them among the held ones. None are read where there is no memory. It says
+/// whether they were lost.
 fn read_next<L: Language>(
     alloc: Global,
     follower: Follower<L>,
     held: &mut Vec<Entry>,
-) -> (Follower<L>, Vec<Entry>)
+) -> (Follower<L>, Vec<Entry>, bool)
     ensures held { held.new.items ≡ held.old.items }
     ensures room { vec_len held.new + vec_len result.1 ≤ vec_capacity held.new }
     ensures read { read_by result.0 ≡ read_by follower ++ result.1.items }
 {
     let Ok(()) = held.reserve(ENTRIES) else {
-        return (follower, Vec::new(alloc));
+        return (follower, Vec::new(alloc), false);
     };
     let read = follower.read(alloc, ENTRIES);
     let (follower, given) = read;
+    let lost = matches!(given, Err(Refusal::Lost));
     let entries = or_none(alloc, given);
-    (follower, entries)
+    (follower, entries, lost)
 }

@@ -17,7 +17,7 @@ pub struct Outbox {
 }
 
 impl Outbox {
-    ghost use Rattle.js_ws.specs.Arrivals.{sent_or_held, arrivals_of, is_due, leave_of};
+    ghost use Rattle.js_ws.specs.Arrivals.{sent_or_held, arrivals_of, is_due, leave_of, WasFull};
 
     /// Submits what is in hand. It stays in hand where the inbox is full.
     #[tactic(auto, using(crate::proofs::Sending::submitted, crate::proofs::Sending::kept_back))]
@@ -25,6 +25,7 @@ impl Outbox {
         ensures seat { (result.seat.place ≡ self.seat.place) × (seat_inbox result.seat ≡ seat_inbox self.seat) }
         ensures all { sent_or_held result ≡ sent_or_held self }
         ensures hand { is_some result.hand ≡ true → result.hand ≡ self.hand }
+        ensures full { is_some result.hand ≡ true → WasFull result.seat }
         ensures leaving { result.leaving ≡ self.leaving }
     {
         let Outbox {
@@ -79,6 +80,7 @@ impl Outbox {
         requires none { self.hand ≡ None }
         ensures seat { (result.seat.place ≡ self.seat.place) × (seat_inbox result.seat ≡ seat_inbox self.seat) }
         ensures all { sent_or_held result ≡ sent_or_held self ++ arrivals_of self.seat.place (sent_or_held self) heard }
+        ensures full { is_some result.hand ≡ true → WasFull result.seat }
         ensures leaving { result.leaving ≡ self.leaving }
     {
         match heard {
@@ -109,6 +111,7 @@ impl Outbox {
         ensures all { sent_or_held result ≡ sent_or_held self
             ++ leave_of (is_due failed ended self.leaving self.hand) self.seat.place (sent_or_held self) }
         ensures hand { is_some self.hand ≡ true → result.hand ≡ self.hand }
+        ensures full { (is_some self.hand ≡ true → WasFull self.seat) → is_some result.hand ≡ true → WasFull result.seat }
         ensures leaving { result.leaving ≡ (self.leaving || is_due failed ended self.leaving self.hand) }
     {
         if !failed || ended || self.leaving || self.hand.is_some() {

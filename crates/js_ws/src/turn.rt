@@ -1,8 +1,9 @@
 //! One turn of a channel.
-ghost use Rattle.std.specs.Prelude.{◌≡◌, ◌++◌, true, false, List};
+ghost use Rattle.std.specs.Prelude.{◌≡◌, ◌++◌, true, false, is_some, List};
 ghost use Rattle.jk_log.specs.declared.entry.Entry.{Entry};
 ghost use Rattle.jk_board.specs.Ends.{read_by};
 ghost use Rattle.jk_queues.specs.Ends.{seat_inbox};
+ghost use Rattle.js_ws.specs.Arrivals.{WasFull};
 ghost use Rattle.js_ws.specs.Statuses.{busy_after};
 ghost use Rattle.js_ws.specs.Turns.{Listened, IsTurn, over};
 
@@ -24,6 +25,7 @@ fn listen<R: Wait, S: Read + Write + Drop>(
 ) -> (Outbox, bool)
     ensures listened { Listened S.remaining wire.old wire.new outbox result.0 result.1 }
     ensures seat { (result.0.seat.place ≡ outbox.seat.place) × (seat_inbox result.0.seat ≡ seat_inbox outbox.seat) }
+    ensures full { is_some result.0.hand ≡ true → WasFull result.0.seat }
     ensures leaving { result.0.leaving ≡ outbox.leaving }
     ensures same { (wire.new.names ≡ wire.old.names) × (wire.new.sent ≡ wire.old.sent) }
 {
@@ -45,7 +47,8 @@ fn listen<R: Wait, S: Read + Write + Drop>(
 /// It submits what waits for room in the inbox. Where nothing waits any more, it reads one message: a text that is a message of
 /// "Messaging in Jupyter" 5.4 is one arrival, and other messages are dropped. Then it takes what the follower gives, sends what
 /// is due to this connection, with this date, and holds what could not be sent. Where the stream has failed, it submits the
-/// connection's `Leave` once nothing else waits. Want of memory in reading is a fault of the stream.
+/// connection's `Leave` once nothing else waits. Want of memory in reading is a fault of the stream, and so is it where the board has
+/// dropped what the follower would read next.
 ///
 /// The answer is `Closed` once that `Leave` is submitted, and also once the idle of a shutdown without restart was found and
 /// all is sent or the stream has failed. Then the inbox is left alone, and further turns do nothing.
@@ -71,7 +74,9 @@ pub fn channel_turn<R: Wait, S: Read + Write + Drop, L: Language>(
     let place = outbox.seat.place();
     let heard = listen(rt, alloc, &mut wire, outbox);
     let (outbox, quiet) = heard;
-    let mut feed = feed.take(alloc, place);
+    let taken = feed.take(alloc, place);
+    let (mut feed, lost) = taken;
+    wire.failed |= lost;
     let count = wire.send_held(alloc, date, &mut feed.held);
     let left = outbox.leave(rt, wire.failed, feed.ended);
     let next = Channel {

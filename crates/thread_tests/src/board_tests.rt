@@ -15,32 +15,35 @@ use std::test::Fail;
 use std::thread::{JoinHandle, Threads};
 use test_language::TestLanguage;
 
-/// Eight readers, each in a thread of its own.
+/// Seven readers, each in a thread of its own.
 type Readers = Vec<JoinHandle<Result<u64, AllocError>>>;
 
-/// Starts eight that read a thousand entries each.
-fn begin_eight<R>(
+/// Lends seven that read a thousand entries each, and starts them.
+fn begin_seven<R>(
     rt: R,
     alloc: Global,
-    eight: [Follower<TestLanguage>; 8],
+    seven: [Follower<TestLanguage>; 7],
 ) -> Result<Readers, AllocError>
 where
     R: Threads + Wait + Copy + Send + 'static,
 {
     let mut readers = Vec::new(alloc);
-    for follower in eight {
+    for follower in seven {
+        let (follower, passed) = follower.pass();
+        passed?;
         readers.push(begin(rt, alloc, follower, 1_000)?)?;
     }
     Ok(readers)
 }
 
-/// Each of the eight has read all. The ninth, which has read nothing, learns the publisher's news and has all after sixteen
-/// reads. So has a follower that comes when all is published.
+/// Each of the seven has read all. The eighth was lent and has read nothing, so all is kept. The ninth, which was not lent, learns
+/// the publisher's news and has all after sixteen reads. So has a follower that comes when all is published, and then the eighth.
 fn end_all<R>(
     rt: R,
     alloc: Global,
     publisher: &mut Publisher<TestLanguage>,
     readers: Readers,
+    eighth: Follower<TestLanguage>,
     ninth: Follower<TestLanguage>,
 ) -> Result<(), Fail>
 where
@@ -54,10 +57,11 @@ where
     assert_eq!(&rt; read_times(alloc, ninth, 16)?, 1_000);
     let late = publisher.late_follower()?;
     assert_eq!(&rt; read_times(alloc, late, 16)?, 1_000);
+    assert_eq!(&rt; read_times(alloc, eighth, 16)?, 1_000);
     Ok(())
 }
 
-/// Eight follow beside the publisher, each all of a thousand publications, and the ninth after them.
+/// Seven follow beside the publisher, each all of a thousand publications, and two after them.
 fn follow<R>(
     rt: R,
     alloc: Global,
@@ -80,14 +84,18 @@ where
         seven,
         recorder,
     } = followers;
-    let eight = [zero, one, two, three, four, five, six, seven];
-    let readers = match begin_eight(rt, alloc, eight) {
+    let (eighth, passed) = seven.pass();
+    if let Err(error) = passed {
+        return (publisher, Err(error.into()));
+    }
+    let first = [zero, one, two, three, four, five, six];
+    let readers = match begin_seven(rt, alloc, first) {
         Ok(readers) => readers,
         Err(error) => return (publisher, Err(error.into())),
     };
     let (mut publisher, done) = publish_joins(&rt, alloc, publisher, 1_000, 1);
     let done = match done {
-        Ok(()) => end_all(rt, alloc, &mut publisher, readers, recorder),
+        Ok(()) => end_all(rt, alloc, &mut publisher, readers, eighth, recorder),
         Err(error) => Err(error.into()),
     };
     (publisher, done)

@@ -58,7 +58,8 @@ pub fn read_after<L: Language>(
     for _ in 0..times {
         let (same, found) = follower.read(alloc, 64);
         follower = same;
-        last = last.wrapping_add(in_order(found?.as_slice(), last));
+        let entries = found.map_err(|_| AllocError)?;
+        last = last.wrapping_add(in_order(entries.as_slice(), last));
     }
     Ok(last)
 }
@@ -79,7 +80,7 @@ pub fn read_all<L: Language, R: Wait>(
         }
         let (same, found) = follower.read(alloc, 64);
         follower = same;
-        let entries = found?;
+        let entries = found.map_err(|_| AllocError)?;
         count = count.wrapping_add(entries.len() as u64);
         last = last.wrapping_add(in_order(entries.as_slice(), last));
         thread::yield_now();

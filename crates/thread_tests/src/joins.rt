@@ -92,6 +92,29 @@ pub fn publish_next<L: Language, R: Wait>(
     }
 }
 
+/// Takes joins and leaves of these numbers, and publishes each by itself.
+pub fn publish_each<L: Language, R: Wait>(
+    rt: &R,
+    alloc: Global,
+    kernel: &mut Kernel<L>,
+    publisher: Publisher<L>,
+    first: u64,
+    behind: u64,
+) -> (Publisher<L>, Result<(), AllocError>)
+    requires { HasShown L.spoken (published publisher) kernel.old }
+    ensures { OnOk result.1 (HasShown L.spoken (published result.0) kernel.new) }
+{
+    let mut publisher = publisher;
+    for number in first..behind {
+        let (same, done) = publish_next(rt, alloc, kernel, publisher, number, number + 1);
+        publisher = same;
+        if done.is_err() {
+            return (publisher, done);
+        }
+    }
+    (publisher, Ok(()))
+}
+
 /// Publishes joins and leaves numbered from 1 in so many publications, so many in each.
 pub fn publish_joins<L: Language, R: Wait>(
     rt: &R,

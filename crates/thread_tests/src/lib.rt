@@ -5,6 +5,8 @@
 mod board_tests;
 #[cfg(test)]
 mod driver_tests;
+#[cfg(test)]
+mod dropping_tests;
 pub mod following;
 #[cfg(test)]
 mod inbox_tests;

@@ -124,7 +124,7 @@ fn follow(
     let (follower, found) = follower.read(alloc, 64);
     let found = match found {
         Ok(found) => found,
-        Err(error) => return (follower, Err(error)),
+        Err(_) => return (follower, Err(AllocError)),
     };
     for entry in found {
         if entries.push(entry).is_err() {
@@ -263,7 +263,7 @@ where
         publisher,
         followers,
     } = Board::<TestLanguage>::new(&rt, alloc)?;
-    let follower = followers.two;
+    let (follower, _) = followers.two.pass();
     let screen = Screen {
         follower,
         entries,

@@ -1,10 +1,11 @@
 //! What a follower does.
-ghost use Rattle.std.specs.Prelude.{◌≡◌, ◌≤◌, ◌++◌, take, drop, IfOk, OnOk, OnErr};
+ghost use Rattle.std.specs.Prelude.{◌≡◌, ◌<◌, ◌≤◌, ◌++◌, take, drop, length, Err, IfOk, OnOk, OnErr};
 ghost use Rattle.jk_board.specs.Ends.{found_by, told_to, read_by, news_of};
 ghost use Rattle.jk_board.specs.Rule.{Each};
 ghost use Rattle.jk_board.specs.Boards.{IsBoard, StartsWith};
+ghost use Rattle.jk_board.specs.declared.follower.Refusal.TheVariants.{Lost};
 
-use super::Follower;
+use super::{Follower, Refusal};
 use crate::news::News;
 use crate::rule::Finds;
 use crate::sizes::bytes_of;
@@ -16,8 +17,9 @@ impl<L: Language> Follower<L> {
     /// The next entries, at most so many, and the follower after them.
     ///
     /// # Errors
-    /// Where there is no memory, and where the publisher has ended. What was read stays as it was.
-    pub fn read(self, alloc: Global, max: usize) -> (Follower<L>, Result<Vec<Entry>, AllocError>)
+    /// Where there is no memory, where the publisher has ended, and where what comes next was dropped. What was read stays as it
+    /// was.
+    pub fn read(self, alloc: Global, max: usize) -> (Follower<L>, Result<Vec<Entry>, Refusal>)
         requires { max ≤ 64 }
         ensures told { told_to result.0 ≡ told_to self }
         ensures later { StartsWith (found_by result.0) (found_by self) }
@@ -25,6 +27,7 @@ impl<L: Language> Follower<L> {
         ensures next { IfOk result.1 (λ v. v.items ≡ take max (drop self.place (found_by result.0))) }
         ensures read { IfOk result.1 (λ v. read_by result.0 ≡ read_by self ++ v.items) }
         ensures refused { OnErr result.1 (read_by result.0 ≡ read_by self) }
+        ensures lost { result.1 ≡ Err Lost → self.place < length (found_by result.0) }
     {
         let Follower {
             reader,
@@ -39,20 +42,20 @@ impl<L: Language> Follower<L> {
                     place,
                     mark,
                 },
-                Err(AllocError),
+                Err(Refusal::Memory),
             ),
         };
         let found = reading.get().entries_from(alloc, place, max);
         let reader = reading.leave();
         let entries = match found {
             Ok(entries) => entries,
-            Err(error) => return (
+            Err(refusal) => return (
                 Follower {
                     reader,
                     place,
                     mark,
                 },
-                Err(error),
+                Err(refusal),
             ),
         };
         match place.checked_add(entries.len()) {
@@ -73,12 +76,12 @@ impl<L: Language> Follower<L> {
                     place,
                     mark,
                 },
-                Err(AllocError),
+                Err(Refusal::Memory),
             ),
         }
     }
 
-    /// The follower after all that it finds, of which nothing is copied.
+    /// The follower after all that it finds, of which nothing is copied. It is lent from now on.
     ///
     /// # Errors
     /// Where the publisher has ended. What was read stays as it was.

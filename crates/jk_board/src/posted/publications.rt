@@ -50,7 +50,7 @@ impl Row<Publication> {
         let Some(count) = before.checked_add(entries.len()) else {
             return Err((entries, AllocError));
         };
-        let mut parts = match wider(alloc, &self.parts) {
+        let mut parts = match wider(alloc, &self.parts, 0, 0) {
             Ok(parts) => parts,
             Err(error) => return Err((entries, error)),
         };

@@ -1,10 +1,11 @@
 //! What the publisher does.
-ghost use Rattle.std.specs.Prelude.{◌≡◌, ◌++◌, [], drop, fold, MatchResult};
+ghost use Rattle.std.specs.Prelude.{◌≡◌, ◌∷◌, ◌++◌, [], drop, length, MatchResult};
 ghost use Rattle.left_right.specs.Sides.{view};
 ghost use Rattle.jk_board.specs.Ends.{published};
-ghost use Rattle.jk_board.specs.Posted.{all_of};
+ghost use Rattle.jk_board.specs.Posted.{held_of, Shows};
 ghost use Rattle.jk_board.specs.Pending.{IsNext};
-ghost use Rattle.jk_board.specs.Boards.{IsBoard};
+ghost use Rattle.jk_board.specs.Boards.{IsBoard, StartsWith};
+ghost use Rattle.jk_board.specs.declared.publisher.Replace.{Replace as replacement};
 
 use super::{Copies, Publisher, Replace};
 use crate::rule::Finds;
@@ -14,7 +15,7 @@ use std::alloc::{AllocError, Global};
 use std::sync::Wait;
 
 impl<L: Language> Publisher<L> {
-    /// Puts the entries after all that was published.
+    /// Puts the entries after all that was published. Before that it drops whole parts that all have read who are lent.
     ///
     /// # Errors
     /// The entries come back where there is no memory. What was published stays as it was.
@@ -28,7 +29,8 @@ impl<L: Language> Publisher<L> {
         ensures { MatchResult result.1 (λ _. published result.0 ≡ published self ++ entries.items) (λ back. (back.0 ≡ entries) × (published result.0 ≡ published self)) }
     {
         let Publisher { mut copies, marks } = self;
-        let posted = match copies.published().with(alloc, entries) {
+        let read = marks.least_place();
+        let posted = match copies.published().with(alloc, entries, read) {
             Ok(posted) => posted,
             Err(back) => return (Publisher { copies, marks }, Err(back)),
         };
@@ -42,6 +44,36 @@ impl<L: Language> Publisher<L> {
                 (Publisher { copies, marks }, Err((entries, AllocError)))
             }
         }
+    }
+
+    /// Drops whole parts that all have read who are lent, from one of the two copies of the board. It publishes nothing, and does
+    /// nothing where neither copy keeps such a part or there is no memory.
+    pub fn let_go<R: Wait>(self, rt: &R, alloc: Global) -> Publisher<L>
+        ensures { published result ≡ published self }
+    {
+        let Publisher { mut copies, marks } = self;
+        let read = marks.least_place();
+        let Ok(posted) = copies.published().without_read(alloc, read) else {
+            return Publisher { copies, marks };
+        };
+        if posted.dropped() == copies.desk.spare.get().dropped() {
+            return Publisher { copies, marks };
+        }
+        match copies.append(Replace { posted }) {
+            Ok(()) => {
+                let copies = show_next::<L, R>(rt, copies);
+                return Publisher { copies, marks };
+            }
+            Err(next) => drop(next),
+        }
+        Publisher { copies, marks }
+    }
+
+    /// How many entries are kept.
+    pub fn kept(&self) -> usize
+        ensures { result ≡ length (held_of self.now.copies.desk.shown.value) }
+    {
+        self.copies.published().kept()
     }
 
     /// The bytes of the entries that the slowest of those who are lent has not read: their texts, and 128 for each. None where
@@ -60,10 +92,12 @@ impl<L: Language> Publisher<L> {
 
 /// Shows the one board that is pending. It can fail only where too many share it, and then tries again.
 fn show_next<L: Language, R: Wait>(rt: &R, copies: Copies<L>) -> Copies<L>
-    requires { IsNext L.spoken (all_of copies.desk.shown.value) (drop copies.behind copies.log.items) }
+    requires pending { IsNext L.spoken (view copies.desk.place).seen (drop copies.behind copies.log.items) }
+    requires saw { Shows (view copies.desk.place).seen copies.desk.shown.value }
     ensures nothing_pending { drop result.behind result.log.items ≡ [] }
-    ensures saw_all { (view result.desk.place).seen ≡ all_of result.desk.shown.value }
-    ensures shown { all_of result.desk.shown.value ≡ fold (λ all next. all_of next.posted) (all_of copies.desk.shown.value) (drop copies.behind copies.log.items) }
+    ensures saw_all { Shows (view result.desk.place).seen result.desk.shown.value }
+    ensures shown { (next : replacement) → drop copies.behind copies.log.items ≡ next ∷ [] → Shows (view result.desk.place).seen next.posted }
+    ensures later { StartsWith (view result.desk.place).seen (view copies.desk.place).seen }
 {
     let mut copies = copies;
     for _ in rt.forever() {

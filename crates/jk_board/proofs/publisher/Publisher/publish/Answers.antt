@@ -1,19 +1,39 @@
-use Rattle.std.proofs.Common.{◌++◌, drop, sym, ap, ◌∙◌, subst}
+use Rattle.std.proofs.Common.{◌≡◌, ◌∷◌, [], ◌++◌, List, drop, sym, ap, ◌∙◌, subst}
+use Rattle.left_right.specs.Sides.{view}
+use Rattle.jk_log.specs.declared.entry.Entry.{Entry}
 use Rattle.jk_board.specs.declared.posted.Posted.{Posted}
 use Rattle.jk_board.specs.declared.publisher.Replace.{Replace}
-use Rattle.jk_board.specs.Posted.{all_of, EndsWith}
-use Rattle.jk_board.proofs.Growing.{one_pending}
+use Rattle.jk_board.specs.Posted.{EndsWith, Follows, Shows}
+use Rattle.jk_board.specs.Boards.{StartsWith}
+use Rattle.jk_board.proofs.Growing.{one_pending, published_next}
 use Rattle.jk_board.proofs.publisher.Publisher.publish.Goals as goal
 
-pub show_next-copies-requires : goal.show_next-copies-requires
-show_next-copies-requires g c =
+pub show_next-copies-requires-clause-pending : goal.show_next-copies-requires-clause-pending
+show_next-copies-requires-clause-pending g c =
     let more = c.args.entries.items in
+    let place = c.least_place-read.result in
+    let copies = c.args.self.copies in
     let next : Replace = record { posted = c.in-Ok.posted } in
-    one_pending g.L.Language.spoken c.args.self.copies.desk.shown.value c.append.new.self.desk.shown.value next (drop c.args.self.copies.behind c.args.self.copies.log.items) (drop c.append.new.self.behind c.append.new.self.log.items) more
-    c.args.self.nothing_pending c.in-Ok-append.ensures.pending (c.in-Ok.ensures.all ∙ ap (λ (b : Posted). all_of b ++ more) c.published.ensures) c.requires (λ i. (c.in-Ok-append.ensures.desk i).shown.value)
+    let follows : Follows place more copies.desk.shown.value c.in-Ok.posted = subst (λ (b : Posted). Follows place more b c.in-Ok.posted) c.published.ensures c.in-Ok.ensures.all in
+    one_pending g.L.Language.spoken place (view copies.desk.place).seen (view c.append.new.self.desk.place).seen more copies.desk.shown.value next (drop copies.behind copies.log.items) (drop c.append.new.self.behind c.append.new.self.log.items)
+    (λ i. (view (c.in-Ok-append.ensures.desk i).place).seen) c.args.self.nothing_pending c.in-Ok-append.ensures.pending c.args.self.saw_all follows (λ legal. c.requires)
+
+pub returns-in-Ok-append : goal.returns-in-Ok-append
+returns-in-Ok-append g c =
+    let more = c.args.entries.items in
+    let place = c.least_place-read.result in
+    let copies = c.args.self.copies in
+    let seen : List Entry = (view copies.desk.place).seen in
+    let next : Replace = record { posted = c.in-Ok.posted } in
+    let now : List Entry = (view c.show_next-copies.result.desk.place).seen in
+    let same : (view c.append.new.self.desk.place).seen ≡ seen = λ i. (view (c.in-Ok-append.ensures.desk i).place).seen in
+    let follows : Follows place more copies.desk.shown.value c.in-Ok.posted = subst (λ (b : Posted). Follows place more b c.in-Ok.posted) c.published.ensures c.in-Ok.ensures.all in
+    let starts : StartsWith now seen = subst (λ (l : List Entry). StartsWith now l) same c.show_next-copies.ensures.later in
+    let there : Shows now c.in-Ok.posted = c.show_next-copies.ensures.shown next (c.in-Ok-append.ensures.pending ∙ ap (λ (l : List Replace). l ++ next ∷ []) c.args.self.nothing_pending) in
+    published_next place seen more now copies.desk.shown.value c.in-Ok.posted c.args.self.saw_all follows starts there
 
 pub returns-in-Err-append : goal.returns-in-Err-append
 returns-in-Err-append g c = (
   c.into_last-entries.ensures c.args.entries (subst (λ (o : Replace). EndsWith c.args.entries o.posted) (sym c.in-Err-append.ensures.pending.0) c.in-Ok.ensures.last),
-  λ i. all_of (c.in-Err-append.ensures.desk i).shown.value,
+  λ i. (view (c.in-Err-append.ensures.desk i).place).seen,
 )

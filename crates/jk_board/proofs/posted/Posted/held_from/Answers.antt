@@ -1,7 +1,7 @@
 use Rattle.std.proofs.Common.{◌-◌, ap, ◌∙◌}
 use Rattle.jk_board.specs.Levels.{of_newest, of_older, of_oldest}
 use Rattle.jk_board.proofs.Lists.{three_windows}
-use Rattle.jk_board.proofs.posted.Posted.entries_from.Goals as goal
+use Rattle.jk_board.proofs.posted.Posted.held_from.Goals as goal
 
 pub returns : goal.returns
 returns c =
