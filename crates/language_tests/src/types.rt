@@ -3,7 +3,7 @@
 use ob_base::{Items, Shared, SharedItems, Text};
 use ob_types::{
     Basic, Constant, Exported, Field, Formal, FormalKind, Interface, ObType, Object, RecordName,
-    RecordType, Signature, assignable, interface_text, is_admitted, levels, same,
+    RecordType, Signature, assignable, extends, interface_text, is_admitted, levels, same,
     string_assignable, zero_size,
 };
 use std::alloc::{AllocError, Global};
@@ -56,6 +56,14 @@ fn record_of_one(alloc: Global, name: &[u8], exported: bool) -> Result<ObType, A
     let mut fields = Items::new(alloc);
     fields.push(field(alloc, name, exported, integer())?)?;
     record(alloc, b"N", 0, fields)
+}
+
+// `RECORD (N.T) b: INTEGER END` of a module M, where N.T is `RECORD a*: INTEGER END`.
+fn extension(alloc: Global) -> Result<ObType, AllocError> {
+    let mut fields = Items::new(alloc);
+    fields.push(field(alloc, b"", false, record_of_one(alloc, b"a", true)?)?)?;
+    fields.push(field(alloc, b"b", false, integer())?)?;
+    record(alloc, b"M", 0, fields)
 }
 
 fn exported(alloc: Global, name: &[u8], object: Object) -> Result<Exported, AllocError> {
@@ -180,6 +188,15 @@ fn lines_of_types_and_procedures(rt: HostRuntime) -> Result<(), Fail> {
     );
     let marked = Object::Variable(record_of_one(alloc, b"f", true)?);
     assert!(rt; has_line(alloc, b"r", marked, "module M\nvar r RN.T.0(f*:I;)\n")?);
+    let extended = Object::TypeName(extension(alloc)?);
+    assert!(rt;
+        has_line(
+            alloc,
+            b"T",
+            extended,
+            "module M\ntype T RM.T.0(^RN.T.0(a*:I;);b:I;)\n"
+        )?
+    );
     let procedure = Object::Procedure(two_formals(alloc)?);
     assert!(rt; has_line(alloc, b"P", procedure, "module M\nproc P(vI;pOC;):B\n")?);
     Ok(())
@@ -207,6 +224,7 @@ fn cells_and_levels_at_their_limits(rt: HostRuntime) -> Result<(), Fail> {
         sized(record(alloc, b"N", 0, Items::new(alloc)))?,
         (1, 1, true)
     );
+    assert_eq!(rt; sized(extension(alloc))?, (2, 2, true));
     assert_eq!(rt; sized(open(alloc, integer()))?, (1, 1, true));
     assert_eq!(rt; sized(deep(alloc, 200))?, (1, 200, true));
     assert_eq!(rt; sized(deep(alloc, 201))?, (1, 201, false));
@@ -260,6 +278,27 @@ fn names_of_records_are_compared(rt: HostRuntime) -> Result<(), Fail> {
     assert!(rt; are_same(empty(alloc, b"N", 0), empty(alloc, b"N", 0))?);
     assert!(rt; !are_same(empty(alloc, b"N", 0), empty(alloc, b"N", 1))?);
     assert!(rt; !are_same(empty(alloc, b"N", 0), empty(alloc, b"M", 0))?);
+    Ok(())
+}
+
+// Whether the second type is the first or extends it.
+fn is_extended(
+    to: Result<ObType, AllocError>,
+    from: Result<ObType, AllocError>,
+) -> Result<bool, AllocError> {
+    let to = to?;
+    let from = from?;
+    Ok(extends(&to, &from))
+}
+
+#[test]
+fn what_extends_a_type(rt: HostRuntime) -> Result<(), Fail> {
+    let alloc = rt.alloc();
+    assert!(rt; is_extended(record_of_one(alloc, b"a", true), extension(alloc))?);
+    assert!(rt; is_extended(extension(alloc), extension(alloc))?);
+    assert!(rt; !is_extended(extension(alloc), record_of_one(alloc, b"a", true))?);
+    assert!(rt; !is_extended(record_of_one(alloc, b"a", false), extension(alloc))?);
+    assert!(rt; !is_extended(Ok(integer()), extension(alloc))?);
     Ok(())
 }
 

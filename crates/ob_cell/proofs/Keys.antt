@@ -24,7 +24,7 @@ use Rattle.ob_types.specs.declared.structure.ObType.TheBlock.{Row_of-Field, end_
 use Rattle.ob_types.specs.declared.structure.ObType.TheVariants.{Basic as OfBasic, Array', Open', Record}
 use Rattle.ob_types.specs.declared.structure.RecordName.{RecordName}
 use Rattle.ob_types.specs.declared.structure.RecordType.{RecordType'}
-use Rattle.ob_types.specs.InterfaceText.{name_text, basic_text, enclosing_text, record_name_text, mark_text, type_text, fields_text, hex_digit, hex_text, constant_text, kind_text, formals_text, result_text, signature_text, object_text, exports_text, interface_text}
+use Rattle.ob_types.specs.InterfaceText.{name_text, basic_text, enclosing_text, record_name_text, mark_text, label_text, type_text, fields_text, hex_digit, hex_text, constant_text, kind_text, formals_text, result_text, signature_text, object_text, exports_text, interface_text}
 use Rattle.ob_types.specs.InterfaceTree.{InterfaceTree}
 use Rattle.ob_mean.specs.declared.face.Face.{Face}
 use Rattle.ob_mean.specs.declared.face.Heading.{Heading}
@@ -33,7 +33,7 @@ use Rattle.ob_mean.specs.declared.shape.Shape.{Shape}
 use Rattle.ob_mean.specs.declared.shape.Shape.TheVariants as shape
 use Rattle.ob_check.specs.Shapes.{shape_of, shapes_of, parameter_of, parameters_of}
 use Rattle.ob_fit.specs.Fitting.{variable_shape, variable_shapes, procedure_heading, procedure_headings, heading_of, face_of_interface}
-use Rattle.ob_load.specs.Said.{Read, BasicType, OpenType, OtherType, read_shape, read_parameter, Around, OfArray, OfOpen, OfField, OfVariable, OfTypeName, OfFormal, At, Line, Rest, Word, Name, Procedure, Formals, Formal as FormalAt, Result, Type', Length, RecordName as RecordNameAt, Fields, FieldName, Field, Variable, behind, next, added, read, Reader, no_face, face_said}
+use Rattle.ob_load.specs.Said.{Read, BasicType, OpenType, OtherType, read_shape, read_parameter, Around, OfArray, OfOpen, OfField, OfVariable, OfTypeName, OfFormal, At, Line, Rest, Word, Name, Procedure, Formals, Formal as FormalAt, Result, Type', Length, RecordName as RecordNameAt, Fields, FieldName, Field, Variable, behind, in_field, field_begins, next, added, read, Reader, no_face, face_said}
 use Rattle.ob_load.specs.Words.{IsWord, AreWords, RecordWords, TypeWords, RowWords, FormalWords, ObjectWords, ExportWords, InterfaceWords}
 
 -- ---- texts one after the other
@@ -207,24 +207,20 @@ record_without r h =
     let d = without_join 40 (name_text r.module_name ++ codes "." ++ enclosing_text r.enclosing ++ name_text r.declared) (codes ".") c dot in
     without_join 40 (name_text r.module_name ++ codes "." ++ enclosing_text r.enclosing ++ name_text r.declared ++ codes ".") (decimal r.before) d (decimal_without 40 r.before (omega arith))
 
--- the name of a field, with its mark, up to the colon
+-- what stands before the type of a field: its name with its mark, up to the colon, or the sign of a base
 marked : (exported : Bool) (ss : List Shape) (around : List Around) (f : Face) → read (mark_text exported) (FieldName ss around, f) ≡ (FieldName ss around, f)
 marked true ss around f = refl
 marked false ss around f = refl
 
-marked_alone : (exported : Bool) (ss : List Shape) (around : List Around) (f : Face) → read (mark_text exported ++ codes ":") (Fields ss around, f) ≡ (Type' (OfField ss ∷ around), f)
-marked_alone true ss around f = refl
-marked_alone false ss around f = refl
-
 name_first : (x : ℕ) (ss : List Shape) (around : List Around) (f : Face) → is_ascii_alphanumeric x ≡ true → at (next x (Fields ss around)) (added x (Fields ss around) f) ≡ at (FieldName ss around) f
 name_first x ss around f word = same_reader (next x (Fields ss around)) (FieldName ss around) (added x (Fields ss around) f) f
-    (ap (λ b. cond b (behind (OtherType (shape.Record ss)) around) (cond (x == 58) (Type' (OfField ss ∷ around)) (FieldName ss around))) (apart 41 x refl word)
+    (ap (λ b. cond b (behind (OtherType (shape.Record ss)) around) (field_begins x ss around)) (apart 41 x refl word)
+    ∙ ap (λ b. cond b (Type' (OfField ss ∷ around)) (in_field x ss around)) (apart 94 x refl word)
     ∙ ap (λ b. cond b (Type' (OfField ss ∷ around)) (FieldName ss around)) (apart 58 x refl word))
     (either_same (x == 10) f)
 
-field_name_read : (xs : List ℕ) → IsWord xs → (exported : Bool) (ss : List Shape) (around : List Around) (f : Face) → read (xs ++ mark_text exported ++ codes ":") (Fields ss around, f) ≡ (Type' (OfField ss ∷ around), f)
-field_name_read [] h exported ss around f = marked_alone exported ss around f
-field_name_read (x ∷ xs) h exported ss around f =
+field_name_read : (x : ℕ) (xs : List ℕ) → IsWord (x ∷ xs) → (exported : Bool) (ss : List Shape) (around : List Around) (f : Face) → read (x ∷ xs ++ mark_text exported ++ codes ":") (Fields ss around, f) ≡ (Type' (OfField ss ∷ around), f)
+field_name_read x xs h exported ss around f =
     let word = first_holds (is_ascii_alphanumeric x) _ h in
     let rest = second_holds (is_ascii_alphanumeric x) _ h in
     ap (read (xs ++ mark_text exported ++ codes ":")) (name_first x ss around f word)
@@ -232,9 +228,10 @@ field_name_read (x ∷ xs) h exported ss around f =
     (seq xs (mark_text exported) (at (FieldName ss around) f) (at (FieldName ss around) f) (at (FieldName ss around) f) (in_name ss around xs (word_without 58 refl xs rest) f) (marked exported ss around f))
     refl
 
-field_read : (name : List ℕ) → IsWord name → (exported : Bool) (ss : List Shape) (around : List Around) (f : Face) → read (name_text name ++ mark_text exported ++ codes ":") (Fields ss around, f) ≡ (Type' (OfField ss ∷ around), f)
-field_read name h exported ss around f =
-    ap (λ xs. read (xs ++ mark_text exported ++ codes ":") (Fields ss around, f)) (name_is name h) ∙ field_name_read name h exported ss around f
+label_read : (name : List ℕ) → IsWord name → (exported : Bool) (ss : List Shape) (around : List Around) (f : Face) → read (label_text name exported) (Fields ss around, f) ≡ (Type' (OfField ss ∷ around), f)
+label_read [] h exported ss around f = refl
+label_read (x ∷ xs) h exported ss around f =
+    ap (λ ys. read (ys ++ mark_text exported ++ codes ":") (Fields ss around, f)) (name_is (x ∷ xs) h) ∙ field_name_read x xs h exported ss around f
 
 no_more : {A : Type 0} (xs : List A) → xs ++ [] ≡ xs
 no_more [] = refl
@@ -263,10 +260,10 @@ mutual
   fields_read : {k : _} (fields : Row_of-Field k) → RowWords fields → (ss : List Shape) (around : List Around) (f : Face) → read (fields_text fields) (Fields ss around, f) ≡ (Fields (ss ++ shapes_of fields) around, f)
   fields_read end_of-Field h ss around f = ap (λ xs. at (Fields xs around) f) (sym (no_more ss))
   fields_read (more_of-Field name exported of rest) h ss around f =
-      seq (name_text name ++ mark_text exported ++ codes ":" ++ type_text of ++ codes ";") (fields_text rest) (at (Fields ss around) f) (at (Fields (ss ++ shape_of of ∷ []) around) f) (at (Fields (ss ++ shape_of of ∷ shapes_of rest) around) f)
-      (seq (name_text name ++ mark_text exported ++ codes ":" ++ type_text of) (codes ";") (at (Fields ss around) f) (at (Field (ss ++ shape_of of ∷ []) around) f) (at (Fields (ss ++ shape_of of ∷ []) around) f)
-      (seq (name_text name ++ mark_text exported ++ codes ":") (type_text of) (at (Fields ss around) f) (at (Type' (OfField ss ∷ around)) f) (at (Field (ss ++ shape_of of ∷ []) around) f)
-      (field_read name h.0 exported ss around f)
+      seq (label_text name exported ++ type_text of ++ codes ";") (fields_text rest) (at (Fields ss around) f) (at (Fields (ss ++ shape_of of ∷ []) around) f) (at (Fields (ss ++ shape_of of ∷ shapes_of rest) around) f)
+      (seq (label_text name exported ++ type_text of) (codes ";") (at (Fields ss around) f) (at (Field (ss ++ shape_of of ∷ []) around) f) (at (Fields (ss ++ shape_of of ∷ []) around) f)
+      (seq (label_text name exported) (type_text of) (at (Fields ss around) f) (at (Type' (OfField ss ∷ around)) f) (at (Field (ss ++ shape_of of ∷ []) around) f)
+      (label_read name h.0 exported ss around f)
       (type_read of h.1 (OfField ss ∷ around) f ∙ ap (λ s. at (Field (ss ++ s ∷ []) around) f) (shape_is of)))
       refl)
       (fields_read rest h.2 (ss ++ shape_of of ∷ []) around f ∙ ap (λ xs. at (Fields xs around) f) (append_assoc ss (shape_of of ∷ []) (shapes_of rest)))

@@ -1,17 +1,17 @@
 -- What the definitions on types say of each form of type.
-use Rattle.std.proofs.Common.{◌≡◌, ℕ, ◌+◌, ◌*◌, min, max, List, [], ◌∷◌, refl, ap, sym, ◌∙◌}
+use Rattle.std.proofs.Common.{◌≡◌, ◌<◌, ◌≤◌, ℕ, ◌+◌, ◌*◌, min, max, List, [], ◌∷◌, Option, Some, None, refl, ap, sym, ◌∙◌}
 use Rattle.ob_types.specs.declared.structure.Field.{Field}
 use Rattle.ob_types.specs.declared.structure.ObType.{ObType}
 use Rattle.ob_types.specs.declared.structure.ObType.TheBlock.{Row_of-Field, end_of-Field, more_of-Field, items-the_row-Field, items_shown-the_row-Field-1}
 use Rattle.ob_types.specs.declared.structure.ObType.TheVariants.{Basic, Array, Open, Record, Array', Open'}
 use Rattle.ob_types.specs.declared.structure.ObType.{end_of-ObType, more_of-ObType}
 use Rattle.ob_types.specs.declared.structure.RecordType.{RecordType, RecordType', out-RecordType}
-use Rattle.std.specs.Prelude.{◌&&◌, nat_eq, nat_lt, Bool, true, false}
+use Rattle.std.specs.Prelude.{◌&&◌, ◌||◌, nat_eq, nat_lt, Bool, true, false}
 use Rattle.std.proofs.Common.{arith}
 use Rattle.std.proofs.lemmas.Bool.Decides.{nat_tests}
 use Rattle.std.specs.Cmp.Lexicographic.{pointwise}
 use Rattle.std.specs.Str.{bytes_eq}
-use Rattle.ob_types.specs.Types.{cells, cells_of, cells_in, levels, levels_of, levels_in, same, same_fields, same_field, same_record, same_truth, is_char, string_assignable}
+use Rattle.ob_types.specs.Types.{cells, cells_of, cells_in, levels, levels_of, levels_in, same, same_fields, same_field, same_record, same_truth, is_char, string_assignable, base_in, base_of, base_among, chain, chain_in, is_in, extends}
 
 pub cells_array : (n : ℕ) (e : ObType) → cells (Array n e) ≡ n * cells e
 unfolding Rattle.ob_types.specs.declared.structure.ObType.TheBlock.hidden-the_row-ObType-0 denote.Hole.Carrier.hidden
@@ -98,3 +98,60 @@ apart_open x (Basic b) other = refl
 apart_open x (Array' m p (more_of-ObType y end_of-ObType)) other = refl
 apart_open x (Open' p (more_of-ObType y end_of-ObType)) other = absurd (other y refl)
 apart_open x (Record r) other = refl
+
+row_base : (k : _) (row : Row_of-Field k) → base_in row ≡ base_among (items-the_row-Field k row)
+row_base k end_of-Field = refl
+row_base k (more_of-Field [] exported of rest) = refl
+row_base k (more_of-Field (c ∷ cs) exported of rest) = refl
+
+pub base_record : (r : RecordType) → base_of (Record r) ≡ base_among (out-RecordType r).fields
+unfolding out-RecordType denote.Hole.Carrier.out
+base_record (RecordType' name k fields) = row_base _ fields ∙ ap base_among (sym (items_shown-the_row-Field-1 k fields))
+
+pub base_array : (n : ℕ) (e : ObType) → base_of (Array n e) ≡ None
+unfolding Rattle.ob_types.specs.declared.structure.ObType.TheBlock.hidden-the_row-ObType-0 denote.Hole.Carrier.hidden
+base_array n e = refl
+
+pub base_open : (e : ObType) → base_of (Open e) ≡ None
+unfolding Rattle.ob_types.specs.declared.structure.ObType.TheBlock.hidden-the_row-ObType-0 denote.Hole.Carrier.hidden
+base_open e = refl
+
+-- a base stands one level below its extension
+lower_in : {k : _} (fields : Row_of-Field k) (b : ObType) → base_in fields ≡ Some b → levels b ≤ levels_of fields
+lower_in end_of-Field b e = absurd (let n : None ≡ Some b = e in cc)
+lower_in (more_of-Field [] exported of rest) b e = let s : of ≡ b = cc in omega (arith, ap levels s)
+lower_in (more_of-Field (c ∷ cs) exported of rest) b e = absurd (let n : None ≡ Some b = e in cc)
+
+pub base_lower : (t b : ObType) → base_of t ≡ Some b → levels b < levels t
+base_lower (Basic x) b e = absurd (let n : None ≡ Some b = e in cc)
+base_lower (Array' n p x) b e = absurd (let n : None ≡ Some b = e in cc)
+base_lower (Open' p x) b e = absurd (let n : None ≡ Some b = e in cc)
+base_lower (Record (RecordType' name k fields)) b e = omega (arith, lower_in fields b e)
+
+-- what comes after a type in its chain
+abbrev pub chain_from : Option ObType → List ObType
+chain_from None = []
+chain_from (Some b) = chain b
+
+in_chain : {k : _} (fields : Row_of-Field k) → chain_in fields ≡ chain_from (base_in fields)
+in_chain end_of-Field = refl
+in_chain (more_of-Field [] exported of rest) = refl
+in_chain (more_of-Field (c ∷ cs) exported of rest) = refl
+
+pub chain_step : (t : ObType) → chain t ≡ t ∷ chain_from (base_of t)
+chain_step (Basic x) = refl
+chain_step (Array' n p x) = refl
+chain_step (Open' p x) = refl
+chain_step (Record (RecordType' name k fields)) = ap (λ ts. Record (RecordType' name k fields) ∷ ts) (in_chain fields)
+
+-- whether it extends another by its base
+abbrev pub base_extends : ObType → Option ObType → Bool
+base_extends to None = false
+base_extends to (Some b) = extends to b
+
+from_base : (to : ObType) (o : Option ObType) → is_in to (chain_from o) ≡ base_extends to o
+from_base to None = refl
+from_base to (Some b) = refl
+
+pub extends_step : (to from : ObType) → extends to from ≡ (same to from || base_extends to (base_of from))
+extends_step to from = ap (is_in to) (chain_step from) ∙ ap (λ b. same to from || b) (from_base to (base_of from))

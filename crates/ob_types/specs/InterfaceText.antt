@@ -49,6 +49,11 @@ abbrev pub mark_text : Bool → List ℕ
 mark_text true = codes "*"
 mark_text false = []
 
+-- what stands before a field's type: its name, or the sign of a base, which has none
+abbrev pub label_text : List ℕ → Bool → List ℕ
+label_text [] exported = codes "^"
+label_text (c ∷ cs) exported = name_text (c ∷ cs) ++ mark_text exported ++ codes ":"
+
 abbrev mutual
   pub type_text : ObType → List ℕ
   type_text (OfBasic b) = basic_text b
@@ -59,11 +64,11 @@ abbrev mutual
   pub fields_text : {k : _} → Row_of-Field k → List ℕ
   fields_text end_of-Field = []
   fields_text (more_of-Field name exported of rest) =
-      name_text name ++ mark_text exported ++ codes ":" ++ type_text of ++ codes ";" ++ fields_text rest
+      label_text name exported ++ type_text of ++ codes ";" ++ fields_text rest
 
 -- the same of a field, of fields, and of a record type
 abbrev pub field_text : Field → List ℕ
-field_text f = name_text f.name ++ mark_text f.exported ++ codes ":" ++ type_text f.of ++ codes ";"
+field_text f = label_text f.name f.exported ++ type_text f.of ++ codes ";"
 
 abbrev pub all_fields_text : List Field → List ℕ
 all_fields_text [] = []

@@ -1,6 +1,6 @@
 -- To be believed.
 -- Types (Wirth, The Programming Language Oberon, Oberon-07).
-use Rattle.std.specs.Prelude.{ℕ, ◌+◌, ◌*◌, max, Bool, true, false, ◌&&◌, ◌||◌, nat_eq, nat_lt, nat_le, List, [], ◌∷◌}
+use Rattle.std.specs.Prelude.{ℕ, ◌+◌, ◌*◌, max, Bool, true, false, ◌&&◌, ◌||◌, nat_eq, nat_lt, nat_le, List, [], ◌∷◌, Option, Some, None}
 use Rattle.std.specs.Cmp.Lexicographic.{pointwise}
 use Rattle.std.specs.Str.{bytes_eq}
 use Rattle.ob_types.specs.declared.structure.Basic.{Basic}
@@ -97,6 +97,50 @@ abbrev mutual
 -- one field
 abbrev pub same_field : Field → Field → Bool
 same_field x y = bytes_eq x.name y.name && same_truth x.exported y.exported && same x.of y.of
+
+-- ---- extensions
+
+-- An extension has its base as its first field, which has no name.
+abbrev pub base_in : {k : _} → Row_of-Field k → Option ObType
+base_in end_of-Field = None
+base_in (more_of-Field [] exported of rest) = Some of
+base_in (more_of-Field (c ∷ cs) exported of rest) = None
+
+abbrev pub base_of : ObType → Option ObType
+base_of (OfBasic b) = None
+base_of (Array' n p e) = None
+base_of (Open' p e) = None
+base_of (Record (RecordType' name k fields)) = base_in fields
+
+-- the same of fields
+abbrev pub base_named : List ℕ → ObType → Option ObType
+base_named [] of = Some of
+base_named (c ∷ cs) of = None
+
+abbrev pub base_among : List Field → Option ObType
+base_among [] = None
+base_among (f ∷ fs) = base_named f.name f.of
+
+-- a type, its base, the base of that, and so on
+abbrev mutual
+  pub chain : ObType → List ObType
+  chain (OfBasic b) = OfBasic b ∷ []
+  chain (Array' n p e) = Array' n p e ∷ []
+  chain (Open' p e) = Open' p e ∷ []
+  chain (Record (RecordType' name k fields)) = Record (RecordType' name k fields) ∷ chain_in fields
+
+  pub chain_in : {k : _} → Row_of-Field k → List ObType
+  chain_in end_of-Field = []
+  chain_in (more_of-Field [] exported of rest) = chain of
+  chain_in (more_of-Field (c ∷ cs) exported of rest) = []
+
+abbrev pub is_in : ObType → List ObType → Bool
+is_in to [] = false
+is_in to (t ∷ ts) = same to t || is_in to ts
+
+-- whether a type is the first one or extends it
+abbrev pub extends : ObType → ObType → Bool
+extends to from = is_in to (chain from)
 
 -- ---- what may be assigned
 

@@ -1,6 +1,6 @@
 //! Whether two types are the same, and what may be assigned.
 
-ghost use Rattle.std.specs.Prelude.{◌≡◌};
+ghost use Rattle.std.specs.Prelude.{◌≡◌, option_map};
 ghost use Rattle.std.specs.Cmp.Lexicographic.{pointwise};
 ghost use Rattle.std.specs.Str.{bytes_eq};
 ghost use Rattle.ob_types.specs.Types as spec;
@@ -74,6 +74,46 @@ fn same_names(left: &[Text], right: &[Text]) -> bool
         }
     }
     true
+}
+
+fn base_among(fields: &[Field]) -> Option<&ObType>
+    ensures { option_map (λ t. t.now) result ≡ spec.base_among fields.now }
+{
+    match fields {
+        [first, ..] => {
+            if first.name.as_slice().is_empty() {
+                Some(&first.of)
+            } else {
+                None
+            }
+        }
+        [] => None,
+    }
+}
+
+/// The type that a type extends directly, where it is an extension: its first field, which has no name.
+#[tactic(auto, using(crate::proofs::Equations::base_record, crate::proofs::Equations::base_array, crate::proofs::Equations::base_open))]
+pub fn base_of(of: &ObType) -> Option<&ObType>
+    ensures { option_map (λ t. t.now) result ≡ spec.base_of of.now }
+{
+    match of {
+        ObType::Record(record) => base_among(record.fields.as_slice()),
+        ObType::Basic(_) | ObType::Array(_, _) | ObType::Open(_) => None,
+    }
+}
+
+/// Whether the type `from` is the type `to` or extends it: it does where its base does.
+#[tactic(auto, using(crate::proofs::Equations::extends_step, crate::proofs::Equations::base_lower))]
+pub fn extends(to: &ObType, from: &ObType) -> bool
+    ensures { result ≡ spec.extends to.now from.now }
+{
+    if same(to, from) {
+        return true;
+    }
+    match base_of(from) {
+        Some(base) => extends(to, base),
+        None => false,
+    }
 }
 
 fn is_number(of: &ObType) -> bool

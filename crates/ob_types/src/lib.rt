@@ -11,7 +11,7 @@ mod size;
 mod structure;
 mod type_writing;
 
-pub use compatible::{assignable, same, string_assignable};
+pub use compatible::{assignable, base_of, extends, same, string_assignable};
 pub use exports::{Constant, Exported, Formal, FormalKind, Object, Signature};
 pub use keyed::{Interface, interface_text};
 pub use laws::same_type_law;

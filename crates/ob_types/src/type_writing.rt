@@ -67,6 +67,20 @@ fn put_record_name(output: &mut String, name: &RecordName) -> Result<(), AllocEr
     put_number(output, name.before)
 }
 
+/// Appends what stands before a field's type: its name and mark, or the sign of a base.
+fn put_label(output: &mut String, name: &Text, exported: bool) -> Result<(), AllocError>
+    ensures { OnOk result (string_bytes output.new ≡ string_bytes output.old ++ spec.label_text name.now exported) }
+{
+    if name.as_slice().is_empty() {
+        return output.push('^');
+    }
+    put_name(output, name)?;
+    if exported {
+        output.push('*')?;
+    }
+    output.push(':')
+}
+
 /// Appends a type.
 #[cycle(type_writing)]
 pub fn put_type(output: &mut String, of: &ObType) -> Result<(), AllocError>
@@ -113,11 +127,7 @@ fn put_fields(output: &mut String, fields: &[Field]) -> Result<(), AllocError>
 fn put_field(output: &mut String, field: &Field) -> Result<(), AllocError>
     ensures { OnOk result (string_bytes output.new ≡ string_bytes output.old ++ spec.field_text field.now) }
 {
-    put_name(output, &field.name)?;
-    if field.exported {
-        output.push('*')?;
-    }
-    output.push(':')?;
+    put_label(output, &field.name, field.exported)?;
     put_type(output, &field.of)?;
     output.push(';')
 }
