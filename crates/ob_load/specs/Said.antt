@@ -99,6 +99,10 @@ type_begins c around =
 abbrev pub in_field : ℕ → List Shape → List Around → At
 in_field c shapes around = if c == 58 then Type' (OfField shapes ∷ around) else FieldName shapes around
 
+-- a field begins with its name, or with the sign of a base, whose type comes at once
+abbrev pub field_begins : ℕ → List Shape → List Around → At
+field_begins c shapes around = if c == 94 then Type' (OfField shapes ∷ around) else in_field c shapes around
+
 abbrev pub next : ℕ → At → At
 next c Line = line_begins c
 next c Rest = if c == 10 then Line else Rest
@@ -113,7 +117,7 @@ next c (Result parameters is_function) =
 next c (Type' around) = type_begins c around
 next c (Length n around) = if c == 32 then Type' (OfArray n ∷ around) else Length (n * 10 + digit_value c) around
 next c (RecordName around) = if c == 40 then Fields [] around else RecordName around
-next c (Fields shapes around) = if c == 41 then behind (OtherType (shape.Record shapes)) around else in_field c shapes around
+next c (Fields shapes around) = if c == 41 then behind (OtherType (shape.Record shapes)) around else field_begins c shapes around
 next c (FieldName shapes around) = in_field c shapes around
 next c (Field shapes around) = Fields shapes around
 next c (Variable s) = Line

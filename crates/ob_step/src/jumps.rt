@@ -17,7 +17,7 @@ pub fn skip(code: &[LinkedModule], state: &mut State, n: usize) -> Step
     ensures { Performed (perform code.now (instr.Skip n) (config_of state.old)) state.old state.new result }
 {
     state.at.place += 1 + n;
-    Step::Moved
+    Step::MeetsStatement
 }
 
 pub fn skip_if_zero(code: &[LinkedModule], state: &mut State, n: usize) -> Step
@@ -31,7 +31,7 @@ pub fn skip_if_zero(code: &[LinkedModule], state: &mut State, n: usize) -> Step
     } else {
         take_one(state);
     }
-    Step::Moved
+    Step::MeetsStatement
 }
 
 // Where the number on top is from the first to the last.
@@ -65,7 +65,7 @@ pub fn enter_back(code: &[LinkedModule], state: &mut State, n: usize) -> Step
         return Step::MeetsTurn;
     }
     take_one(state);
-    Step::Moved
+    Step::MeetsStatement
 }
 
 // Whether the guard of a loop lets its body be entered.
@@ -86,5 +86,5 @@ pub fn assert(code: &[LinkedModule], state: &mut State, line: usize) -> Step
         return Step::MeetsTrap(TrapKind::Assertion, line);
     }
     take_one(state);
-    Step::Moved
+    Step::MeetsStatement
 }

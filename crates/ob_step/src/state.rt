@@ -18,10 +18,11 @@ pub struct State {
     pub input: LineBuffer,
 }
 
-// What one instruction led to.
+// What one instruction led to: it moved, and perhaps to where a statement begins, or it meets what it leaves to others.
 #[derive(Clone, Copy, PartialEq, Eq, Debug)]
 pub enum Step {
     Moved,
+    MeetsStatement,
     MeetsTurn,
     MeetsLine,
     MeetsEnd,

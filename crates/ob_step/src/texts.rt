@@ -45,7 +45,7 @@ pub fn store_text(
     }
     put_text(&mut state.cells, a, n, text);
     take_one(state);
-    Step::Moved
+    Step::MeetsStatement
 }
 
 // The character of this number in a row, or 0X after its end.
