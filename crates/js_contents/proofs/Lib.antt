@@ -6,3 +6,5 @@ pub mod Files
 pub mod Names
 pub mod Empty
 pub mod PutSteps
+pub mod Parts
+pub mod Aiming

@@ -3,22 +3,15 @@ use Rattle.std.specs.Result.{is_err, OnOk}
 use Rattle.std.proofs.Common.{◌≡◌, false, ℕ, ◌+◌, ◌<◌, List, [], ◌∷◌, ◌++◌, length, take, get_or, Result, Ok, Err, sym, ap, ◌∙◌, subst}
 use Rattle.std.proofs.lemmas.List.{map_more}
 use Rattle.serde_json.specs.Data.{Data}
-use Rattle.js_http.specs.declared.request.Request.{Request}
 use Rattle.js_shelf.specs.Shelves.{Contents, Same}
 use Rattle.js_tables.specs.declared.forms.About.{About}
 use Rattle.js_tables.specs.declared.plan.Plan.{Plan}
 use Rattle.js_tables.specs.declared.refusal.Refusal.{Refusal}
 use Rattle.js_tables.specs.Tables.{Rows}
-use Rattle.js_contents.specs.declared.read.Seen.{Seen}
 use Rattle.js_contents.specs.Lists.{object, objects}
 use Rattle.js_contents.specs.Looks.{HasNames}
-use Rattle.js_contents.specs.Reads.{Sees, ShowsSeen, Reads, ShowsNamed, ShowsFolder}
+use Rattle.js_contents.specs.Reads.{ShowsNamed, ShowsFolder}
 use Rattle.js_contents.proofs.Telling.{same_is}
-
-pub read_ok : (r : Rows) (request : Request) (segments : List (List ℕ)) (seen : Seen) (found : Result Plan Refusal) (m k n : Contents) → Sees r request segments (Ok seen) m k → ShowsSeen r seen found k n → Reads r request segments found m n
-read_ok r request segments seen found m k n h j =
-    let moved : ShowsSeen r seen found m n = subst (λ x. ShowsSeen r seen found x n) (same_is m k h.0) j in
-    (moved.0, (Ok seen, h.1, moved.1))
 
 pub folder_ok : (r : Rows) (about : About) (names : List (List ℕ)) (found : Result Plan Refusal) (m k n : Contents) → HasNames about.path (Ok names) m k → ShowsNamed r about names found k n → ShowsFolder r about found m n
 folder_ok r about names found m k n h j =

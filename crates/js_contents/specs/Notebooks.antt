@@ -2,14 +2,13 @@
 -- Notebooks as contents ("The Jupyter notebook format", nbformat 4.5).
 use Rattle.std.specs.Prelude.{ℕ, List, Option, Some, None, Result, Ok, Err}
 use Rattle.serde_json.specs.Data.{Data}
-use Rattle.serde_json.specs.Written.{compact_text}
-use Rattle.json_form.specs.Forms.{whole_json}
 use Rattle.nb_doc.specs.declared.fault.NbFault.{NbFault}
 use Rattle.nb_doc.specs.declared.fault.NbBad.{NbBad}
 use Rattle.nb_doc.specs.declared.fault.NbBad.TheVariants as bad
 use Rattle.nb_doc.specs.declared.notebook.Notebook.{Notebook}
 use Rattle.nb_doc.specs.Building.{empty_notebook}
 use Rattle.nb_doc.specs.Reading.{notebook_at}
+use Rattle.nb_doc.specs.Reading as reading
 use Rattle.nb_doc.specs.Writing.{notebook_text}
 use Rattle.js_http.specs.declared.response.ErrorStatus.{ErrorStatus}
 use Rattle.js_http.specs.declared.response.ErrorStatus.TheVariants.{BadRequest}
@@ -18,7 +17,7 @@ use Rattle.js_shelf.specs.declared.item.Item.TheVariants.{File, Folder}
 use Rattle.js_shelf.specs.Shelves.{Contents, Same}
 use Rattle.js_tables.specs.declared.refusal.Refusal.{Refusal}
 use Rattle.js_tables.specs.declared.refusal.Refusal.TheVariants.{Status, Failed}
-use Rattle.js_tables.specs.Plans.{◌>>=◌, Gives, or_bad}
+use Rattle.js_tables.specs.Plans.{◌>>=◌, Gives}
 use Rattle.js_contents.specs.Looks.{present_item_at}
 
 -- what is no notebook is a bad request
@@ -35,17 +34,13 @@ read_answer (Err bad.Memory) = Err Failed
 abbrev pub notebook_in : List ℕ → Result Notebook ErrorStatus
 notebook_in bytes = or_unreadable (notebook_at bytes)
 
--- the notebook that a JSON value is: that of its text
+-- the notebook that a JSON value is
 abbrev pub notebook_of : Data → Result Notebook ErrorStatus
-notebook_of d = notebook_in (compact_text d)
+notebook_of d = or_unreadable (reading.notebook_of d)
 
 -- the file that keeps a notebook
 unfoldable pub notebook_file : Notebook → Item
 notebook_file n = File (notebook_text n)
-
--- the JSON of a notebook: that of its text
-abbrev pub notebook_json : Notebook → Result Data ErrorStatus
-notebook_json n = or_bad (whole_json (notebook_text n))
 
 -- what a recorder begins with, by what stands at its path
 abbrev pub begun : Option Item → Result Notebook ErrorStatus

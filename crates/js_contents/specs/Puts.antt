@@ -12,10 +12,13 @@ use Rattle.js_http.specs.declared.response.ErrorStatus.TheVariants.{BadRequest}
 use Rattle.js_tables.specs.Bodies.{body_of, text_in, given_text_in}
 use Rattle.js_tables.specs.Plans.{◌>>=◌}
 use Rattle.js_contents.specs.declared.put.Putting.{Putting}
+use Rattle.js_contents.specs.declared.place.Place.{Place}
 use Rattle.js_contents.specs.declared.put.PutBody.{PutBody}
+use Rattle.js_contents.specs.declared.put.Ready.{Ready}
 use Rattle.js_contents.specs.declared.put.Putting.TheVariants.{Folder, File, Notebook as Book}
 use Rattle.js_contents.specs.Kinds.{is_notebook_name}
 use Rattle.js_contents.specs.Notebooks.{notebook_in, notebook_of}
+use Rattle.js_contents.specs.Places.{place_of}
 
 -- line ends are skipped
 abbrev pub is_plain : ℕ → Bool
@@ -47,12 +50,16 @@ content_in d = or_missing (given (codes "content") d)
 abbrev pub as_notebook : Notebook → Result Putting ErrorStatus
 as_notebook n = Ok (Book n)
 
+-- a notebook: the content itself
+abbrev pub notebook_putting : Data → Result Putting ErrorStatus
+notebook_putting d = content_in d >>= λ c. (notebook_of c >>= as_notebook)
+
 -- the type says what is put
 abbrev pub putting_of : List ℕ → Data → Result Putting ErrorStatus
 putting_of kind d =
     if bytes_eq kind (codes "directory") then Ok Folder
     else (if bytes_eq kind (codes "file") then file_in d
-    else (if bytes_eq kind (codes "notebook") then (content_in d >>= λ c. (notebook_of c >>= as_notebook)) else Err BadRequest))
+    else (if bytes_eq kind (codes "notebook") then notebook_putting d else Err BadRequest))
 
 abbrev pub putting_in : Data → Result Putting ErrorStatus
 putting_in d = text_in (codes "type") d >>= λ kind. putting_of kind d
@@ -73,3 +80,10 @@ fitted_by is_notebook (Book n) = if is_notebook then Ok (Book n) else Err BadReq
 
 abbrev pub fitted : List ℕ → Putting → Result Putting ErrorStatus
 fitted name p = fitted_by (is_notebook_name name) p
+
+-- what is put, and where: the body's fields, the path, and what may be put there, in this order
+abbrev pub ready_put : List ℕ → List (List ℕ) → Result Ready ErrorStatus
+ready_put text segments =
+    put_body text >>= λ body.
+    (place_of segments >>= λ place.
+    (fitted place.name body.putting >>= λ p. Ok (record { place = place; body = record { putting = p; last_modified = body.last_modified } })))

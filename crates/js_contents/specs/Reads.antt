@@ -4,7 +4,7 @@ use Rattle.std.specs.Prelude.{◌≡◌, ◌==◌, ℕ, nat_le, Bool, false, Lis
 use Rattle.std.specs.List.{after_first}
 use Rattle.std.specs.Str.{bytes_eq}
 use Rattle.serde_json.specs.Data.{Data}
-use Rattle.nb_doc.specs.Writing.{array_of, notebook_text}
+use Rattle.nb_doc.specs.Writing.{array_of, notebook_form}
 use Rattle.js_http.specs.Targets.{query_value}
 use Rattle.js_http.specs.declared.request.Request.{Request}
 use Rattle.js_http.specs.declared.response.ErrorStatus.{ErrorStatus}
@@ -20,11 +20,12 @@ use Rattle.js_tables.specs.declared.forms.Kind.{Kind}
 use Rattle.js_tables.specs.declared.forms.Kind.TheVariants as kind
 use Rattle.js_tables.specs.declared.plan.Plan.{Plan}
 use Rattle.js_tables.specs.declared.refusal.Refusal.{Refusal}
-use Rattle.js_tables.specs.Bodies.{body_of}
 use Rattle.js_tables.specs.Forms.{body_text, kind_name}
 use Rattle.js_tables.specs.Plans.{◌>>=◌, Gives, Found, reply}
 use Rattle.js_tables.specs.Tables.{Rows}
 use Rattle.js_contents.specs.declared.place.Place.{Place}
+use Rattle.js_contents.specs.declared.read.Aim.{Aim}
+use Rattle.js_contents.specs.declared.read.Aim.TheVariants as aim
 use Rattle.js_contents.specs.declared.read.Seen.{Seen}
 use Rattle.js_contents.specs.declared.read.Seen.TheVariants.{Shown, File, Folder}
 use Rattle.js_contents.specs.Forms.{bare_form, file_form, json_form}
@@ -60,10 +61,9 @@ asks_bare request = is_zero (query_value (query_of request) (codes "content"))
 abbrev pub shown : Data → Plan
 shown d = reply (Success (body_text d))
 
--- a notebook: the JSON of the text that is written for it
+-- a notebook: its JSON value
 abbrev pub notebook_plan : About → List ℕ → Result Plan ErrorStatus
-notebook_plan about bytes =
-    notebook_in bytes >>= λ n. (body_of (notebook_text n) >>= λ d. Ok (shown (json_form about d)))
+notebook_plan about bytes = notebook_in bytes >>= λ n. Ok (shown (json_form about (notebook_form n)))
 
 abbrev pub file_plan : Kind → About → List ℕ → Result Plan ErrorStatus
 file_plan kind.Notebook about bytes = notebook_plan about bytes
@@ -133,17 +133,32 @@ SeesAt r request place result m n = Same m n × Gives result (seen_at m r reques
 abbrev pub Sees : Rows → Request → List (List ℕ) → Result Seen Refusal → Contents → Contents → Type 0
 Sees r request segments result m n = Same m n × Gives result (seen_by m r request segments)
 
-abbrev pub ReadsFile : About → Result Plan Refusal → Contents → Contents → Type 0
-ReadsFile about result m n = Same m n × Gives result (read_file m about)
-
 abbrev pub ShowsNamed : Rows → About → List (List ℕ) → Result Plan Refusal → Contents → Contents → Type 0
 ShowsNamed r about names result m n = Same m n × Gives result (Ok (named_plan m r about names))
 
 abbrev pub ShowsFolder : Rows → About → Result Plan Refusal → Contents → Contents → Type 0
 ShowsFolder r about result m n = Same m n × IsFolderPlan m r about result
 
-abbrev pub ShowsSeen : Rows → Seen → Result Plan Refusal → Contents → Contents → Type 0
-ShowsSeen r seen result m n = Same m n × IsSeenPlan m r seen result
+-- what was found, as what is to be done
+abbrev pub planned : Result Plan Refusal → Result Aim Refusal
+planned (Ok plan) = Ok (aim.Plan plan)
+planned (Err refusal) = Err refusal
 
-abbrev pub Reads : Rows → Request → List (List ℕ) → Result Plan Refusal → Contents → Contents → Type 0
-Reads r request segments result m n = Same m n × IsReadPlan m r request segments result
+-- What is to be done meets a condition on what is found: the plan does, or the refusal; and of a file that is still to be shown,
+-- whatever comes of it.
+abbrev pub Comes : (Result Plan Refusal → Type 0) → Result Aim Refusal → Type 0
+Comes P (Ok (aim.Plan plan)) = P (Ok plan)
+Comes P (Ok (aim.File about item)) = (found : Result Plan Refusal) → Gives found (item_plan about item) → P found
+Comes P (Err refusal) = P (Err refusal)
+
+abbrev pub AimsAtFile : About → Result Aim Refusal → Contents → Contents → Type 0
+AimsAtFile about result m n = Same m n × Comes (λ found. Gives found (read_file m about)) result
+
+abbrev pub AimsAtFolder : Rows → About → Result Aim Refusal → Contents → Contents → Type 0
+AimsAtFolder r about result m n = Same m n × Comes (IsFolderPlan m r about) result
+
+abbrev pub AimsAtSeen : Rows → Seen → Result Aim Refusal → Contents → Contents → Type 0
+AimsAtSeen r seen result m n = Same m n × Comes (IsSeenPlan m r seen) result
+
+abbrev pub AimsAt : Rows → Request → List (List ℕ) → Result Aim Refusal → Contents → Contents → Type 0
+AimsAt r request segments result m n = Same m n × Comes (IsReadPlan m r request segments) result

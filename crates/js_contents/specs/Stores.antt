@@ -21,13 +21,14 @@ use Rattle.js_tables.specs.Tables.{Rows, date_at}
 use Rattle.js_contents.specs.declared.place.Place.{Place}
 use Rattle.js_contents.specs.declared.put.Putting.{Putting}
 use Rattle.js_contents.specs.declared.put.PutBody.{PutBody}
+use Rattle.js_contents.specs.declared.put.Ready.{Ready}
 use Rattle.js_contents.specs.declared.put.Putting.TheVariants as put
 use Rattle.js_contents.specs.Forms.{bare_form}
 use Rattle.js_contents.specs.Kinds.{about_at}
 use Rattle.js_contents.specs.Looks.{present_at}
 use Rattle.js_contents.specs.Notebooks.{notebook_file}
 use Rattle.js_contents.specs.Places.{place_of}
-use Rattle.js_contents.specs.Puts.{put_body, fitted}
+use Rattle.js_contents.specs.Puts.{ready_put}
 
 -- ---- DELETE /api/contents/{path}
 
@@ -90,17 +91,17 @@ put_over r given body place is_there =
 abbrev pub put_at : Contents → Rows → Given → PutBody → Place → Result Plan ErrorStatus
 put_at m r given body place = present_at m place.path >>= λ item. put_over r given body place (is_some item)
 
--- the body's fields, the path, what is put there, what stands there, and its date, in this order
+abbrev pub put_ready : Contents → Rows → Given → Ready → Result Plan ErrorStatus
+put_ready m r given ready = put_at m r given ready.body ready.place
+
+-- the body's fields, the path, what may be put there, what stands there, and its date, in this order
 abbrev pub put_plan : Contents → Rows → Given → List ℕ → List (List ℕ) → Result Plan ErrorStatus
-put_plan m r given text segments =
-    put_body text >>= λ body.
-    (place_of segments >>= λ place.
-    (fitted place.name body.putting >>= λ p. put_at m r given (record { putting = p; last_modified = body.last_modified }) place))
+put_plan m r given text segments = ready_put text segments >>= put_ready m r given
 
 -- ---- what the functions find
 
 abbrev pub PutsAt : Rows → Given → PutBody → Place → Result Plan Refusal → Contents → Contents → Type 0
 PutsAt r given body place result m n = Same m n × Gives result (put_at m r given body place)
 
-abbrev pub Puts : Rows → Given → List ℕ → List (List ℕ) → Result Plan Refusal → Contents → Contents → Type 0
-Puts r given text segments result m n = Same m n × Gives result (put_plan m r given text segments)
+abbrev pub Puts : Rows → Given → Ready → Result Plan Refusal → Contents → Contents → Type 0
+Puts r given body result m n = Same m n × Gives result (put_ready m r given body)

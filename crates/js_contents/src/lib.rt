@@ -15,6 +15,6 @@ pub use kind::{about_at, is_notebook_name};
 pub use look::{has_folder, names_in};
 pub use notebook::notebook_for;
 pub use place::{Place, below, if_path, named_place, place_of};
-pub use put::{PutBody, Putting, fitted};
-pub use read::{Seen, bare_value, read_plan};
+pub use put::{PutBody, Putting, Ready, fitted, read_put};
+pub use read::{Aim, Seen, bare_value, item_plan, planned, read_aim};
 pub use store::{put_plan, remove_plan, storing};

@@ -13,7 +13,7 @@ use js_http::ErrorStatus;
 use js_shelf::{Bytes, Item, Shelf};
 use js_tables::Refusal;
 use json_form::Json;
-use nb_doc::{NbBad, Notebook, read_notebook, write_notebook};
+use nb_doc::{NbBad, Notebook, notebook_of_value, read_notebook, write_notebook};
 use std::alloc::{AllocError, Global};
 
 fn read_answer(answer: Result<Notebook, NbBad>) -> Result<Notebook, Refusal>
@@ -37,13 +37,14 @@ pub(crate) fn notebook_in(alloc: Global, bytes: &[u8]) -> Result<Notebook, Refus
 }
 
 /// The notebook that a JSON value is. Others are a bad request.
-pub(crate) fn notebook_of(alloc: Global, content: &Json) -> Result<Notebook, Refusal>
-    ensures exact { Gives result (spec.notebook_of content.now) }
+#[tactic(auto, using(crate::proofs::Books::gives_answer))]
+pub(crate) fn notebook_of(alloc: Global, content: Json) -> Result<Notebook, Refusal>
+    requires { depth content ≤ max_depth }
+    ensures exact { Gives result (spec.notebook_of content) }
     ensures document { IfOk result IsDocument }
     ensures shallow { IfOk result (λ n. depth (notebook_form n) ≤ max_depth) }
 {
-    let text = content.value().to_string(alloc)?;
-    notebook_in(alloc, text.as_str().as_bytes())
+    read_answer(notebook_of_value(alloc, content.into_value()))
 }
 
 /// The file that keeps a notebook.

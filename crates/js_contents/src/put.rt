@@ -1,16 +1,20 @@
 //! What a PUT says that it puts.
-ghost use Rattle.std.specs.Prelude.{◌≡◌, filter, Some, IfOk};
+ghost use Rattle.std.specs.Prelude.{◌≡◌, ◌≤◌, filter, Some, IfOk};
+ghost use Rattle.serde_json.specs.Data.{depth};
+ghost use Rattle.serde_json.specs.Read.{max_depth};
 ghost use Rattle.js_contents.specs.Puts as spec;
 ghost use Rattle.js_tables.specs.Plans.{Gives};
 
 use crate::kind::is_notebook_name;
 use crate::notebook::{notebook_in, notebook_of};
+use crate::place::{Place, place_of};
 use base64::DecodeAllocError;
 use base64::engine::general_purpose::STANDARD;
 use js_http::ErrorStatus;
 use js_shelf::Bytes;
 use js_tables::{ReadNotebook, Refusal, given_text_in, read_body, text_in};
-use json_form::{Json, Text, given_part};
+use json_form::{Json, Text};
+use nb_doc::taken_field;
 use std::alloc::{AllocError, Global};
 
 /// What is put.
@@ -26,6 +30,13 @@ pub enum Putting {
 pub struct PutBody {
     pub putting: Putting,
     pub last_modified: Option<Text>,
+}
+
+/// What is put, and where.
+#[derive(Drop)]
+pub struct Ready {
+    pub place: Place,
+    pub body: PutBody,
 }
 
 fn is_plain(byte: u8) -> bool
@@ -74,38 +85,52 @@ fn file_in(alloc: Global, body: &Json) -> Result<Putting, Refusal>
     file_of(alloc, format.as_str(), content)
 }
 
-// The content of a notebook, which has to be there.
-fn content_in(alloc: Global, body: &Json) -> Result<Json, Refusal>
-    ensures { Gives result (spec.content_in body.now) }
+// The content of a notebook, which has to be there. It is taken out of the body.
+fn content_in(body: Json) -> Result<Json, Refusal>
+    requires { depth body ≤ max_depth }
+    ensures exact { Gives result (spec.content_in body) }
+    ensures shallow { IfOk result (λ content. depth content ≤ max_depth) }
 {
-    match given_part(body.value(), "content") {
+    match taken_field(body.into_value(), "content") {
         None => Err(Refusal::Status(ErrorStatus::BadRequest)),
-        Some(content) => Ok(Json::of_whole(content.clone()?)),
+        Some(content) => if content.is_null() {
+            Err(Refusal::Status(ErrorStatus::BadRequest))
+        } else {
+            Ok(Json::of_whole(content))
+        },
     }
 }
 
-fn putting_in(alloc: Global, body: &Json) -> Result<Putting, Refusal>
-    ensures { Gives result (spec.putting_in body.now) }
+fn notebook_putting(alloc: Global, body: Json) -> Result<Putting, Refusal>
+    requires { depth body ≤ max_depth }
+    ensures { Gives result (spec.notebook_putting body) }
 {
-    let kind = text_in(alloc, body, "type")?;
+    let notebook = notebook_of(alloc, content_in(body)?)?;
+    Ok(Putting::Notebook(ReadNotebook::new(notebook)))
+}
+
+fn putting_in(alloc: Global, body: Json) -> Result<Putting, Refusal>
+    requires { depth body ≤ max_depth }
+    ensures { Gives result (spec.putting_in body) }
+{
+    let kind = text_in(alloc, &body, "type")?;
     if kind.as_str() == "directory" {
         return Ok(Putting::Folder);
     }
     if kind.as_str() == "file" {
-        return file_in(alloc, body);
+        return file_in(alloc, &body);
     }
     if kind.as_str() == "notebook" {
-        let content = content_in(alloc, body)?;
-        let notebook = notebook_of(alloc, &content)?;
-        return Ok(Putting::Notebook(ReadNotebook::new(notebook)));
+        return notebook_putting(alloc, body);
     }
     Err(Refusal::Status(ErrorStatus::BadRequest))
 }
 
-fn put_body_in(alloc: Global, body: &Json) -> Result<PutBody, Refusal>
-    ensures { Gives result (spec.put_body_in body.now) }
+fn put_body_in(alloc: Global, body: Json) -> Result<PutBody, Refusal>
+    requires { depth body ≤ max_depth }
+    ensures { Gives result (spec.put_body_in body) }
 {
-    let last_modified = given_text_in(alloc, body, "last_modified")?;
+    let last_modified = given_text_in(alloc, &body, "last_modified")?;
     let putting = putting_in(alloc, body)?;
     Ok(PutBody {
         putting,
@@ -113,11 +138,10 @@ fn put_body_in(alloc: Global, body: &Json) -> Result<PutBody, Refusal>
     })
 }
 
-/// What the body of a PUT says.
-pub(crate) fn read_put(alloc: Global, content: &[u8]) -> Result<PutBody, Refusal>
+fn put_body(alloc: Global, content: &[u8]) -> Result<PutBody, Refusal>
     ensures { Gives result (spec.put_body content.now) }
 {
-    put_body_in(alloc, &read_body(alloc, content)?)
+    put_body_in(alloc, read_body(alloc, content)?)
 }
 
 /// What is put under that name: a file under a notebook's name is read as a notebook, and a notebook goes nowhere else.
@@ -143,4 +167,40 @@ pub fn fitted(alloc: Global, name: &str, putting: Putting) -> Result<Putting, Re
             }
         }
     }
+}
+
+// The same, and the text of a notebook has been written.
+fn written(alloc: Global, putting: Putting) -> Result<Putting, AllocError>
+    ensures { IfOk result (λ p. p ≡ putting) }
+{
+    match putting {
+        Putting::Folder => Ok(Putting::Folder),
+        Putting::File(bytes) => Ok(Putting::File(bytes)),
+        Putting::Notebook(book) => Ok(Putting::Notebook(book.with_text(alloc)?)),
+    }
+}
+
+/// What a PUT puts, and where: all of its plan that neither the tables nor the shelf say. The first three segments are those of
+/// `/api/contents`. Nothing of a notebook's JSON is left to be done.
+///
+/// # Errors
+/// 400 for the fields of the body, the path, and what may not be put there, in this order.
+pub fn read_put(
+    alloc: Global,
+    content: &[u8],
+    segments: &[js_http::Bytes],
+) -> Result<Ready, Refusal>
+    ensures { Gives result (spec.ready_put content.now segments.now) }
+{
+    let body = put_body(alloc, content)?;
+    let place = place_of(alloc, segments)?;
+    let fit = fitted(alloc, place.name.as_str(), body.putting)?;
+    let putting = written(alloc, fit)?;
+    Ok(Ready {
+        place,
+        body: PutBody {
+            putting,
+            last_modified: body.last_modified,
+        },
+    })
 }

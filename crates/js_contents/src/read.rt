@@ -16,10 +16,8 @@ use crate::place::{Place, place_of};
 use base64::engine::general_purpose::STANDARD;
 use js_http::{Bytes, ErrorStatus, Request, Response, query_value};
 use js_shelf::{Item, ItemKind, Name, Shelf};
-use js_tables::{
-    About, Kind, Plan, Refusal, Tables, json_body, model_value, read_body, reply, text_value,
-};
-use nb_doc::{Row, write_notebook};
+use js_tables::{About, Kind, Plan, Refusal, Tables, json_body, model_value, reply, text_value};
+use nb_doc::{Row, notebook_value};
 use serde_json::Value;
 use std::alloc::{AllocError, Global};
 
@@ -122,13 +120,19 @@ pub enum Seen {
     Folder(About),
 }
 
+/// What is to be done for a request: a plan, or a file that is to be shown, whose bytes were read.
+#[derive(Drop)]
+pub enum Aim {
+    Plan(Plan),
+    File(About, Item),
+}
+
 fn notebook_plan(alloc: Global, about: &About, bytes: &[u8]) -> Result<Plan, Refusal>
     ensures { Gives result (spec.notebook_plan about.now bytes.now) }
 {
     let notebook = notebook_in(alloc, bytes)?;
-    let text = write_notebook(alloc, &notebook)?;
-    let json = read_body(alloc, text.as_slice())?;
-    let value = json_model(alloc, about, json.into_value())?;
+    let content = notebook_value(alloc, &notebook)?;
+    let value = json_model(alloc, about, content)?;
     Ok(shown(alloc, &value)?)
 }
 
@@ -233,7 +237,8 @@ fn folder_plan<S: Shelf>(
     }
 }
 
-fn item_plan(alloc: Global, about: &About, item: &Item) -> Result<Plan, Refusal>
+/// The plan of a look at a file: what stands there is shown.
+pub fn item_plan(alloc: Global, about: &About, item: &Item) -> Result<Plan, Refusal>
     ensures { Gives result (spec.item_plan about.now item.now) }
 {
     match item {
@@ -242,40 +247,65 @@ fn item_plan(alloc: Global, about: &About, item: &Item) -> Result<Plan, Refusal>
     }
 }
 
-fn read_file<S: Shelf>(alloc: Global, shelf: &mut S, about: &About) -> Result<Plan, Refusal>
-    ensures { Tells (S.contents shelf.old) (S.contents shelf.new) (spec.ReadsFile about.now result) }
+// A file that is still to be shown.
+fn file_aim<S: Shelf>(shelf: &mut S, about: About) -> Result<Aim, Refusal>
+    ensures { Tells (S.contents shelf.old) (S.contents shelf.new) (spec.AimsAtFile about result) }
 {
-    let item = look(shelf, about.path.as_str())?;
-    item_plan(alloc, about, &item)
+    match look(shelf, about.path.as_str()) {
+        Ok(item) => Ok(Aim::File(about, item)),
+        Err(refusal) => Err(refusal),
+    }
 }
 
-fn planned<S: Shelf>(
+/// What was found is what is to be done.
+pub fn planned(found: Result<Plan, Refusal>) -> Result<Aim, Refusal>
+    ensures { result ≡ spec.planned found }
+{
+    match found {
+        Ok(plan) => Ok(Aim::Plan(plan)),
+        Err(refusal) => Err(refusal),
+    }
+}
+
+fn folder_aim<S: Shelf>(
+    alloc: Global,
+    tables: &Tables,
+    shelf: &mut S,
+    about: &About,
+) -> Result<Aim, Refusal>
+    ensures { Tells (S.contents shelf.old) (S.contents shelf.new) (spec.AimsAtFolder (rows tables.now) about.now result) }
+{
+    planned(folder_plan(alloc, tables, shelf, about))
+}
+
+fn seen_aim<S: Shelf>(
     alloc: Global,
     tables: &Tables,
     shelf: &mut S,
     seen: Seen,
-) -> Result<Plan, Refusal>
-    ensures { Tells (S.contents shelf.old) (S.contents shelf.new) (spec.ShowsSeen (rows tables.now) seen result) }
+) -> Result<Aim, Refusal>
+    ensures { Tells (S.contents shelf.old) (S.contents shelf.new) (spec.AimsAtSeen (rows tables.now) seen result) }
 {
     match seen {
-        Seen::Shown(plan) => Ok(plan),
-        Seen::File(about) => read_file(alloc, shelf, &about),
-        Seen::Folder(about) => folder_plan(alloc, tables, shelf, &about),
+        Seen::Shown(plan) => Ok(Aim::Plan(plan)),
+        Seen::File(about) => file_aim(shelf, about),
+        Seen::Folder(about) => folder_aim(alloc, tables, shelf, &about),
     }
 }
 
-/// The plan of a GET: what stands at the path is shown. The first three segments are those of `/api/contents`.
-pub fn read_plan<S: Shelf>(
+/// What a GET comes to: a plan by which a folder is shown, or a file's bytes, which `item_plan` shows. The first three segments are
+/// those of `/api/contents`.
+pub fn read_aim<S: Shelf>(
     alloc: Global,
     tables: &Tables,
     shelf: &mut S,
     request: &Request,
     segments: &[Bytes],
-) -> Result<Plan, Refusal>
-    ensures { Tells (S.contents shelf.old) (S.contents shelf.new) (spec.Reads (rows tables.now) request.now segments.now result) }
+) -> Result<Aim, Refusal>
+    ensures { Tells (S.contents shelf.old) (S.contents shelf.new) (spec.AimsAt (rows tables.now) request.now segments.now result) }
 {
     match seen_by(alloc, tables, shelf, request, segments) {
-        Ok(seen) => planned(alloc, tables, shelf, seen),
+        Ok(seen) => seen_aim(alloc, tables, shelf, seen),
         Err(refusal) => Err(refusal),
     }
 }

@@ -9,7 +9,7 @@ use crate::kind::about_at;
 use crate::look::present;
 use crate::notebook::notebook_file;
 use crate::place::{Place, place_of};
-use crate::put::{PutBody, Putting, fitted, read_put};
+use crate::put::{PutBody, Putting, Ready};
 use crate::read::bare_value;
 use js_http::{Bytes, ErrorStatus, Response};
 use js_shelf::{Item, Shelf};
@@ -185,31 +185,24 @@ fn put_at<S: Shelf>(
 ) -> Result<Plan, Refusal>
     ensures { Tells (S.contents shelf.old) (S.contents shelf.new) (spec.PutsAt (rows tables.now) given.now body place result) }
 {
-    let item = present(shelf, place.path.as_str())?;
-    put_over(alloc, tables, given, body, place, item.is_some())
+    match present(shelf, place.path.as_str()) {
+        Ok(item) => put_over(alloc, tables, given, body, place, item.is_some()),
+        Err(refusal) => Err(refusal),
+    }
 }
 
-/// The plan of a PUT. The first three segments are those of `/api/contents`.
+/// The plan of a PUT whose body and path have been read.
 ///
 /// # Errors
-/// 400 for the fields of the body, the path, and what may not be put there; then what a look at the path is refused with; and 409
-/// where something is there whose date is not the `last_modified` of the body.
+/// What a look at the path is refused with, and then 409 where something is there whose date is not the `last_modified` of the body.
 pub fn put_plan<S: Shelf>(
     alloc: Global,
     tables: &Tables,
     shelf: &mut S,
     given: &Given,
-    content: &[u8],
-    segments: &[Bytes],
+    ready: Ready,
 ) -> Result<Plan, Refusal>
-    ensures { Tells (S.contents shelf.old) (S.contents shelf.new) (spec.Puts (rows tables.now) given.now content.now segments.now result) }
+    ensures { Tells (S.contents shelf.old) (S.contents shelf.new) (spec.Puts (rows tables.now) given.now ready result) }
 {
-    let body = read_put(alloc, content)?;
-    let place = place_of(alloc, segments)?;
-    let putting = fitted(alloc, place.name.as_str(), body.putting)?;
-    let body = PutBody {
-        putting,
-        last_modified: body.last_modified,
-    };
-    put_at(alloc, tables, shelf, given, body, place)
+    put_at(alloc, tables, shelf, given, ready.body, ready.place)
 }

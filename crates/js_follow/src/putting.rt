@@ -11,7 +11,7 @@ use crate::following::{place_of, save_to};
 use js_shelf::{Bytes, Item, Shelf, ShelfRefusal};
 use js_tables::{ReadNotebook, Recording, Tables, find_by_path};
 use json_form::Text;
-use nb_doc::{Notebook, write_notebook};
+use nb_doc::Notebook;
 use std::alloc::Global;
 
 // Where the recorder of the session at a path stands.
@@ -49,11 +49,11 @@ fn put_file<S: Shelf>(
     alloc: Global,
     shelf: &mut S,
     path: &Text,
-    notebook: &Notebook,
+    book: ReadNotebook,
 ) -> Result<(), ShelfRefusal>
-    ensures { spec.PutsFile (S.contents shelf.old) (S.contents shelf.new) (S.faults shelf.old) (S.faults shelf.new) path.now notebook.now result }
+    ensures { spec.PutsFile (S.contents shelf.old) (S.contents shelf.new) (S.faults shelf.old) (S.faults shelf.new) path.now book result }
 {
-    let text = write_notebook(alloc, notebook)?;
+    let text = book.into_text(alloc)?;
     shelf.put(path.as_str(), Item::File(Bytes::from(text)))
 }
 
@@ -74,7 +74,7 @@ pub fn put_book<S: Shelf>(
     ensures room { HasRoom tables.new }
 {
     match recorder_at(tables, path.as_str()) {
-        None => put_file(alloc, shelf, &path, book.notebook()),
+        None => put_file(alloc, shelf, &path, book),
         Some(place) => give(
             &mut tables.recordings[place],
             shelf,

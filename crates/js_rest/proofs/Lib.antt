@@ -3,3 +3,4 @@ pub mod Failing
 pub mod Finding
 pub mod Fresh
 pub mod Putting
+pub mod Composing

@@ -1,5 +1,5 @@
 -- What a shelf tells over two calls, of which the first only reads.
-use Rattle.std.proofs.Common.{◌≡◌, ℕ, List, Option, Some, None, Result, Ok, Err, inr, subst}
+use Rattle.std.proofs.Common.{◌≡◌, ℕ, List, Option, Some, None, Result, Ok, inr, subst}
 use Rattle.js_http.specs.declared.request.Request.{Request}
 use Rattle.js_shelf.specs.Shelves.{Contents, Same, Tells}
 use Rattle.js_tables.specs.declared.given.Given.{Given}
@@ -8,7 +8,9 @@ use Rattle.js_tables.specs.declared.plan.Command.{Command}
 use Rattle.js_tables.specs.declared.plan.Plan.{Plan}
 use Rattle.js_tables.specs.Tables.{Rows}
 use Rattle.js_rest.specs.declared.untold.Untold.{Untold}
-use Rattle.js_rest.specs.Answers.{Finds, Ends, CarriesOut, CarriesOutAlone, IsAnswer}
+use Rattle.js_contents.specs.declared.read.Aim.TheVariants as aim
+use Rattle.js_rest.specs.Answers.{Ends, CarriesOut, CarriesOutAlone, IsAnswer}
+use Rattle.js_rest.specs.Parts.{Aims}
 use Rattle.js_rest.specs.Changes.{Tries, TriesAlone}
 use Rattle.js_http.specs.declared.response.ErrorStatus.{ErrorStatus}
 
@@ -33,7 +35,7 @@ same_is m n h = λ i path. h path i
 
 module _ {L : Type 0} (begins : L → List ℕ → L → Type 0) (tells : L → List ℕ → Command → Result (Unit {0}) Untold → L → Type 0) where
   -- the answer of a plan that was found and carried out
-  pub answered : (given : Given) (request : Request) (plan : Plan) (r s : Rows) (l k : L) (answer : Answer) (m o n : Contents) → Finds r given request (Ok plan) m o → CarriesOut begins tells plan r s l k answer o n → IsAnswer begins tells given request r s l k answer m n
+  pub answered : (given : Given) (request : Request) (plan : Plan) (r s : Rows) (l k : L) (answer : Answer) (m o n : Contents) → Aims r given request (Ok (aim.Plan plan)) m o → CarriesOut begins tells plan r s l k answer o n → IsAnswer begins tells given request r s l k answer m n
   answered given request plan r s l k answer m o n f h =
       (Ok plan, f.1, subst (λ x. CarriesOut begins tells plan r s l k answer x n) (same_is m o f.0) h)
 

@@ -202,15 +202,6 @@ abbrev pub IsFoundAloneIf : Bool → Option Route → Rows → Given → Request
 IsFoundAloneIf false path r given request found = Gives found (Err Forbidden)
 IsFoundAloneIf true path r given request found = IsFoundAlone path r given request found
 
-abbrev pub Finds : Rows → Given → Request → Result Plan Refusal → Contents → Contents → Type 0
-Finds r given request result m n = Same m n × IsFound m r given request result
-
-abbrev pub FindsAt : Option Route → Rows → Given → Request → Result Plan Refusal → Contents → Contents → Type 0
-FindsAt path r given request result m n = Same m n × IsFoundAt path m r given request result
-
-abbrev pub FindsOn : Route → Rows → Given → Request → Result Plan Refusal → Contents → Contents → Type 0
-FindsOn route r given request result m n = Same m n × IsFoundOn route m r given request result
-
 abbrev pub FindsSessions : Rows → Given → Request → Result Plan Refusal → Contents → Contents → Type 0
 FindsSessions r given request result m n = Same m n × Gives result (sessions_plan request.method m r given request)
 

@@ -4,7 +4,6 @@ use Rattle.std.specs.Prelude.{◌≡◌, ℕ, List, Result, Ok, Err}
 use Rattle.js_http.specs.declared.method.Method.{Method}
 use Rattle.js_http.specs.declared.method.Method.TheVariants.{Get, Post, Put, Patch, Delete, Other}
 use Rattle.js_http.specs.declared.request.Request.{Request}
-use Rattle.js_http.specs.declared.response.ErrorStatus.{ErrorStatus}
 use Rattle.js_http.specs.declared.response.ErrorStatus.TheVariants.{MethodNotAllowed}
 use Rattle.js_shelf.specs.Shelves.{Contents, Same}
 use Rattle.js_tables.specs.declared.given.Given.{Given}
@@ -12,8 +11,12 @@ use Rattle.js_tables.specs.declared.plan.Plan.{Plan}
 use Rattle.js_tables.specs.declared.refusal.Refusal.{Refusal}
 use Rattle.js_tables.specs.Plans.{Gives}
 use Rattle.js_tables.specs.Tables.{Rows}
-use Rattle.js_contents.specs.Reads.{IsReadPlan}
-use Rattle.js_contents.specs.Stores.{put_plan, remove_plan}
+use Rattle.js_contents.specs.declared.read.Aim.{Aim}
+use Rattle.js_contents.specs.Reads.{IsReadPlan, Comes}
+use Rattle.js_contents.specs.Stores.{put_ready, put_plan, remove_plan}
+use Rattle.js_rest.specs.declared.parts.Prepared.{Prepared}
+use Rattle.js_rest.specs.declared.parts.Prepared.TheVariants as prepared
+use Rattle.js_tables.specs.declared.refusal.Refusal.TheVariants.{Failed}
 use Rattle.js_names.specs.Moves.{rename_plan}
 use Rattle.js_names.specs.Untitled.{IsUntitledPlan}
 
@@ -29,5 +32,15 @@ IsFoundBy Other m r given request segments found = Gives found (Err MethodNotAll
 abbrev pub IsFound : Contents → Rows → Given → Request → List (List ℕ) → Result Plan Refusal → Type 0
 IsFound m r given request segments found = IsFoundBy request.method m r given request segments found
 
-abbrev pub Finds : Rows → Given → Request → List (List ℕ) → Result Plan Refusal → Contents → Contents → Type 0
-Finds r given request segments result m n = Same m n × IsFound m r given request segments result
+-- what is to be done: a plan that is found, or a file whose plan is
+abbrev pub Aims : Rows → Given → Request → List (List ℕ) → Result Aim Refusal → Contents → Contents → Type 0
+Aims r given request segments done m n = Same m n × Comes (IsFound m r given request segments) done
+
+-- what is found for a PUT of which this was made
+abbrev pub IsPutPlan : Contents → Rows → Given → Prepared → Result Plan Refusal → Type 0
+IsPutPlan m r given (prepared.Put (Ok ready)) found = Gives found (put_ready m r given ready)
+IsPutPlan m r given (prepared.Put (Err refusal)) found = found ≡ Err refusal
+IsPutPlan m r given prepared.Other found = found ≡ Err Failed
+
+abbrev pub PutsPrepared : Rows → Given → Prepared → Result Plan Refusal → Contents → Contents → Type 0
+PutsPrepared r given made result m n = Same m n × IsPutPlan m r given made result

@@ -1,6 +1,6 @@
 -- To be believed.
 -- The routes of the server's version, of kernelspecs and of kernels (Jupyter Server REST API).
-use Rattle.std.specs.Prelude.{ℕ, List, [], ◌++◌, length, nat_le, Option, Some, None, Result, Ok, Err, if◌then◌else◌, codes}
+use Rattle.std.specs.Prelude.{ℕ, List, ◌++◌, length, nat_le, Option, Some, None, Result, Ok, Err, if◌then◌else◌, codes}
 use Rattle.js_http.specs.declared.response.ErrorStatus.{ErrorStatus}
 use Rattle.js_http.specs.declared.response.ErrorStatus.TheVariants.{NotFound, ServiceUnavailable}
 use Rattle.js_http.specs.declared.response.Response.TheVariants.{Success, Created, NoContent}

@@ -5,3 +5,4 @@ pub mod Opening
 pub mod Contents
 pub mod Changes
 pub mod Answers
+pub mod Parts

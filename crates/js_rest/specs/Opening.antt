@@ -1,6 +1,6 @@
 -- To be believed.
 -- A new session (Jupyter Server REST API): POST /api/sessions.
-use Rattle.std.specs.Prelude.{◌≡◌, ℕ, false, List, [], map, Option, Some, None, Result, Ok, Err, if◌then◌else◌, codes}
+use Rattle.std.specs.Prelude.{ℕ, false, List, [], map, Option, Some, None, Result, Ok, Err, if◌then◌else◌, codes}
 use Rattle.serde_json.specs.Data.{Data}
 use Rattle.json_form.specs.Forms.{given, needed, object_of}
 use Rattle.nb_doc.specs.declared.notebook.Notebook.{Notebook}

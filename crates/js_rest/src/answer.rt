@@ -5,18 +5,22 @@ ghost use Rattle.js_http.specs.Targets.{segments_of};
 ghost use Rattle.js_shelf.specs.Shelves.{Tells};
 ghost use Rattle.js_rest.specs.Answers as spec;
 ghost use Rattle.js_rest.specs.Changes.{Tries, TriesAlone, told, told_command};
+ghost use Rattle.js_contents.specs.Reads.{Comes};
+ghost use Rattle.js_rest.specs.Parts as parts;
 ghost use Rattle.js_rest.specs.Routes.{table, route_of};
 ghost use Rattle.js_tables.specs.Moments.{IsDate};
 ghost use Rattle.js_tables.specs.Plans.{Gives};
 ghost use Rattle.js_tables.specs.Tables.{rows, no_rows, HasRoom};
 ghost use Rattle.js_tables.specs.declared.plan.Change.TheVariants as variant;
 
-use crate::contents::contents_plan;
+use crate::contents::contents_aim;
 use crate::opening::open;
+use crate::parts::{Outcome, Prepared, finish, prepare};
 use crate::route::{Route, find, routes};
 use crate::running::Running;
 use crate::untold::Untold;
 use crate::{kernels, sessions};
+use js_contents::{Aim, planned};
 use js_follow::put_book;
 use js_http::{ErrorStatus, Method, Request, Response, is_own, path_segments};
 use js_shelf::{Shelf, ShelfRefusal};
@@ -273,76 +277,85 @@ fn tables_plan(
     }
 }
 
-// The plan of a request on a route, which reads the shelf and changes nothing.
+// What is to be done for a request on a route. The shelf is read and not changed.
 #[tactic(auto, using(crate::proofs::Telling::tells_same))]
-fn route_plan<S: Shelf>(
+fn route_aim<S: Shelf>(
     alloc: Global,
     route: Route,
     tables: &Tables,
     shelf: &mut S,
     given: &Given,
     request: &Request,
+    prepared: Prepared,
     segments: &[js_http::Bytes],
-) -> Result<Plan, Refusal>
-    requires { segments.now ≡ segments_of (spec.path_of request.now) }
+) -> Result<Aim, Refusal>
+    requires segments { segments.now ≡ segments_of (spec.path_of request.now) }
+    requires prepared { parts.IsPrepared request.now prepared }
     ensures shelf { Tells (S.contents shelf.old) (S.contents shelf.new)
-        (spec.FindsOn route (rows tables.now) given.now request.now result) }
-    ensures alone { spec.IsFoundAlone (Some route) (rows tables.now) given.now request.now result }
+        (parts.AimsOn route (rows tables.now) given.now request.now result) }
+    ensures alone { Comes (spec.IsFoundAlone (Some route) (rows tables.now) given.now request.now) result }
 {
     match route {
-        Route::Contents => contents_plan(alloc, tables, shelf, given, request, segments),
-        Route::Sessions => all_sessions(alloc, tables, shelf, given, request),
-        _ => tables_plan(alloc, route, tables, given, request, segments),
+        Route::Contents => {
+            contents_aim(alloc, tables, shelf, given, request, segments, prepared)
+        }
+        Route::Sessions => planned(all_sessions(alloc, tables, shelf, given, request)),
+        _ => planned(tables_plan(alloc, route, tables, given, request, segments)),
     }
 }
 
-// The plan of a request by its path, which reads the shelf and changes nothing.
+// What is to be done for a request by its path. The shelf is read and not changed.
 #[tactic(auto, using(crate::proofs::Telling::tells_same, crate::proofs::Failing::found_failed, crate::proofs::Failing::found_failed_alone))]
-fn path_plan<S: Shelf>(
+fn path_aim<S: Shelf>(
     alloc: Global,
     router: &Router<Route>,
     tables: &Tables,
     shelf: &mut S,
     given: &Given,
     request: &Request,
-) -> Result<Plan, Refusal>
-    requires { router.now ≡ table }
+    prepared: Prepared,
+) -> Result<Aim, Refusal>
+    requires routed { router.now ≡ table }
+    requires prepared { parts.IsPrepared request.now prepared }
     ensures shelf { Tells (S.contents shelf.old) (S.contents shelf.new)
-        (spec.FindsAt (route_of (spec.path_of request.now)) (rows tables.now) given.now request.now result) }
-    ensures alone { spec.IsFoundAlone (route_of (spec.path_of request.now)) (rows tables.now) given.now request.now result }
+        (parts.AimsAt (route_of (spec.path_of request.now)) (rows tables.now) given.now request.now result) }
+    ensures alone { Comes (spec.IsFoundAlone (route_of (spec.path_of request.now)) (rows tables.now) given.now request.now) result }
 {
     let segments = path_segments(alloc, request.path())?;
     match find(router, request.path()) {
         None => Err(Refusal::Status(ErrorStatus::NotFound)),
-        Some(route) => route_plan(
+        Some(route) => route_aim(
             alloc,
             route,
             tables,
             shelf,
             given,
             request,
+            prepared,
             segments.as_slice(),
         ),
     }
 }
 
-// The plan of a request, which reads the shelf and changes nothing.
+// What is to be done for a request. The shelf is read and not changed.
 #[tactic(auto, using(crate::proofs::Telling::tells_same))]
-fn find_plan<S: Shelf>(
+fn find_aim<S: Shelf>(
     alloc: Global,
     router: &Router<Route>,
     tables: &Tables,
     shelf: &mut S,
     given: &Given,
     request: &Request,
-) -> Result<Plan, Refusal>
-    requires { router.now ≡ table }
+    prepared: Prepared,
+) -> Result<Aim, Refusal>
+    requires routed { router.now ≡ table }
+    requires prepared { parts.IsPrepared request.now prepared }
     ensures shelf { Tells (S.contents shelf.old) (S.contents shelf.new)
-        (spec.Finds (rows tables.now) given.now request.now result) }
-    ensures alone { spec.IsFoundAloneIf (is_own_request request.now.headers) (route_of (spec.path_of request.now)) (rows tables.now) given.now request.now result }
+        (parts.Aims (rows tables.now) given.now request.now result) }
+    ensures alone { Comes (spec.IsFoundAloneIf (is_own_request request.now.headers) (route_of (spec.path_of request.now)) (rows tables.now) given.now request.now) result }
 {
     if is_own(&request.headers) {
-        path_plan(alloc, router, tables, shelf, given, request)
+        path_aim(alloc, router, tables, shelf, given, request, prepared)
     } else {
         Err(Refusal::Status(ErrorStatus::Forbidden))
     }
@@ -386,7 +399,40 @@ impl<L: Running> Manager<L> {
         }
     }
 
-    /// Answers a request.
+    /// The step of a request of which this was made, over the tables, the kernels and the shelf. No notebook is read of JSON and
+    /// none is written as JSON here, but for a recorder that begins or saves.
+    pub fn step<S: Shelf>(
+        &mut self,
+        alloc: Global,
+        shelf: &mut S,
+        given: &Given,
+        request: &Request,
+        prepared: Prepared,
+    ) -> Outcome
+        requires { parts.IsPrepared request.now prepared }
+        ensures shelf { Tells (S.contents shelf.old) (S.contents shelf.new)
+            (parts.Steps L.begins L.tells given.now request.now (rows self.old.tables) (rows self.new.tables) self.old.running self.new.running result) }
+        // What concerns neither contents nor a new session comes to this whatever the shelf tells.
+        ensures alone { parts.StepsAlone L.begins L.tells (route_of (spec.path_of request.now)) given.now request.now (rows self.old.tables) (rows self.new.tables) self.old.running self.new.running result }
+    {
+        match find_aim(
+            alloc,
+            &self.router,
+            &self.tables,
+            shelf,
+            given,
+            request,
+            prepared,
+        ) {
+            Ok(aim) => match aim {
+                Aim::Plan(plan) => Outcome::Answered(self.carry_out(alloc, shelf, plan)),
+                Aim::File(about, item) => Outcome::Shown(about, item),
+            },
+            Err(refusal) => Outcome::Answered(Answer::Reply(Response::Refused(refusal.status()))),
+        }
+    }
+
+    /// Answers a request: its three parts, one after the other.
     pub fn answer<S: Shelf>(
         &mut self,
         alloc: Global,
@@ -399,9 +445,8 @@ impl<L: Running> Manager<L> {
         // What concerns neither contents nor a new session is answered so whatever the shelf tells.
         ensures alone { spec.IsAnswerAlone L.begins L.tells (route_of (spec.path_of request.now)) given.now request.now (rows self.old.tables) (rows self.new.tables) self.old.running self.new.running result }
     {
-        match find_plan(alloc, &self.router, &self.tables, shelf, given, request) {
-            Ok(plan) => self.carry_out(alloc, shelf, plan),
-            Err(refusal) => Answer::Reply(Response::Refused(refusal.status())),
-        }
+        let prepared = prepare(alloc, request);
+        let outcome = self.step(alloc, shelf, given, request, prepared);
+        finish(alloc, outcome)
     }
 }

@@ -2,3 +2,4 @@ pub mod Giving
 pub mod Dates
 pub mod SessionForms
 pub mod Empty
+pub mod Depths

@@ -1,5 +1,7 @@
 //! The bodies of requests.
-ghost use Rattle.std.specs.Prelude.{◌≡◌};
+ghost use Rattle.std.specs.Prelude.{◌≡◌, ◌≤◌, IfOk};
+ghost use Rattle.serde_json.specs.Data.{depth};
+ghost use Rattle.serde_json.specs.Read.{max_depth};
 ghost use Rattle.js_tables.specs.Bodies as spec;
 ghost use Rattle.js_tables.specs.Plans.{Gives};
 
@@ -10,7 +12,8 @@ use std::alloc::Global;
 
 #[tactic(auto, using(crate::proofs::Giving::gives_ok, crate::proofs::Giving::gives_err))]
 fn read_text(alloc: Global, text: &str) -> Result<Json, Refusal>
-    ensures { Gives result (spec.text_body text.now) }
+    ensures exact { Gives result (spec.text_body text.now) }
+    ensures shallow { IfOk result (λ json. depth json ≤ max_depth) }
 {
     match Json::read(alloc, text) {
         Ok(json) => Ok(json),
@@ -19,9 +22,11 @@ fn read_text(alloc: Global, text: &str) -> Result<Json, Refusal>
 }
 
 /// The JSON of a body, which is `{}` where the body is empty. What is no JSON is a bad request.
-#[tactic(auto, using(crate::proofs::Giving::is_text, crate::proofs::Giving::is_no_text))]
+#[tactic(auto, using(crate::proofs::Giving::is_text, crate::proofs::Giving::is_no_text, crate::proofs::Depths::object_shallow))]
 pub fn read_body(alloc: Global, bytes: &[u8]) -> Result<Json, Refusal>
-    ensures { Gives result (spec.body_of bytes.now) }
+    ensures exact { Gives result (spec.body_of bytes.now) }
+    // It nests no deeper than JSON is read.
+    ensures shallow { IfOk result (λ json. depth json ≤ max_depth) }
 {
     if bytes.is_empty() {
         return Ok(Json::empty(alloc));

@@ -250,12 +250,17 @@ json_again : (text : List ℕ) (d : Data) → IsUtf8 text → read text ≡ Some
 unfolding json_at whole_json
 json_again text d u r w = let numbers = float-end text ∙ w in rw (utf8_end text u, read-end text, r, numbers) refl
 
+pub json_back : (n : Notebook) (text : List ℕ) (d : Data) → d ≡ notebook_form n → IsUtf8 text → (depth d ≤ max_depth → read text ≡ Some d) → text_has_float text ≡ false
+    → depth (notebook_form n) ≤ max_depth → json_at (text ++ 10 ∷ []) ≡ Ok (notebook_form n)
+json_back n text d is u r w deep =
+    let shallow : depth d ≤ max_depth = subst (λ x. depth x ≤ max_depth) (sym is) deep in
+    json_again text d u (r shallow) w ∙ ap (λ x. Ok x) is
+
 pub reads_back : (n : Notebook) (text : List ℕ) (d : Data) → d ≡ notebook_form n → IsUtf8 text → (depth d ≤ max_depth → read text ≡ Some d) → text_has_float text ≡ false → IsDocument n
     → depth (notebook_form n) ≤ max_depth → notebook_at (text ++ 10 ∷ []) ≡ Ok (joined_notebook n)
 unfolding notebook_at
 reads_back n text d is u r w h deep =
-    let shallow : depth d ≤ max_depth = subst (λ x. depth x ≤ max_depth) (sym is) deep in
-    ap (λ j. pass j >>= notebook_of) (json_again text d u (r shallow) w) ∙ ap notebook_of is ∙ notebook_again n h
+    ap (λ j. pass j >>= notebook_of) (json_back n text d is u r w deep) ∙ notebook_again n h
 
 pub pretty_is : (text : List ℕ) (d form : Data) → text ≡ pretty (tokens text) → IsInOrder text d → has_float d ≡ false → d ≡ form → text ≡ pretty_text form
 unfolding pretty_text

@@ -71,3 +71,7 @@ AreFew n = length n.cells < 2 ^ 64
 pub document_if_found : (r : Result Notebook NbBad) (text : List ℕ) → IfOk r (IsNotebookText text) → IfOk r AreFew → IfOk r IsDocument
 document_if_found (Ok n) text h few = document_is h.value n h.notebook few
 document_if_found (Err e) text h few = tt
+
+pub value_document_if_found : (r : Result Notebook NbBad) (d : Data) → IfOk r (IsNotebook d) → IfOk r AreFew → IfOk r IsDocument
+value_document_if_found (Ok n) d h few = document_is d n h few
+value_document_if_found (Err e) d h few = tt

@@ -620,3 +620,12 @@ found_if_exact (Err e) text h = tt
 
 pub only_if_exact : (r : Result Notebook NbBad) (text : List ℕ) → Answers r (notebook_at text) → (n : Notebook) → IsNotebookText text n → Answers r (Ok n)
 only_if_exact r text h n f = subst (Answers r) (text_only text n f) h
+
+-- ---- the value
+
+pub value_found_if_exact : (r : Result Notebook NbBad) (d : Data) → Answers r (notebook_of d) → IfOk r (IsNotebook d)
+value_found_if_exact (Ok n) d h = notebook_found d n h
+value_found_if_exact (Err e) d h = tt
+
+pub value_only_if_exact : (r : Result Notebook NbBad) (d : Data) → Answers r (notebook_of d) → (n : Notebook) → IsNotebook d n → Answers r (Ok n)
+value_only_if_exact r d h n f = subst (Answers r) (notebook_only d n f) h

@@ -32,7 +32,7 @@ member_depth k (member l d ms) e h = go (slice_cmp nat_cmp k l) h (λ g. member_
     go Equal g rest = let same : d ≡ e = cc in let low = ap depth same in omega arith
     go Greater g rest = let low = rest g in omega arith
 
-get_depth : (k : List ℕ) (d e : Data) → get k d ≡ Some e → suc (depth e) ≤ depth d
+pub get_depth : (k : List ℕ) (d e : Data) → get k d ≡ Some e → suc (depth e) ≤ depth d
 get_depth k null e h = cc
 get_depth k (boolean b) e h = cc
 get_depth k (number n) e h = cc
@@ -183,3 +183,7 @@ IsShallow n = depth (notebook_form n) ≤ max_depth
 pub shallow_if_found : (r : Result Notebook NbBad) (text : List ℕ) → IfOk r (IsNotebookText text) → IfOk r IsShallow
 shallow_if_found (Ok n) text h = notebook_depth h.value n h.notebook (depth-read text h.value h.reads)
 shallow_if_found (Err e) text h = tt
+
+pub value_shallow_if_found : (r : Result Notebook NbBad) (d : Data) → IfOk r (IsNotebook d) → depth d ≤ max_depth → IfOk r IsShallow
+value_shallow_if_found (Ok n) d h low = notebook_depth d n h low
+value_shallow_if_found (Err e) d h low = tt

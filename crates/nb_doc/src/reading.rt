@@ -9,7 +9,7 @@ ghost use Rattle.json_form.specs.Forms.{Gives};
 ghost use Rattle.nb_doc.specs.Steps.{Answers};
 ghost use Rattle.nb_doc.specs.declared.notebook.Notebook.{Notebook};
 ghost use Rattle.nb_doc.specs.Documents.{IsDocument};
-ghost use Rattle.nb_doc.specs.TextForms.{IsNotebookText};
+ghost use Rattle.nb_doc.specs.TextForms.{IsNotebook, IsNotebookText};
 ghost use Rattle.nb_doc.specs.Reading.{json_at, notebook_of, notebook_at};
 ghost use Rattle.nb_doc.specs.Writing.{notebook_form};
 
@@ -39,6 +39,24 @@ pub fn read_notebook(alloc: Global, text: &[u8]) -> Result<Notebook, NbBad>
     ensures shallow { IfOk result (λ n. depth (notebook_form n) ≤ max_depth) }
 {
     notebook_in(alloc, text)
+}
+
+/// The notebook that a JSON value is, or its first fault, in the order of `NbFault`: what `read_notebook` finds in each
+/// text of this value. The value is used up, and what was read of a cell goes before the next one is read.
+pub fn notebook_of_value(alloc: Global, value: Value) -> Result<Notebook, NbBad>
+    requires { has_float (view value) ≡ false }
+    // What is found is the value's notebook.
+    ensures found { IfOk result (IsNotebook (view value)) }
+    // A value that is a notebook is found to be one, unless memory runs out.
+    ensures only { (n : Notebook) → IsNotebook (view value) n → Answers result (Ok n) }
+    // Which fault it is.
+    ensures exact { Answers result (notebook_of (view value)) }
+    // It is a document of 4.5, as what is read of a text is.
+    ensures document { IfOk result IsDocument }
+    // Once it is written it nests no deeper than JSON is read, where the value does not either.
+    ensures shallow { depth (view value) ≤ max_depth → IfOk result (λ n. depth (notebook_form n) ≤ max_depth) }
+{
+    notebook(alloc, value)
 }
 
 #[tactic(auto, using(crate::proofs::Passes::passes_fault), unfolding(crate::specs::Reading::notebook_at))]

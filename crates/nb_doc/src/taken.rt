@@ -15,14 +15,15 @@ pub(crate) fn taken_list(value: Value, key: &str) -> Result<Vec<Value>, Fault>
     ensures form { seen (λ v. items_view v.items) result ≡ needed as_array (get key.now (view value)) }
     ensures whole { IfOk result (λ v. items_have_float (items_view v.items) ≡ false) }
 {
-    match taken(value, key) {
+    match taken_field(value, key) {
         None => Err(Fault::Missing),
         Some(Value::Array(items)) => Ok(items),
         Some(_) => Err(Fault::WrongKind),
     }
 }
 
-fn taken(value: Value, key: &str) -> Option<Value>
+/// A field that an object has.
+pub fn taken_field(value: Value, key: &str) -> Option<Value>
     requires { has_float (view value) ≡ false }
     ensures found { option_map view result ≡ get key.now (view value) }
     ensures whole { IfSome result (λ v. has_float (view v) ≡ false) }

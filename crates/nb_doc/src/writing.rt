@@ -7,7 +7,7 @@ ghost use Rattle.serde_json.specs.View.{view};
 ghost use Rattle.serde_json.specs.Written.{has_float};
 ghost use Rattle.nb_doc.specs.Writing.{count_form, code_form, text_form, cell_form, cells_form, notebook_form, notebook_text};
 ghost use Rattle.nb_doc.specs.Documents.{IsDocument, joined_notebook};
-ghost use Rattle.nb_doc.specs.Reading.{notebook_at};
+ghost use Rattle.nb_doc.specs.Reading.{json_at, notebook_at};
 
 use crate::lines::lines_value;
 use crate::notebook::{Cell, Content, Execution, Notebook};
@@ -21,6 +21,9 @@ use std::alloc::{AllocError, Global};
 /// source and the text of a stream are lists of lines, and neighbouring streams of one name are one.
 pub fn write_notebook(alloc: Global, notebook: &Notebook) -> Result<Vec<u8>, AllocError>
     ensures text { IfOk result (λ b. b.items ≡ notebook_text notebook.now) }
+    // The JSON of the text is the notebook's, if that nests no deeper than JSON is read.
+    ensures json { IfOk result (λ b. depth (notebook_form notebook.now) ≤ max_depth
+        → json_at b.items ≡ Ok (notebook_form notebook.now)) }
     // A document that nests no deeper than JSON is read reads back, with neighbouring streams joined.
     ensures reads_back { IfOk result (λ b. IsDocument notebook.now
         → depth (notebook_form notebook.now) ≤ max_depth
@@ -32,8 +35,9 @@ pub fn write_notebook(alloc: Global, notebook: &Notebook) -> Result<Vec<u8>, All
     Ok(text)
 }
 
+/// The JSON value of a notebook, whose text is the notebook's.
 #[tactic(auto, unfolding(crate::specs::Writing::notebook_form))]
-fn notebook_value(alloc: Global, notebook: &Notebook) -> Result<Value, AllocError>
+pub fn notebook_value(alloc: Global, notebook: &Notebook) -> Result<Value, AllocError>
     ensures form { IfOk result (λ v. view v ≡ notebook_form notebook.now) }
     ensures whole { IfOk result (λ v. has_float (view v) ≡ false) }
 {

@@ -91,6 +91,11 @@ const NOTEBOOKS: &str =
 400 Bad Request
 > PUT /api/contents/n.ipynb {"type":"notebook","content":[]}
 400 Bad Request
+-- A number that is not whole, in the notebook or beside it, though the content is read as it stands in the body.
+> PUT /api/contents/n.ipynb {"content":{"cells":[],"metadata":{"x":[1.5]},"nbformat":4,"nbformat_minor":5},"type":"notebook"}
+400 Bad Request
+> PUT /api/contents/n.ipynb {"content":{"cells":[],"metadata":{},"nbformat":4,"nbformat_minor":5},"type":"notebook","x":-0}
+400 Bad Request
 > PUT /api/contents/n.ipynb {"content":"x","format":"text","type":"file"}
 400 Bad Request
 > PUT /api/contents/n.ipynb {"content":"eA==","format":"base64","type":"file"}

@@ -1,4 +1,4 @@
-use Rattle.std.proofs.Common.{◌≡◌, [], refl}
+use Rattle.std.proofs.Common.{refl}
 use Rattle.js_rest.specs.Routes.{table}
 use Rattle.js_rest.proofs.route.routes.Goals as goal
 

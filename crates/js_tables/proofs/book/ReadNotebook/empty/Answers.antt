@@ -8,4 +8,4 @@ use Rattle.js_tables.proofs.book.ReadNotebook.empty.Goals as goal
 
 pub invariant_of-result : goal.invariant_of-result
 invariant_of-result c =
-    (subst IsDocument (sym c.empty.ensures) empty_document, subst (λ n. depth (notebook_form n) ≤ max_depth) (sym c.empty.ensures) empty_shallow)
+    (subst IsDocument (sym c.empty.ensures) empty_document, subst (λ n. depth (notebook_form n) ≤ max_depth) (sym c.empty.ensures) empty_shallow, tt)
