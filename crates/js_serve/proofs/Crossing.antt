@@ -3,7 +3,7 @@ use denote.Param.Send.{IsSend, sendable}
 use denote.Param.SendFields.{declared_send, variants_send}
 use denote.RattleType.{RattleType}
 use denote.Struct.Field.{u64-field}
-use Rattle.std.proofs.Crossing.{Vec-send, crosses, frees, send, sync}
+use Rattle.std.proofs.Crossing.{crosses, frees, send, sync}
 use Rattle.std.specs.contracts.alloc.Global as Heap
 use Rattle.std.specs.contracts.impls.GlobalAllocator.TheImpl as heap
 use Rattle.std.specs.contracts.net.tcp.TcpListener as TcpListener
@@ -16,12 +16,13 @@ use Rattle.crossbeam_channel.specs.contracts.channel.Sender as Sender
 use Rattle.crossbeam_channel.proofs.channel.Receiver.TheSendSync as receiver
 use Rattle.crossbeam_channel.proofs.channel.Sender.TheSendSync as sender
 use Rattle.jk_language.specs.declared.language.Language as language
-use Rattle.json_form.proofs.text.Text.TheSendSync as text
 use Rattle.js_http.proofs.request.Request.TheSendSync as request
 use Rattle.js_http.proofs.response.Response.TheSendSync as response
+use Rattle.js_shelf.proofs.item.Item.TheSendSync as item
+use Rattle.js_tables.proofs.forms.About.TheSendSync as about
 use Rattle.js_ws.proofs.names.Names.TheSendSync as names
-use Rattle.jk_queues.proofs.Crossing.{seat_send}
 use Rattle.jk_board.proofs.Crossing.{follower_send}
+use Rattle.js_home.proofs.Crossing.{home_send, place_send as lent_send}
 use Rattle.jk_log.proofs.job.ParsedCell.TheSendSync as parsed
 use Rattle.jk_log.specs.contracts.job.ParsedCell as ParsedCell
 use Rattle.jk_queues.proofs.pool.WorkerEnd.TheSendSync as end
@@ -37,7 +38,6 @@ use Rattle.js_serve.specs.contracts.driving.Opened as Opened
 use Rattle.js_serve.specs.contracts.driving.Opening as Opening
 use Rattle.js_serve.specs.contracts.job.Job as Job
 use Rattle.js_serve.specs.contracts.job.Parser as Parser
-use Rattle.js_serve.specs.contracts.kernels.Free as Free
 
 sender_send : (R : RattleType) → IsSend R → IsSend (Sender.the_row R Heap.the_row heap.ghosts)
 sender_send R sent = sender.the_send R Heap.the_row heap.ghosts sent send sync frees
@@ -70,27 +70,24 @@ guest_send : IsSend Guest.the_row
 guest_send = declared_send Guest.the_type (tcp_send, (ticket_send, tt))
 
 pub place_send : (L S T M : RattleType) (g : language.Ghosts L.Denot S.Denot T.Denot M.Denot) → IsSend (Place.the_row L S T M g)
-place_send L S T M g = declared_send (Place.the_type L S T M g) (text.the_send, (seat_send, (follower_send L S T M g, (bell_send, tt))))
+place_send L S T M g = declared_send (Place.the_type L S T M g) (lent_send L S T M g, (bell_send, tt))
 
 reply_send : (L S T M : RattleType) (g : language.Ghosts L.Denot S.Denot T.Denot M.Denot) → IsSend (Reply.the_row L S T M g)
-reply_send L S T M g = variants_send (Reply.enum L S T M g) ((response.the_send, tt), ((response.the_send, tt), ((response.the_send, (place_send L S T M g, (names.the_send, tt))), (tt, tt))))
+reply_send L S T M g = variants_send (Reply.enum L S T M g) ((response.the_send, tt), ((about.the_send, (item.the_send, tt)), ((response.the_send, tt), ((response.the_send, (place_send L S T M g, (names.the_send, tt))), (tt, tt)))))
 
 call_send : (L S T M : RattleType) (g : language.Ghosts L.Denot S.Denot T.Denot M.Denot) → IsSend (Call.the_row L S T M g)
 call_send L S T M g = variants_send (Call.enum L S T M g) (
   (guest_send, tt),
   (
     (request.the_send, (sender_send (Reply.the_row L S T M g) (reply_send L S T M g), tt)),
-    ((place_send L S T M g, tt), (tt, (tt, tt))),
+    (tt, (tt, (tt, tt))),
   ),
 )
-
-free_send : (L S T M : RattleType) (g : language.Ghosts L.Denot S.Denot T.Denot M.Denot) → IsSend (Free.the_row L S T M g)
-free_send L S T M g = declared_send (Free.the_type L S T M g) (seat_send, (follower_send L S T M g, tt))
 
 opened_send : (L S T M : RattleType) (g : language.Ghosts L.Denot S.Denot T.Denot M.Denot) → IsSend (Opened.the_row L S T M g)
 opened_send L S T M g =
     let f = follower_send L S T M g in
-    declared_send (Opened.the_type L S T M g) (seat_send, (bell_send, (f, (f, (Vec-send _ (free_send L S T M g), tt)))))
+    declared_send (Opened.the_type L S T M g) (home_send L S T M g, (bell_send, (f, (f, tt))))
 
 opening_send : (L S T M : RattleType) (g : language.Ghosts L.Denot S.Denot T.Denot M.Denot) → IsSend (Opening.the_row L S T M g)
 opening_send L S T M g = declared_send (Opening.the_type L S T M g) (sender_send (Opened.the_row L S T M g) (opened_send L S T M g), (flag_send, tt))

@@ -1,1 +1,3 @@
+pub mod Channels
 pub mod Crossing
+pub mod Hosting

@@ -3,20 +3,17 @@
 use crate::bell::Bell;
 use crate::crowd::Guest;
 use crossbeam_channel::Sender;
-use jk_board::Follower;
 use jk_language::Language;
-use jk_queues::Seat;
+use js_home::Place as Lent;
 use js_http::{Request, Response};
+use js_shelf::Item;
+use js_tables::About;
 use js_ws::Names;
-use json_form::Text;
 
-/// A seat of a kernel and its follower, which are lent to one connection at a time.
+/// A place at a kernel, which is lent to one connection at a time.
 #[derive(Drop)]
 pub struct Place<L: Language> {
-    /// The kernel's identifier.
-    pub kernel: Text,
-    pub seat: Seat,
-    pub follower: Follower<L>,
+    pub lent: Lent<L>,
     /// What wakes the kernel.
     pub bell: Bell,
 }
@@ -25,6 +22,8 @@ pub struct Place<L: Language> {
 #[derive(Drop)]
 pub enum Reply<L: Language> {
     Response(Response),
+    /// A file that was read. The thread of the connection makes the response.
+    Shown(About, Item),
     /// The last response before the server stops. Whoever has written it tells the desk so.
     Last(Response),
     /// The switch to a WebSocket, and the place of its channel.
@@ -40,8 +39,8 @@ pub enum Call<L: Language> {
     Accepted(Guest),
     /// A request was read. Its reply goes to the sender.
     Asked(Request, Sender<Reply<L>>),
-    /// A channel was closed, and gives its place back.
-    Back(Place<L>),
+    /// A channel was closed, and has given its place back.
+    Back,
     /// The last response was written.
     Written,
     /// The pause between two reads for recorders is over.

@@ -1,4 +1,7 @@
 //! The channel of a connection, from its handshake on.
+ghost use Rattle.std.specs.Prelude.{◌≡◌};
+ghost use Rattle.js_home.specs.Served.{HasServed};
+ghost use Rattle.js_serve.specs.Channels.{GoesOn};
 
 use crate::bell::Bell;
 use crate::call::{Call, Place};
@@ -6,6 +9,8 @@ use crate::clock::date_now;
 use crate::telling::tell;
 use crossbeam_channel::Sender;
 use jk_language::Language;
+use js_home::Free;
+use js_lend::Lease;
 use js_paced::Paced;
 use js_ws::{Channel, Names, Turn, channel_turn};
 use std::alloc::Global;
@@ -26,7 +31,7 @@ pub(crate) struct Line<'s> {
     pub(crate) patience: u64,
 }
 
-/// Makes turns of a channel until it is closed, and then gives its place back.
+/// Serves a channel until it is closed, and then gives its place back and tells the desk so.
 pub(crate) fn serve_channel<L: Language, R: Wait + Clock + Copy + Drop>(
     rt: &R,
     alloc: Global,
@@ -35,29 +40,58 @@ pub(crate) fn serve_channel<L: Language, R: Wait + Clock + Copy + Drop>(
     place: Place<L>,
     names: Names,
 ) {
-    let Place {
-        kernel,
-        seat,
-        follower,
-        bell,
-    } = place;
+    let Place { lent, bell } = place;
+    let lease = lent.into_lease();
+    let Lease { value, back } = lease;
+    let served = serve_at(rt, alloc, line, &bell, value, names);
+    served.follower.rest();
+    back.give(rt, served);
+    let _ = tell(rt, calls, Call::Back);
+}
+
+/// Passes what was shown before, and serves a channel until it is closed. Where the kernel's board has ended nothing is served.
+fn serve_at<L: Language, R: Wait + Clock + Copy + Drop>(
+    rt: &R,
+    alloc: Global,
+    line: Line<'_>,
+    bell: &Bell,
+    place: Free<L>,
+    names: Names,
+) -> Free<L>
+    ensures { HasServed place result }
+{
+    let (passed, there) = place.pass();
+    if !there {
+        return passed;
+    }
+    make_turns(rt, alloc, line, bell, passed, names)
+}
+
+/// Makes turns of a channel until it is closed. The seat and the follower come back.
+fn make_turns<L: Language, R: Wait + Clock + Copy + Drop>(
+    rt: &R,
+    alloc: Global,
+    line: Line<'_>,
+    bell: &Bell,
+    place: Free<L>,
+    names: Names,
+) -> Free<L>
+    ensures { HasServed place result }
+{
+    let Free { seat, follower } = place;
     let busy = Cell::new(false);
     let paced = Paced::new(*rt, line.stream, &busy, line.patience);
     let channel = Channel::new(alloc, paced, names, seat, follower);
-    let channel = run(rt, alloc, &busy, &bell, channel);
+    let channel = run(rt, alloc, &busy, bell, channel);
     let channel = take_leave(channel);
     let (seat, follower) = channel.into_ends();
-    let place = Place {
-        kernel,
-        seat,
-        follower,
-        bell,
-    };
-    let _ = tell(rt, calls, Call::Back(place));
+    Free { seat, follower }
 }
 
 /// Tells the frontend that the kernel is gone, where that has closed the channel.
-fn take_leave<L: Language, S: Read + Write + Drop>(channel: Channel<S, L>) -> Channel<S, L> {
+fn take_leave<L: Language, S: Read + Write + Drop>(channel: Channel<S, L>) -> Channel<S, L>
+    ensures { (result.outbox ≡ channel.outbox) × (result.feed ≡ channel.feed) }
+{
     if !channel.ended() {
         return channel;
     }
@@ -65,35 +99,50 @@ fn take_leave<L: Language, S: Read + Write + Drop>(channel: Channel<S, L>) -> Ch
     channel
 }
 
-/// Makes turns until the channel is closed, and notes after each whether the kernel is busy. After a turn that may have submitted
-/// something it wakes the kernel.
-fn run<'s, L: Language, R: Wait + Clock + Copy + Drop>(
+/// Makes turns until the channel is closed.
+fn run<L: Language, S: Read + Write + Drop, R: Wait + Clock>(
     rt: &R,
     alloc: Global,
-    busy: &'s Cell<bool>,
+    busy: &Cell<bool>,
     bell: &Bell,
-    channel: Channel<Paced<'s, R>, L>,
-) -> Channel<Paced<'s, R>, L> {
+    channel: Channel<S, L>,
+) -> Channel<S, L>
+    ensures { GoesOn channel result }
+{
     let mut channel = channel;
     for _ in rt.forever() {
-        let Some(date) = date_now(rt, alloc) else {
-            thread::sleep(rt, Duration::from_millis(PAUSE));
-            continue;
-        };
-        let (same, turn) = channel_turn(rt, date.as_str(), channel);
-        channel = same;
-        busy.set(channel.is_busy());
-        match turn {
-            Turn::Closed(_) => {
-                bell.ring();
-                return channel;
-            }
-            Turn::Open(_) => bell.ring(),
-            Turn::Quiet(_) => {}
-        }
-        if channel.waits() {
-            thread::sleep(rt, Duration::from_millis(PAUSE));
+        let (next, open) = make_turn(rt, alloc, busy, bell, channel);
+        channel = next;
+        if !open {
+            return channel;
         }
     }
     unreachable!()
+}
+
+/// Makes one turn, and notes whether the kernel is busy. After a turn that may have submitted something it wakes the kernel. It
+/// says whether the channel is still open.
+fn make_turn<L: Language, S: Read + Write + Drop, R: Wait + Clock>(
+    rt: &R,
+    alloc: Global,
+    busy: &Cell<bool>,
+    bell: &Bell,
+    channel: Channel<S, L>,
+) -> (Channel<S, L>, bool)
+    ensures { GoesOn channel result.0 }
+{
+    let Some(date) = date_now(rt, alloc) else {
+        thread::sleep(rt, Duration::from_millis(PAUSE));
+        return (channel, true);
+    };
+    let (next, turn) = channel_turn(rt, date.as_str(), channel);
+    busy.set(next.is_busy());
+    let open = !matches!(turn, Turn::Closed(_));
+    if !matches!(turn, Turn::Quiet(_)) {
+        bell.ring();
+    }
+    if open && next.waits() {
+        thread::sleep(rt, Duration::from_millis(PAUSE));
+    }
+    (next, open)
 }

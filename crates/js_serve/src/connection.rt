@@ -11,6 +11,9 @@ use js_http::{
     ErrorStatus, HttpRefusal, Request, Response, read_request, write_page, write_response,
 };
 use js_paced::{Limited, end_of_answer};
+use js_rest::{Outcome, finish};
+use js_shelf::Item;
+use js_tables::{About, Answer};
 use std::alloc::Global;
 use std::net::{Shutdown, TcpListener, TcpStream};
 use std::sync::Wait;
@@ -104,6 +107,10 @@ pub(crate) fn serve_connection<L: Language, R: Wait + Clock + Copy + Drop>(
     match read_request(alloc, &mut limited) {
         Ok(request) => match ask(rt, alloc, calls, request) {
             Some(Reply::Response(response)) => respond(&mut limited, &response),
+            Some(Reply::Shown(about, item)) => {
+                let response = shown(alloc, about, item);
+                respond(&mut limited, &response);
+            }
             Some(Reply::Last(response)) => {
                 respond(&mut limited, &response);
                 let _ = tell(rt, calls, Call::Written);
@@ -138,6 +145,14 @@ fn refuse<R: Clock + Copy + Drop>(
     if let Some(status) = refusal.status() {
         respond(limited, &Response::Refused(status));
         end_of_answer(*rt, stream, REST);
+    }
+}
+
+/// The response that shows a file.
+fn shown(alloc: Global, about: About, item: Item) -> Response {
+    match finish(alloc, Outcome::Shown(about, item)) {
+        Answer::Reply(response) => response,
+        _ => Response::Refused(ErrorStatus::InternalServerError),
     }
 }
 

@@ -1,18 +1,18 @@
 //! The desk: the one thread that has the tables, the kernels and the files, and answers requests one after the other.
 
-use crate::call::{Call, Place, Reply};
+use crate::call::{Call, Reply};
 use crate::clock::{date_now, given_now};
 use crate::concern::{Concern, concern_of, id_in, is_within};
 use crate::driving::Opened;
 use crate::ending::Endings;
 use crate::job::Job;
 use crate::kernels::{Kernels, Unopened};
-use crate::pulse::{Found, QUICK, Rhythm};
+use crate::pulse::{Found, QUICK, Rhythm, Round};
 use crossbeam_channel::{Receiver, Sender, unbounded};
 use jk_language::Language;
 use js_follow::is_due;
 use js_http::{ErrorStatus, Method, Request, Response};
-use js_rest::{Manager, Running};
+use js_rest::{Manager, Outcome, Running, prepare};
 use js_shelf::Shelf;
 use js_tables::{Answer, Given, Kernel, Update, find_by_session, find_kernel};
 use js_ws::{Names, handshake, protocol_of};
@@ -34,6 +34,9 @@ const READS: u32 = 4_096;
 
 /// How often that of a kernel that is ending is read between two other calls, at most.
 const FEW_READS: u32 = 64;
+
+/// How many calls are taken between two recorders, at most.
+const CALLS: u32 = 64;
 
 /// A kernel whose thread was given out, and the reply that waits for its ends.
 #[derive(Drop)]
@@ -65,6 +68,8 @@ where
     /// Whether that thread has called.
     beats: bool,
     rhythm: Rhythm,
+    /// The look at all recorders that is under way, if there is one.
+    round: Option<Round>,
     /// The kernels that are ending, and the replies that wait for their ends.
     endings: Endings<Sender<Reply<L>>>,
     /// Requests that wait for kernels that are ending, in their order, and how many of the first are to be looked at again.
@@ -118,6 +123,7 @@ where
             pauses: None,
             beats: false,
             rhythm: Rhythm::new(),
+            round: None,
             endings: Endings::new(alloc),
             held: Vec::new(alloc),
             again: 0,
@@ -141,6 +147,9 @@ where
         if let Some(held) = self.next_held() {
             return self.reply_to(held.request, held.reply);
         }
+        if let Some(round) = self.round.take() {
+            return self.go_on(round);
+        }
         let call = self.calls.recv(&self.rt).ok()?;
         self.take(call)
     }
@@ -156,8 +165,8 @@ where
                 self.note_written();
                 None
             }
-            Call::Back(place) => {
-                self.take_back(place);
+            Call::Back => {
+                self.take_back();
                 None
             }
             Call::Pulse => {
@@ -167,10 +176,9 @@ where
         }
     }
 
-    /// Takes a place back from a connection.
-    fn take_back(&mut self, place: Place<L>) {
+    /// Takes back the places that connections have given back.
+    fn take_back(&mut self) {
         self.manager.running.follow();
-        self.manager.running.give_place(place);
         self.manager.running.drop_left();
     }
 
@@ -229,33 +237,75 @@ where
         kernel.id.copy().ok()
     }
 
-    /// Lets each recorder read on, ends what has ended, and says when the next call is due.
+    /// Reads what kernels have published, and begins to let each recorder read on, unless that is under way.
     fn beat(&mut self) {
         self.beats = true;
-        let found = match date_now(&self.rt, self.alloc) {
-            Some(date) => self.follow_all(&date),
+        self.manager.running.follow();
+        if self.round.is_none() {
+            let found = if self.manager.tables.kernels.is_empty() {
+                Found::NoKernel
+            } else {
+                Found::Nothing
+            };
+            self.round = Some(Round::new(self.rhythm.is_time_to_save(), found));
+        }
+    }
+
+    /// Takes a call that has come, or else lets the next recorder read on. So a call waits for the save of one recorder, and not
+    /// for those of all.
+    fn go_on(&mut self, round: Round) -> Option<Job<L>> {
+        if round.calls < CALLS {
+            if let Ok(call) = self.calls.try_recv(&self.rt) {
+                self.round = Some(round.after_call());
+                return self.take(call);
+            }
+        }
+        match date_now(&self.rt, self.alloc) {
+            Some(date) => self.follow_next(round, &date),
+            None => self.pause_after(Found::Nothing),
+        }
+        None
+    }
+
+    /// One read for the next recorder. After the last one, ends what has ended.
+    fn follow_next(&mut self, round: Round, date: &Text) {
+        if round.place >= self.manager.tables.recordings.len() {
+            self.end_ended(date);
+            let found = self.or_ending(round.found);
+            self.pause_after(found);
+            return;
+        }
+        let found = match self.recorded_kernel(round.place) {
+            Some(kernel) => self.follow_once(kernel.as_str(), date, round.saves),
             None => Found::Nothing,
         };
+        self.round = Some(round.after(found));
+    }
+
+    /// What was found, or that a kernel is ending where that is more urgent.
+    fn or_ending(&self, found: Found) -> Found {
+        if self.endings.is_empty() {
+            found
+        } else {
+            found.or(Found::Ending)
+        }
+    }
+
+    /// Says when the next call is due.
+    fn pause_after(&mut self, found: Found) {
         let pause = self.rhythm.next(found);
         self.ring(pause);
     }
 
-    /// One read for each recorder. The answer is the most urgent that was found.
-    fn follow_all(&mut self, date: &Text) -> Found {
+    /// One read for each recorder. Ends what has ended.
+    fn follow_all(&mut self, date: &Text) {
         let saves = self.rhythm.is_time_to_save();
-        let mut most = Found::NoRecorder;
         for place in 0..self.manager.tables.recordings.len() {
             if let Some(kernel) = self.recorded_kernel(place) {
-                let found = self.follow_once(kernel.as_str(), date, saves);
-                most = most.or(found);
+                self.follow_once(kernel.as_str(), date, saves);
             }
         }
         self.end_ended(date);
-        if self.endings.is_empty() {
-            most
-        } else {
-            most.or(Found::Ending)
-        }
     }
 
     /// Says how long the thread that calls for recorders pauses. Where it is not there, it is started.
@@ -475,14 +525,32 @@ where
             Concern::Paths => self.catch_up_at("", &given.date),
             _ => {}
         }
-        let answer = self
+        let prepared = prepare(self.alloc, &request);
+        let outcome = self
             .manager
-            .answer(self.alloc, &mut self.shelf, given, &request);
+            .step(self.alloc, &mut self.shelf, given, &request, prepared);
         self.start_recorders();
+        match outcome {
+            Outcome::Answered(answer) => self.carry_on(answer, &request, given, reply),
+            Outcome::Shown(about, item) => {
+                self.send(reply, Reply::Shown(about, item));
+                None
+            }
+        }
+    }
+
+    /// Replies as an answer says.
+    fn carry_on(
+        &mut self,
+        answer: Answer,
+        request: &Request,
+        given: &Given,
+        reply: Sender<Reply<L>>,
+    ) -> Option<Job<L>> {
         match answer {
             Answer::Reply(response) => self.respond(response, reply),
             Answer::Channels(id) => {
-                let channel = self.channel_for(&request, id, given);
+                let channel = self.channel_for(request, id, given);
                 self.send(reply, channel);
                 None
             }
@@ -547,6 +615,7 @@ where
             return false;
         };
         self.manager.running.take_ends(opened);
+        self.ring(QUICK);
         true
     }
 

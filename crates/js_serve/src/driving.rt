@@ -1,18 +1,18 @@
 //! The thread of a kernel: it makes the kernel with all its ends, hands out those of others, and drives it to its end.
 ghost use Rattle.std.specs.Prelude.{◌≡◌, [], IfOk};
 ghost use Rattle.jk_core.specs.State.{fresh};
-ghost use Rattle.jk_queues.specs.Ends.{taken_by};
+ghost use Rattle.jk_queues.specs.Ends.{AreAllOf, seat_inbox, taken_by, taker_inbox};
 
 use crate::bell::{Bell, Driving};
 use crate::job::Parser;
-use crate::kernels::{Free, free_of};
 use crossbeam_channel::Sender;
 use jk_board::{Board, Follower, Followers};
 use jk_core::Kernel;
 use jk_language::Language;
 use jk_log::ParsedCell;
-use jk_queues::{Inbox, Pool, Seat, Seats, Taker, WorkerEnd};
+use jk_queues::{Inbox, Pool, Seats, Taker, WorkerEnd};
 use jk_run::{Driver, Parts, drive};
+use js_home::Home;
 use std::alloc::{AllocError, Global};
 use std::cell::Cell;
 use std::sync::atomic::{AtomicBool, Ordering};
@@ -38,16 +38,14 @@ pub struct Opening<L: Language> {
 /// The ends of a new kernel that the desk holds.
 #[derive(Drop)]
 pub struct Opened<L: Language> {
-    /// Seat 0.
-    pub zero: Seat,
+    /// Seat 0, and the places that are lent.
+    pub home: Home<L>,
     /// What wakes the driver.
     pub bell: Bell,
     /// The follower of seat 0.
     pub watch: Follower<L>,
     /// The follower for a recorder.
     pub recorder: Follower<L>,
-    /// The seats that are lent, with their followers; the last one is lent first.
-    pub free: Vec<Free<L>>,
 }
 
 /// A new kernel with the ends of its driver but for the publisher, and the ends of others.
@@ -71,6 +69,7 @@ struct Bells {
 fn make<L: Language>(alloc: Global, followers: Followers<L>) -> Result<Made<L>, AllocError>
     ensures kernel { IfOk result (λ made. made.kernel ≡ fresh) }
     ensures taker { IfOk result (λ made. taken_by made.taker ≡ []) }
+    ensures inbox { IfOk result (λ made. seat_inbox made.opened.home.zero ≡ taker_inbox made.taker) }
 {
     let Inbox { taker, seats } = Inbox::new(alloc)?;
     let (pool, workers) = Pool::<ParsedCell<L>>::new(alloc, WORKERS)?;
@@ -115,17 +114,10 @@ fn ends_of<L: Language>(
     seats: Seats,
     followers: Followers<L>,
     bell: Bell,
-) -> Result<Opened<L>, AllocError> {
-    let Seats {
-        zero,
-        one,
-        two,
-        three,
-        four,
-        five,
-        six,
-        seven,
-    } = seats;
+) -> Result<Opened<L>, AllocError>
+    requires { AreAllOf (seat_inbox seats.zero) seats }
+    ensures { IfOk result (λ opened. opened.home.zero ≡ seats.zero) }
+{
     let Followers {
         zero: watch,
         one: first,
@@ -137,17 +129,13 @@ fn ends_of<L: Language>(
         seven: seventh,
         recorder,
     } = followers;
-    let free = free_of(
-        alloc,
-        [seven, six, five, four, three, two, one],
-        [seventh, sixth, fifth, fourth, third, second, first],
-    )?;
+    let places = [first, second, third, fourth, fifth, sixth, seventh];
+    let home = Home::new(alloc, seats, places)?;
     Ok(Opened {
-        zero,
+        home,
         bell,
         watch,
         recorder,
-        free,
     })
 }
 

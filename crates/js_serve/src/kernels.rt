@@ -1,5 +1,10 @@
 //! The kernels that run, as the desk holds them.
-ghost use Rattle.std.specs.Prelude.{◌≡◌, ◌++◌, ◌∷◌, [], OnOk, OnErr, Some};
+ghost use Rattle.std.specs.Prelude.{◌≡◌, [], IfOk, IfSome, MatchBool, true, position, Some, None};
+ghost use Rattle.std.specs.Str.{bytes_eq};
+ghost use Rattle.jk_log.specs.Asked.{sort_as};
+ghost use Rattle.js_serve.specs.Told.{asked};
+ghost use Rattle.js_serve.specs.Told as commands;
+ghost use Rattle.js_serve.specs.Hosting as spec;
 
 use crate::bell::Bell;
 use crate::call::Place;
@@ -9,9 +14,9 @@ use crate::watch::Watch;
 use crossbeam_channel::{Receiver, bounded};
 use jk_board::Follower;
 use jk_language::Language;
-use jk_log::{Arrival, What};
-use jk_queues::Seat;
+use jk_log::{Sort, What, sort_of};
 use jp_msg::read_message;
+use js_home::{Home, NoPlace};
 use js_rest::{Running, Untold};
 use js_tables::{Command, Kernel as Row, Tables};
 use json_form::{Shared, Text};
@@ -19,6 +24,9 @@ use std::alloc::{AllocError, Global};
 use std::marker::Model;
 use std::sync::atomic::{AtomicBool, Ordering};
 use std::sync::{Arc, Wait};
+
+/// How many places a home has.
+const PLACES: usize = 7;
 
 /// The messages by which the server tells a kernel something. What they are answered goes to no connection.
 const INTERRUPT: &str =
@@ -30,33 +38,29 @@ const RESTART: &str =
 const SHUTDOWN: &str =
     "{\"channel\":\"control\",\"content\":{\"restart\":false},\"header\":{\"msg_id\":\"server\",\"msg_type\":\"shutdown_request\",\"session\":\"server\"}}";
 
-/// A seat that is not lent, and its follower.
-#[derive(Drop)]
-pub struct Free<L: Language> {
-    seat: Seat,
-    follower: Follower<L>,
-}
-
 /// The server's ends of one kernel.
 #[derive(Drop)]
-struct Ends<L: Language> {
-    /// Seat 0.
-    zero: Option<Seat>,
+pub(crate) struct Ends<L: Language> {
+    /// Seat 0 and the places, once the kernel's thread has handed them out.
+    home: Option<Home<L>>,
     /// What wakes the kernel.
     bell: Option<Bell>,
     watch: Option<Watch<L>>,
     /// Whether the watch found something since the table of kernels was told.
     found: bool,
-    /// The seats that are not lent, with their followers.
-    free: Vec<Free<L>>,
-    /// How many seats are lent.
-    lent: u64,
     /// The follower for a recorder of the session, until there is one.
     recorder: Option<Follower<L>>,
     /// What is read for the recorder of the session, once there is one.
     scribe: Option<Scribe<L>>,
     /// Set once nobody follows the kernel any more.
     left: Arc<AtomicBool, Global>,
+}
+
+/// A kernel that runs: its identifier, and the server's ends of it.
+#[derive(Drop)]
+pub(crate) struct Hosted<L: Language> {
+    id: Text,
+    ends: Ends<L>,
 }
 
 /// A kernel that is to be made, and where its ends will come.
@@ -66,70 +70,101 @@ pub(crate) struct Unopened<L: Language> {
     pub(crate) opened: Receiver<Opened<L>>,
 }
 
-/// The kernels that run. Contracts see their identifiers.
+/// The kernels that run. Contracts see of each its identifier, and what seat 0 has told it.
 #[derive(Drop)]
 pub struct Kernels<R: Drop, L: Language> {
     rt: R,
     alloc: Global,
-    ids: Vec<Text>,
-    ends: Vec<Ends<L>>,
+    hosted: Vec<Hosted<L>>,
     unopened: Option<Unopened<L>>,
 }
 
 impl<R: Drop, L: Language> Model for Kernels<R, L> {
-    ghost use Rattle.std.specs.Prelude.{ℕ, List};
+    ghost use Rattle.std.specs.Prelude.{List};
+    ghost use Rattle.js_serve.specs.Told.{KernelState};
 
-    ghost Value = { List (List ℕ) };
+    ghost Value = { List KernelState };
 
-    ghost view = { λ kernels. kernels.ids.items };
+    ghost use Rattle.js_serve.specs.Hosting.{states_of};
+
+    ghost view = { λ kernels. states_of kernels.hosted.items };
+}
+
+/// Whether what a kernel has to do for a message is this command.
+fn is_asked(command: Command, sort: Sort) -> bool
+    ensures { result ≡ true → sort ≡ asked command }
+{
+    match command {
+        Command::Interrupt => match sort {
+            Sort::Interrupt => true,
+            _ => false,
+        },
+        Command::Restart => match sort {
+            Sort::Shutdown { restart } => restart,
+            _ => false,
+        },
+        Command::Shutdown => match sort {
+            Sort::Shutdown { restart } => !restart,
+            _ => false,
+        },
+    }
 }
 
 /// The message of a command. There is none where memory is refused.
-fn message_of(alloc: Global, command: Command) -> Option<What> {
+fn message_of(alloc: Global, command: Command) -> Option<What>
+    ensures { IfSome result (λ what. sort_as what ≡ asked command) }
+{
     let text = match command {
         Command::Interrupt => INTERRUPT,
         Command::Restart => RESTART,
         Command::Shutdown => SHUTDOWN,
     };
     let message = read_message(alloc, text).ok()?;
-    Some(What::Control(Shared::share(alloc, message).ok()?))
-}
-
-/// Sends a message from a seat. It says whether the inbox had room.
-fn submit<R: Wait>(rt: &R, seat: Seat, what: What) -> (Seat, bool) {
-    let arrival = Arrival {
-        seat: seat.place(),
-        number: seat.next_number(),
-        what,
-    };
-    let (seat, sent) = seat.submit(rt, arrival);
-    (seat, sent.is_ok())
-}
-
-/// The seats that are lent, with their followers; the last one is lent first.
-pub(crate) fn free_of<L: Language>(
-    alloc: Global,
-    seats: [Seat; 7],
-    followers: [Follower<L>; 7],
-) -> Result<Vec<Free<L>>, AllocError> {
-    let mut free = Vec::with_capacity(alloc, 7)?;
-    let pairs = seats.into_iter().zip(followers);
-    for (seat, follower) in pairs {
-        free.push(Free { seat, follower })?;
+    let what = What::Control(Shared::share(alloc, message).ok()?);
+    if is_asked(command, sort_of(&what)) {
+        Some(what)
+    } else {
+        None
     }
-    Ok(free)
+}
+
+/// What is answered to a command that was sent, or for which the inbox had no room.
+fn outcome(sent: bool) -> Result<(), Untold>
+    ensures { result ≡ commands.outcome sent }
+{
+    if sent { Ok(()) } else { Err(Untold::Full) }
+}
+
+/// The place of the first kernel of that identifier.
+fn place_of<L: Language>(hosted: &[Hosted<L>], id: &str) -> Option<usize>
+    ensures { result ≡ position (λ k. bytes_eq k.id id.now) hosted.now }
+{
+    hosted.iter().position(|known| known.id.as_str() == id)
+}
+
+/// Takes back all places that have come back.
+fn take_all_back<L: Language, R: Wait>(rt: &R, home: Home<L>) -> Home<L>
+    ensures { result.zero ≡ home.zero }
+{
+    let mut home = home;
+    for _ in 0..PLACES {
+        if !home.take_back(rt) {
+            return home;
+        }
+    }
+    home
 }
 
 impl<L: Language> Ends<L> {
     /// Nothing came of the kernel yet.
-    fn new(alloc: Global, left: Arc<AtomicBool, Global>) -> Ends<L> {
+    fn new(alloc: Global, left: Arc<AtomicBool, Global>) -> Ends<L>
+        ensures { result.home ≡ None }
+    {
         Ends {
-            zero: None,
+            home: None,
             bell: None,
             watch: None,
             found: false,
-            free: Vec::new(alloc),
-            lent: 0,
             recorder: None,
             scribe: None,
             left,
@@ -138,42 +173,69 @@ impl<L: Language> Ends<L> {
 
     /// Takes the ends that the kernel's thread handed out.
     fn take(&mut self, opened: Opened<L>)
-        ensures { self.new.zero ≡ Some opened.zero }
+        ensures { self.new.home ≡ Some opened.home }
     {
         let Opened {
-            zero,
+            home,
             bell,
             watch,
             recorder,
-            free,
         } = opened;
-        self.zero = Some(zero);
+        self.home = Some(home);
         self.bell = Some(bell);
+        let (watch, _) = watch.pass();
         self.watch = Some(Watch::new(watch));
         self.recorder = Some(recorder);
-        self.free = free;
     }
 
-    /// Sends a message from seat 0. It says whether the inbox had room.
-    fn tell<R: Wait>(&mut self, rt: &R, what: What) -> bool {
-        let Some(seat) = self.zero.take() else {
-            return false;
-        };
-        let (seat, sent) = submit(rt, seat, what);
-        self.zero = Some(seat);
+    /// Wakes the kernel.
+    fn ring(&self) {
         if let Some(bell) = &self.bell {
             bell.ring();
         }
-        sent
+    }
+
+    /// Sends a message from seat 0. It says whether it did: the inbox had room.
+    fn tell<R: Wait>(&mut self, rt: &R, what: What) -> bool
+        ensures { MatchBool result (spec.HasTold (sort_as what) (spec.home_of self.old) (spec.home_of self.new)) (spec.home_of self.new ≡ spec.home_of self.old) }
+    {
+        let Some(home) = self.home.take() else {
+            return false;
+        };
+        let (home, sent) = home.tell(rt, what);
+        self.home = Some(home);
+        self.ring();
+        sent.is_ok()
     }
 
     /// Reads what the kernel has published.
-    fn follow(&mut self, alloc: Global) {
-        if let Some(watch) = self.watch.take() {
-            let (watch, found) = watch.read(alloc);
-            self.found = self.found || found;
-            self.watch = Some(watch);
-        }
+    fn read_on(&mut self, alloc: Global)
+        ensures { self.new.home ≡ self.old.home }
+    {
+        let Some(watch) = self.watch.take() else {
+            return;
+        };
+        let (watch, found) = watch.read(alloc);
+        self.found = self.found || found;
+        self.watch = Some(watch);
+    }
+
+    /// Takes back the places that have come back.
+    fn collect<R: Wait>(&mut self, rt: &R)
+        ensures { spec.home_of self.new ≡ spec.home_of self.old }
+    {
+        let Some(home) = self.home.take() else {
+            return;
+        };
+        self.home = Some(take_all_back(rt, home));
+    }
+
+    /// Reads what the kernel has published, and takes back the places that have come back.
+    fn follow<R: Wait>(&mut self, rt: &R, alloc: Global)
+        ensures { spec.home_of self.new ≡ spec.home_of self.old }
+    {
+        self.read_on(alloc);
+        self.collect(rt);
     }
 
     /// Whether the kernel was shut down, not to start again.
@@ -184,14 +246,24 @@ impl<L: Language> Ends<L> {
         }
     }
 
-    /// Whether the kernel was shut down, no seat of it is lent, and nothing is read for a recorder.
+    /// How many places are lent.
+    fn lent(&self) -> usize {
+        match &self.home {
+            Some(home) => home.lent(),
+            None => 0,
+        }
+    }
+
+    /// Whether the kernel was shut down, no place of it is lent, and nothing is read for a recorder.
     fn is_left(&self) -> bool {
-        self.has_ended() && self.lent == 0 && self.scribe.is_none()
+        self.has_ended() && self.lent() == 0 && self.scribe.is_none()
     }
 
     /// Begins to read for a recorder, after what was shown before it was there. It says whether it began now; where there is no
     /// memory, it begins later.
-    fn begin_reading(&mut self, alloc: Global) -> bool {
+    fn begin_reading(&mut self, alloc: Global) -> bool
+        ensures { self.new.home ≡ self.old.home }
+    {
         let Some(follower) = self.recorder.take() else {
             return false;
         };
@@ -205,42 +277,61 @@ impl<L: Language> Ends<L> {
         began
     }
 
+    /// What is read for a recorder, which is to be given back.
+    fn take_scribe(&mut self) -> Option<Scribe<L>>
+        ensures { self.new.home ≡ self.old.home }
+    {
+        self.scribe.take()
+    }
+
+    /// Takes back what is read for a recorder.
+    fn give_scribe(&mut self, scribe: Scribe<L>)
+        ensures { self.new.home ≡ self.old.home }
+    {
+        self.scribe = Some(scribe);
+    }
+
     /// Reads for a recorder no more. The follower rests, so that the kernel does not wait for it.
-    fn end_reading(&mut self) {
+    fn end_reading(&mut self)
+        ensures { self.new.home ≡ self.old.home }
+    {
         if let Some(scribe) = self.scribe.take() {
             scribe.follower.rest();
         }
     }
 
-    /// Lends a seat, whose follower has passed what was shown before. What is shown to a connection comes after its join, so
-    /// nothing of it is passed.
-    fn lend(&mut self) -> Option<Free<L>> {
+    /// Lends a place. There is none where all are lent, and where the kernel has ended.
+    ///
+    /// # Errors
+    /// Where memory is refused.
+    fn lend<R: Wait>(&mut self, rt: &R, alloc: Global) -> Result<Option<Place<L>>, AllocError>
+        ensures same { spec.home_of self.new ≡ spec.home_of self.old }
+        ensures place { IfOk result (λ lent. IfSome lent (spec.IsPlaceOf (spec.home_of self.old))) }
+    {
         if self.has_ended() {
-            return None;
+            return Ok(None);
         }
-        let Free { seat, follower } = self.free.pop()?;
-        let (follower, passed) = follower.pass();
-        let free = Free { seat, follower };
-        if passed.is_err() {
-            let _ = self.free.push(free);
-            return None;
-        }
-        self.lent = self.lent.saturating_add(1);
-        Some(free)
-    }
-
-    /// Takes a seat back, whose follower rests. That of a kernel that has ended is not lent again.
-    fn take_back(&mut self, free: Free<L>) {
-        self.lent = self.lent.saturating_sub(1);
-        free.follower.rest();
-        if !self.has_ended() {
-            let _ = self.free.push(free);
+        let Some(bell) = &self.bell else {
+            return Ok(None);
+        };
+        let bell = bell.another()?;
+        let Some(mut home) = self.home.take() else {
+            return Ok(None);
+        };
+        let lent = home.lend(rt, alloc);
+        self.home = Some(home);
+        match lent {
+            Ok(lent) => Ok(Some(Place { lent, bell })),
+            Err(NoPlace::Lent) => Ok(None),
+            Err(NoPlace::Memory) => Err(AllocError),
         }
     }
 
     /// Tells the kernel's row in the table what was found.
-    fn note(&mut self, row: &mut Row, date: &Text) {
-        row.connections = self.lent;
+    fn note(&mut self, row: &mut Row, date: &Text)
+        ensures { self.new.home ≡ self.old.home }
+    {
+        row.connections = self.lent() as u64;
         if let Some(watch) = &self.watch {
             row.state = watch.state;
         }
@@ -253,22 +344,33 @@ impl<L: Language> Ends<L> {
     }
 }
 
+impl<L: Language> Hosted<L> {
+    /// Reads no more for the recorder where that is gone.
+    fn end_unrecorded(&mut self, tables: &Tables)
+        ensures { (self.new.id ≡ self.old.id) × (self.new.ends.home ≡ self.old.ends.home) }
+    {
+        if tables.has_recorder(self.id.as_str()) {
+            return;
+        }
+        self.ends.end_reading();
+    }
+}
+
 impl<R: Wait + Drop, L: Language> Running for Kernels<R, L> {
-    ghost use Rattle.std.specs.Prelude.{◌≡◌, ◌++◌, ◌∷◌, []};
+    ghost use Rattle.js_serve.specs.Told.{Begins, Tells};
 
-    ghost begins = { λ kernels id more. more ≡ kernels ++ id ∷ [] };
+    ghost begins = { Begins };
 
-    ghost tells = { λ kernels id command result after. after ≡ kernels };
+    ghost tells = { Tells };
 
     fn begin(&mut self, id: &str) -> Result<(), AllocError> {
         let id = Text::from_str(self.alloc, id)?;
-        self.ids.reserve(1)?;
-        self.ends.reserve(1)?;
+        self.hosted.reserve(1)?;
         let (sender, receiver) = bounded(self.alloc, 1)?;
         let left = Arc::new(self.alloc, AtomicBool::new(false))?;
         let theirs = Arc::try_clone(&left)?;
-        self.ids.push_reserved(id);
-        self.ends.push_reserved(Ends::new(self.alloc, left));
+        let ends = Ends::new(self.alloc, left);
+        self.hosted.push_reserved(Hosted { id, ends });
         self.unopened = Some(Unopened {
             opening: Opening {
                 opened: sender,
@@ -283,135 +385,107 @@ impl<R: Wait + Drop, L: Language> Running for Kernels<R, L> {
         let Some(what) = message_of(self.alloc, command) else {
             return Err(Untold::Memory);
         };
-        let Some(place) = self.place_of(id) else {
+        let Some(place) = place_of(self.hosted.as_slice(), id) else {
             return Err(Untold::Memory);
         };
-        let Some(ends) = self.ends.get_mut(place) else {
-            return Err(Untold::Memory);
-        };
-        if ends.tell(&self.rt, what) {
-            Ok(())
-        } else {
-            Err(Untold::Full)
-        }
+        let sent = self.hosted[place].ends.tell(&self.rt, what);
+        outcome(sent)
     }
 }
 
 impl<R: Wait + Drop, L: Language> Kernels<R, L> {
     /// No kernels.
-    pub fn new(rt: R, alloc: Global) -> Kernels<R, L> {
+    pub fn new(rt: R, alloc: Global) -> Kernels<R, L>
+        ensures { result ≡ [] }
+    {
         Kernels {
             rt,
             alloc,
-            ids: Vec::new(alloc),
-            ends: Vec::new(alloc),
+            hosted: Vec::new(alloc),
             unopened: None,
         }
     }
 
-    /// The place of a kernel in the lists.
-    fn place_of(&self, id: &str) -> Option<usize> {
-        self.ids.iter().position(|known| known.as_str() == id)
-    }
-
-    /// The ends of a kernel.
-    fn ends_of(&mut self, id: &str) -> Option<&mut Ends<L>> {
-        let place = self.place_of(id)?;
-        self.ends.get_mut(place)
-    }
-
     /// Whether no kernel is there.
     pub(crate) fn is_empty(&self) -> bool {
-        self.ends.is_empty()
+        self.hosted.is_empty()
     }
 
     /// The kernel that was made last, where its thread was not given out yet.
-    pub(crate) fn take_unopened(&mut self) -> Option<Unopened<L>> {
+    pub(crate) fn take_unopened(&mut self) -> Option<Unopened<L>>
+        ensures { self.new ≡ self.old }
+    {
         self.unopened.take()
     }
 
     /// Takes the ends of the kernel that was made last.
     pub(crate) fn take_ends(&mut self, opened: Opened<L>) {
-        if let Some(ends) = self.ends.last_mut() {
-            ends.take(opened);
+        if let Some(last) = self.hosted.last_mut() {
+            last.ends.take(opened);
         }
     }
 
     /// Lets go of the kernel that was made last.
     pub(crate) fn drop_last(&mut self) {
-        let _ = self.ids.pop();
-        let _ = self.ends.pop();
+        let _ = self.hosted.pop();
     }
 
-    /// Reads what each kernel has published.
-    pub(crate) fn follow(&mut self) {
-        for ends in self.ends.iter_mut() {
-            ends.follow(self.alloc);
+    /// Reads what each kernel has published, and takes back the places that have come back.
+    pub(crate) fn follow(&mut self)
+        ensures { self.new ≡ self.old }
+    {
+        for place in 0..self.hosted.len() {
+            self.hosted[place].ends.follow(&self.rt, self.alloc);
         }
     }
 
-    /// Lends a seat of a kernel. There is none where all are lent.
+    /// Lends a place at a kernel. There is none where all are lent.
     ///
     /// # Errors
     /// Where memory is refused.
-    pub(crate) fn take_place(&mut self, id: &str) -> Result<Option<Place<L>>, AllocError> {
-        let kernel = Text::from_str(self.alloc, id)?;
-        let Some(ends) = self.ends_of(id) else {
+    pub(crate) fn take_place(&mut self, id: &str) -> Result<Option<Place<L>>, AllocError>
+        ensures same { self.new ≡ self.old }
+        ensures place { IfOk result (λ lent. IfSome lent (spec.IsPlaceAt id.now self.old)) }
+    {
+        let Some(place) = place_of(self.hosted.as_slice(), id) else {
             return Ok(None);
         };
-        let Some(bell) = &ends.bell else {
-            return Ok(None);
-        };
-        let bell = bell.another()?;
-        let Some(Free { seat, follower }) = ends.lend() else {
-            return Ok(None);
-        };
-        Ok(Some(Place {
-            kernel,
-            seat,
-            follower,
-            bell,
-        }))
-    }
-
-    /// Takes a seat back.
-    pub(crate) fn give_place(&mut self, place: Place<L>) {
-        let Place {
-            kernel,
-            seat,
-            follower,
-            bell: _,
-        } = place;
-        if let Some(ends) = self.ends_of(kernel.as_str()) {
-            ends.take_back(Free { seat, follower });
-        }
+        self.hosted[place].ends.lend(&self.rt, self.alloc)
     }
 
     /// Begins to read for the recorder of a kernel, after what was shown before it was there. It says whether it began now.
-    pub(crate) fn begin_reading(&mut self, id: &str) -> bool {
-        let alloc = self.alloc;
-        match self.ends_of(id) {
-            Some(ends) => ends.begin_reading(alloc),
+    pub(crate) fn begin_reading(&mut self, id: &str) -> bool
+        ensures { self.new ≡ self.old }
+    {
+        match place_of(self.hosted.as_slice(), id) {
+            Some(place) => self.hosted[place].ends.begin_reading(self.alloc),
             None => false,
         }
     }
 
     /// What is read for the recorder of a kernel, which is to be given back.
-    pub(crate) fn take_scribe(&mut self, id: &str) -> Option<Scribe<L>> {
-        self.ends_of(id)?.scribe.take()
+    pub(crate) fn take_scribe(&mut self, id: &str) -> Option<Scribe<L>>
+        ensures { self.new ≡ self.old }
+    {
+        match place_of(self.hosted.as_slice(), id) {
+            Some(place) => self.hosted[place].ends.take_scribe(),
+            None => None,
+        }
     }
 
     /// Takes back what is read for the recorder of a kernel.
-    pub(crate) fn give_scribe(&mut self, id: &str, scribe: Scribe<L>) {
-        if let Some(ends) = self.ends_of(id) {
-            ends.scribe = Some(scribe);
+    pub(crate) fn give_scribe(&mut self, id: &str, scribe: Scribe<L>)
+        ensures { self.new ≡ self.old }
+    {
+        if let Some(place) = place_of(self.hosted.as_slice(), id) {
+            self.hosted[place].ends.give_scribe(scribe);
         }
     }
 
     /// Whether the recorder of a kernel was told all that the kernel will ever show, or nothing is read for it.
-    pub(crate) fn is_read(&mut self, id: &str) -> bool {
-        match self.ends_of(id) {
-            Some(ends) => match &ends.scribe {
+    pub(crate) fn is_read(&self, id: &str) -> bool {
+        match place_of(self.hosted.as_slice(), id) {
+            Some(place) => match &self.hosted[place].ends.scribe {
                 Some(scribe) => scribe.is_over(),
                 None => true,
             },
@@ -421,44 +495,49 @@ impl<R: Wait + Drop, L: Language> Kernels<R, L> {
 
     /// Whether a kernel is there.
     pub(crate) fn is_there(&self, id: &str) -> bool {
-        self.place_of(id).is_some()
+        place_of(self.hosted.as_slice(), id).is_some()
     }
 
     /// Reads for the recorder of a kernel no more.
-    pub(crate) fn end_reading(&mut self, id: &str) {
-        if let Some(ends) = self.ends_of(id) {
-            ends.end_reading();
+    pub(crate) fn end_reading(&mut self, id: &str)
+        ensures { self.new ≡ self.old }
+    {
+        if let Some(place) = place_of(self.hosted.as_slice(), id) {
+            self.hosted[place].ends.end_reading();
         }
     }
 
     /// Reads no more for the recorders that are gone.
-    pub(crate) fn end_readings(&mut self, tables: &Tables) {
-        for (id, ends) in self.ids.iter().zip(self.ends.iter_mut()) {
-            if !tables.has_recorder(id.as_str()) {
-                ends.end_reading();
-            }
+    pub(crate) fn end_readings(&mut self, tables: &Tables)
+        ensures { self.new ≡ self.old }
+    {
+        for place in 0..self.hosted.len() {
+            self.hosted[place].end_unrecorded(tables);
         }
     }
 
     /// Whether a kernel was shut down, not to start again, or is gone.
-    pub(crate) fn has_ended(&mut self, id: &str) -> bool {
-        match self.ends_of(id) {
-            Some(ends) => ends.has_ended(),
+    pub(crate) fn has_ended(&self, id: &str) -> bool {
+        match place_of(self.hosted.as_slice(), id) {
+            Some(place) => self.hosted[place].ends.has_ended(),
             None => true,
         }
     }
 
     /// Tells a kernel's row in the table what was found of it.
-    pub(crate) fn note(&mut self, row: &mut Row, date: &Text) {
-        if let Some(ends) = self.ends_of(row.id.as_str()) {
-            ends.note(row, date);
+    pub(crate) fn note(&mut self, row: &mut Row, date: &Text)
+        ensures { self.new ≡ self.old }
+    {
+        if let Some(place) = place_of(self.hosted.as_slice(), row.id.as_str()) {
+            self.hosted[place].ends.note(row, date);
         }
     }
 
     /// Lets go of each kernel that was shut down and that nobody follows any more.
     pub(crate) fn drop_left(&mut self) {
-        for _ in 0..self.ends.len() {
-            let Some(place) = self.ends.iter().position(|ends| ends.is_left()) else {
+        for _ in 0..self.hosted.len() {
+            let left = self.hosted.iter().position(|known| known.ends.is_left());
+            let Some(place) = left else {
                 return;
             };
             self.drop_one(place);
@@ -466,10 +545,9 @@ impl<R: Wait + Drop, L: Language> Kernels<R, L> {
     }
 
     fn drop_one(&mut self, place: usize) {
-        if place < self.ends.len() && place < self.ids.len() {
-            let ends = self.ends.remove(place);
-            ends.left.store(true, Ordering::SeqCst);
-            let _ = self.ids.remove(place);
+        if place < self.hosted.len() {
+            let known = self.hosted.remove(place);
+            known.ends.left.store(true, Ordering::SeqCst);
         }
     }
 }

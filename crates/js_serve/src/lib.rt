@@ -26,6 +26,6 @@ pub use desk::Desk;
 pub use driving::{NewKernel, Opened, Opening, drive_kernel};
 pub use ending::Ending;
 pub use job::{Job, Parser, parse, work};
-pub use kernels::{Free, Kernels};
+pub use kernels::Kernels;
 pub use limits::Limits;
 pub use recording::Scribe;

@@ -25,14 +25,14 @@ pub(crate) const QUICK: u64 = 1;
 /// How many milliseconds pass before a refused save is tried again.
 const SAVE_PAUSE: u64 = 1_000;
 
-/// How many milliseconds pass where there is no recorder.
+/// How many milliseconds pass where there is no kernel.
 const IDLE: u64 = 3_600_000;
 
 /// What a look at all recorders found.
 #[derive(Clone, Copy, Debug, PartialEq, Eq)]
 pub(crate) enum Found {
-    /// There is no recorder.
-    NoRecorder,
+    /// There is no kernel.
+    NoKernel,
     Nothing,
     Entries,
     /// There may be more to read now.
@@ -53,11 +53,54 @@ impl Found {
 
     fn urgency(self) -> u8 {
         match self {
-            Found::NoRecorder => 0,
+            Found::NoKernel => 0,
             Found::Nothing => 1,
             Found::Entries => 2,
             Found::Ending => 3,
             Found::More => 4,
+        }
+    }
+}
+
+/// A look at all recorders that is under way, one after the other. Between two of them calls are taken.
+#[derive(Clone, Copy, Debug)]
+pub(crate) struct Round {
+    /// Which recorder is next.
+    pub(crate) place: usize,
+    /// Whether refused saves are tried again.
+    pub(crate) saves: bool,
+    /// The most urgent that was found so far.
+    pub(crate) found: Found,
+    /// How many calls were taken since the last recorder.
+    pub(crate) calls: u32,
+}
+
+impl Round {
+    /// No recorder has read yet.
+    pub(crate) fn new(saves: bool, found: Found) -> Round {
+        Round {
+            place: 0,
+            saves,
+            found,
+            calls: 0,
+        }
+    }
+
+    /// After one more recorder.
+    pub(crate) fn after(self, found: Found) -> Round {
+        Round {
+            place: self.place.saturating_add(1),
+            saves: self.saves,
+            found: self.found.or(found),
+            calls: 0,
+        }
+    }
+
+    /// After one more call.
+    pub(crate) fn after_call(self) -> Round {
+        Round {
+            calls: self.calls.saturating_add(1),
+            ..self
         }
     }
 }
@@ -88,7 +131,7 @@ impl Rhythm {
             0
         };
         let pause = match found {
-            Found::NoRecorder => IDLE,
+            Found::NoKernel => IDLE,
             Found::More => 0,
             Found::Ending => QUICK,
             Found::Entries => SHORT,

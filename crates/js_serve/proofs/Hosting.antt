@@ -1,0 +1,140 @@
+-- What a step of one kernel is to those who see of each kernel what it was told.
+use Rattle.std.proofs.Common.{◌≡◌, ◌<◌, ◌+◌, ℕ, Bool, true, false, cond, List, [], ◌∷◌, ◌++◌, map, length, get_or, set, refl, sym, ap, ◌∙◌, subst, Option, Some, None, Result, Ok, Err, arith}
+use Rattle.std.specs.Prelude.{IfOk, IfSome, OnErr, MatchBool, is_ok, not, position, slice_get, nat_lt, option_map}
+use Rattle.std.specs.List.{prefix_len, position_or_len}
+use Rattle.std.specs.Str.{bytes_eq}
+use Rattle.std.proofs.Math.Seq.{map-set_same}
+use Rattle.std.proofs.lemmas.List.{map-append, map-set, length-map}
+use Rattle.std.proofs.lemmas.Option.{slice_get-map, slice_get_read}
+use borrow.Author.Tests.{ltb-true}
+use Rattle.jk_log.specs.Asked.{sort_as}
+use Rattle.jk_log.specs.declared.arrival.Arrival.{Arrival}
+use Rattle.jk_log.specs.declared.arrival.Sort.{Sort}
+use Rattle.jk_log.specs.declared.arrival.What.{What}
+use Rattle.jk_queues.specs.declared.inbox.Full.{Full}
+use Rattle.js_home.specs.Homes.{Tells, told_by, arrival_of}
+use Rattle.js_home.specs.declared.home.Home.{Home}
+use Rattle.jk_queues.specs.Ends.{seat_inbox, sent_by}
+use Rattle.std.specs.declared.alloc.AllocError.{AllocError}
+use Rattle.js_rest.specs.declared.untold.Untold.{Untold}
+use Rattle.js_tables.specs.declared.plan.Command.{Command}
+use Rattle.js_serve.specs.Told.{KernelState, IsToldOneMore, Tells as TellsOne, asked, outcome, told_more, place_in}
+use Rattle.js_serve.specs.Hosting.{HasTold, IsPlaceOf, IsPlaceAt, state_of, state_in, home_of, kernel_of, states_of}
+use Rattle.js_serve.specs.declared.call.Place.{Place}
+use Rattle.js_serve.specs.declared.kernels.Hosted.{Hosted}
+
+prefix_map : {X Y : Type 0} (f : X → Y) (p : Y → Bool) (xs : List X) → prefix_len p (map f xs) ≡ prefix_len (λ x. p (f x)) xs
+prefix_map f p [] = refl
+prefix_map f p (x ∷ xs) = ap (λ n. cond (p (f x)) (1 + n) 0) (prefix_map f p xs)
+
+some_of : (b : Bool) (n i : ℕ) → cond b (Some n) None ≡ Some i → (b ≡ true) × (n ≡ i)
+some_of true n i e = (refl, cc)
+some_of false n i e = cc
+
+position_map : {X Y : Type 0} (f : X → Y) (p : Y → Bool) (xs : List X) → position p (map f xs) ≡ position (λ x. p (f x)) xs
+position_map f p xs =
+    let q = prefix_map f (λ y. not (p y)) xs in
+    let l = length-map xs f in
+    λ i. cond (nat_lt (q i) (l i)) (Some (q i)) None
+
+pub position_low : {X : Type 0} (p : X → Bool) (xs : List X) (i : ℕ) → position p xs ≡ Some i → i < length xs
+position_low p xs i e =
+    let s = some_of (nat_lt (position_or_len p xs) (length xs)) (position_or_len p xs) i e in
+    let low = ltb-true (position_or_len p xs) (length xs) s.0 in
+    let same = s.1 in
+    omega arith
+
+untold_stays : (old ks : List KernelState) (r : Result (Unit {0}) Untold) (id : List ℕ) (command : Command) → TellsOne old id command r ks → OnErr r (ks ≡ old)
+untold_stays old ks (Ok done) id command t = tt
+untold_stays old ks (Err why) id command t = t
+
+module _ {L S T M : Type 0} where
+  -- seat 0 has sent something; or nothing
+  pub told_state : (h g : Home L S T M) (what : What) (done : Unit {0}) → Tells h what (Ok done) g → state_of g ≡ told_more (sort_as what) (state_of h)
+  told_state h g what done t =
+      let told = ap (map (λ (x : Arrival). sort_as x.what)) t.0 ∙ map-append (λ (x : Arrival). sort_as x.what) (told_by h) (arrival_of (told_by h) what ∷ []) in
+      λ i. record { inbox = t.1 i; told = told i }
+
+  pub untold_state : (h g : Home L S T M) (what : What) (full : Full) → Tells h what (Err full) g → state_of g ≡ state_of h
+  untold_state h g what full t = λ i. record { inbox = t.1 i; told = map (λ (x : Arrival). sort_as x.what) (t.0 i) }
+
+  -- what the desk sees of a home, where it was told something or not, and where seat 0 stays
+  told_by_result : (old new : Option (Home L S T M)) (h g : Home L S T M) (what : What) (r : Result (Unit {0}) Full) → Tells h what r g → old ≡ Some h → new ≡ Some g
+      → MatchBool (is_ok r) (HasTold (sort_as what) (state_in old) (state_in new)) (state_in new ≡ state_in old)
+  told_by_result old new h g what (Ok done) t was now = (state_of h, ap state_in was, ap state_in now ∙ ap Some (told_state h g what done t))
+  told_by_result old new h g what (Err full) t was now = ap state_in now ∙ (ap Some (untold_state h g what full t) ∙ sym (ap state_in was))
+
+  pub told_home : (old new : Option (Home L S T M)) (h g : Home L S T M) (what : What) (r : Result (Unit {0}) Full) (b : Bool) → b ≡ is_ok r → Tells h what r g → old ≡ Some h
+      → new ≡ Some g → MatchBool b (HasTold (sort_as what) (state_in old) (state_in new)) (state_in new ≡ state_in old)
+  told_home old new h g what r b e t was now =
+      subst (λ v. MatchBool v (HasTold (sort_as what) (state_in old) (state_in new)) (state_in new ≡ state_in old)) (sym e) (told_by_result old new h g what r t was now)
+
+  pub kept_home : (old new : Option (Home L S T M)) (h g : Home L S T M) → g.zero ≡ h.zero → old ≡ Some h → new ≡ Some g → state_in new ≡ state_in old
+  kept_home old new h g zero was now =
+      ap state_in now
+      ∙ ((λ i. Some (record { inbox = seat_inbox (zero i); told = map (λ (x : Arrival). sort_as x.what) (sent_by (zero i)) })) ∙ sym (ap state_in was))
+
+  pub id_place : (id : List ℕ) (ks : List (Hosted L S T M)) → place_in id (states_of ks) ≡ position (λ k. bytes_eq k.id id) ks
+  id_place id ks = position_map kernel_of (λ (k : KernelState). bytes_eq k.id id) ks
+
+  there_at : (ks : List (Hosted L S T M)) (place : ℕ) (was : Hosted L S T M) → place < length ks → was ≡ get_or ks place was
+      → slice_get (states_of ks) place ≡ Some (kernel_of was)
+  there_at ks place was low at = slice_get-map kernel_of ks place ∙ ap (option_map kernel_of) (slice_get_read ks (length ks) place was refl low at)
+
+  -- what a kernel was told stays; or it was told one thing more
+  pub kept_at : (ks : List (Hosted L S T M)) (place : ℕ) (was now : Hosted L S T M) → was ≡ get_or ks place was → now.id ≡ was.id → home_of now.ends ≡ home_of was.ends
+      → states_of (set ks place now) ≡ states_of ks
+  kept_at ks place was now at id home = map-set_same kernel_of ks place now was ((λ i. record { id = id i; home = home i }) ∙ ap kernel_of at)
+
+  pub told_at : (ks : List (Hosted L S T M)) (place : ℕ) (was now : Hosted L S T M) (id : List ℕ) (s : Sort) → position (λ k. bytes_eq k.id id) ks ≡ Some place
+      → was ≡ get_or ks place was → now.id ≡ was.id → HasTold s (home_of was.ends) (home_of now.ends) → IsToldOneMore s id (states_of ks) (states_of (set ks place now))
+  told_at ks place was now id s first at same told = record {
+    place = place;
+    first = id_place id ks ∙ first;
+    was = kernel_of was;
+    there = there_at ks place was (position_low (λ (k : Hosted L S T M). bytes_eq k.id id) ks place first) at;
+    home = told.0;
+    opened = told.1;
+    told = map-set kernel_of ks place now ∙ (λ i. set (states_of ks) place (record { id = same i; home = told.2 i }));
+  }
+
+  pub place_at : (ks : List (Hosted L S T M)) (place : ℕ) (was : Hosted L S T M) (id : List ℕ) (p : Place L S T M) → position (λ k. bytes_eq k.id id) ks ≡ Some place
+      → was ≡ get_or ks place was → IsPlaceOf (home_of was.ends) p → IsPlaceAt id (states_of ks) p
+  place_at ks place was id p first at is =
+      (place, kernel_of was, id_place id ks ∙ first, there_at ks place was (position_low (λ (k : Hosted L S T M). bytes_eq k.id id) ks place first) at, is)
+
+  -- the place of the first kernel of an identifier was found
+  pub found_at : (ks xs : List (Hosted L S T M)) (id : List ℕ) (place : ℕ) → xs ≡ ks → Some place ≡ position (λ k. bytes_eq k.id id) xs
+      → position (λ k. bytes_eq k.id id) ks ≡ Some place
+  found_at ks xs id place same found = sym (found ∙ ap (position (λ (k : Hosted L S T M). bytes_eq k.id id)) same)
+
+  -- a command was told to a kernel, or was not
+  told_or_not : (ks : List (Hosted L S T M)) (place : ℕ) (was now : Hosted L S T M) (id : List ℕ) (command : Command) (b : Bool)
+      → position (λ k. bytes_eq k.id id) ks ≡ Some place → was ≡ get_or ks place was → now.id ≡ was.id
+      → MatchBool b (HasTold (asked command) (home_of was.ends) (home_of now.ends)) (home_of now.ends ≡ home_of was.ends)
+      → TellsOne (states_of ks) id command (outcome b) (states_of (set ks place now))
+  told_or_not ks place was now id command true first at same told = told_at ks place was now id (asked command) first at same told
+  told_or_not ks place was now id command false first at same kept = kept_at ks place was now at same kept
+
+  pub tells_at : (old : List KernelState) (ks : List (Hosted L S T M)) (place : ℕ) (was now : Hosted L S T M) (id : List ℕ) (command : Command) (s : Sort) (b : Bool)
+      (r : Result (Unit {0}) Untold) → states_of ks ≡ old → position (λ k. bytes_eq k.id id) ks ≡ Some place → was ≡ get_or ks place was → now.id ≡ was.id
+      → s ≡ asked command → r ≡ outcome b → MatchBool b (HasTold s (home_of was.ends) (home_of now.ends)) (home_of now.ends ≡ home_of was.ends)
+      → TellsOne old id command r (states_of (set ks place now))
+  tells_at old ks place was now id command s b r view first at same sort is told =
+      let meant = subst (λ (t : Sort). MatchBool b (HasTold t (home_of was.ends) (home_of now.ends)) (home_of now.ends ≡ home_of was.ends)) sort told in
+      subst (λ (x : List KernelState × Result (Unit {0}) Untold). TellsOne x.0 id command x.1 (states_of (set ks place now))) (λ i. (view i, sym is i))
+      (told_or_not ks place was now id command b first at same meant)
+
+  pub untold_at : (old : List KernelState) (ks : List (Hosted L S T M)) (place : ℕ) (was now : Hosted L S T M) (id : List ℕ) (command : Command) (s : Sort) (b : Bool)
+      (r : Result (Unit {0}) Untold) → states_of ks ≡ old → position (λ k. bytes_eq k.id id) ks ≡ Some place → was ≡ get_or ks place was → now.id ≡ was.id
+      → s ≡ asked command → r ≡ outcome b → MatchBool b (HasTold s (home_of was.ends) (home_of now.ends)) (home_of now.ends ≡ home_of was.ends)
+      → OnErr r (states_of (set ks place now) ≡ old)
+  untold_at old ks place was now id command s b r view first at same sort is told =
+      untold_stays old (states_of (set ks place now)) r id command (tells_at old ks place was now id command s b r view first at same sort is told)
+
+  -- what holds of a place that was lent
+  pub lent_so : (r : Result (Option (Place L S T M)) AllocError) (P Q : Place L S T M → Type 0) → ((p : Place L S T M) → P p → Q p)
+      → IfOk r (λ o. IfSome o P) → IfOk r (λ o. IfSome o Q)
+  lent_so (Ok (Some p)) P Q f h = f p h
+  lent_so (Ok None) P Q f h = tt
+  lent_so (Err e) P Q f h = tt

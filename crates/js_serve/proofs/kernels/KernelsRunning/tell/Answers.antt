@@ -1,0 +1,22 @@
+use Rattle.std.proofs.Common.{refl}
+use Rattle.jk_log.specs.Asked.{sort_as}
+use Rattle.js_serve.proofs.Hosting.{found_at, tells_at, untold_at}
+use Rattle.js_serve.proofs.kernels.KernelsRunning.tell.Goals as goal
+
+pub returns-clause-told : goal.returns-clause-told
+returns-clause-told g c =
+    let was = c.index_mut.result.now in
+    let ks = c.self.inside.hosted.items in
+    let place = c.in-Some-place_of.place in
+    let first = found_at ks c.as_slice.result.now c.args.id.now place c.as_slice.ensures.value c.in-Some-place_of.ensures in
+    tells_at c.args.self.now ks place was (record { id = was.id; ends = c.tell-sent.new.self }) c.args.id.now c.args.command (sort_as c.in-Some.what) c.tell-sent.result c.outcome.result
+    c.self.view_is first c.index_mut.ensures.value refl c.in-Some.ensures c.outcome.ensures c.tell-sent.ensures
+
+pub returns-clause-err : goal.returns-clause-err
+returns-clause-err g c =
+    let was = c.index_mut.result.now in
+    let ks = c.self.inside.hosted.items in
+    let place = c.in-Some-place_of.place in
+    let first = found_at ks c.as_slice.result.now c.args.id.now place c.as_slice.ensures.value c.in-Some-place_of.ensures in
+    untold_at c.args.self.now ks place was (record { id = was.id; ends = c.tell-sent.new.self }) c.args.id.now c.args.command (sort_as c.in-Some.what) c.tell-sent.result c.outcome.result
+    c.self.view_is first c.index_mut.ensures.value refl c.in-Some.ensures c.outcome.ensures c.tell-sent.ensures

@@ -1,0 +1,59 @@
+-- To be believed.
+-- The kernels that run, and what telling one a command does.
+use Rattle.std.specs.Prelude.{◌≡◌, ℕ, Bool, true, false, List, [], ◌∷◌, ◌++◌, Option, Some, None, Result, Ok, Err, position, slice_get, slice_set}
+use Rattle.std.specs.Str.{bytes_eq}
+use Rattle.atomic_table.specs.Seated.{TableId}
+use Rattle.jk_log.specs.declared.arrival.Sort.{Sort}
+use Rattle.jk_log.specs.declared.arrival.Sort.TheVariants as sort
+use Rattle.js_tables.specs.declared.plan.Command.{Command}
+use Rattle.js_tables.specs.declared.plan.Command.TheVariants as command
+use Rattle.js_rest.specs.declared.untold.Untold.{Untold}
+use Rattle.js_rest.specs.declared.untold.Untold.TheVariants.{Full}
+
+-- what a kernel has to do for a command
+abbrev pub asked : Command → Sort
+asked command.Interrupt = sort.Interrupt
+asked command.Restart = sort.Shutdown true
+asked command.Shutdown = sort.Shutdown false
+
+-- its ends at the server: the inbox to which seat 0 sends, and what that has told the kernel so far, in order
+pub record HomeState : Type 0 where
+  pub inbox : TableId
+  pub told : List Sort
+
+-- a kernel that runs; there is no home until its thread has handed the ends out
+pub record KernelState : Type 0 where
+  pub id : List ℕ
+  pub home : Option HomeState
+
+-- what is answered to a command that was sent, or for which the inbox had no room
+abbrev pub outcome : Bool → Result (Unit {0}) Untold
+outcome true = Ok tt
+outcome false = Err Full
+
+-- seat 0 has told one thing more
+abbrev pub told_more : Sort → HomeState → HomeState
+told_more s h = record { inbox = h.inbox; told = h.told ++ s ∷ [] }
+
+-- the place of the first kernel of an identifier
+abbrev pub place_in : List ℕ → List KernelState → Option ℕ
+place_in id kernels = position (λ k. bytes_eq k.id id) kernels
+
+-- one more kernel runs, whose ends have not come yet
+abbrev pub Begins : List KernelState → List ℕ → List KernelState → Type 0
+Begins old id new = new ≡ old ++ record { id = id; home = None } ∷ []
+
+-- the kernel of this identifier was told one thing more, and no other kernel was told anything
+pub record IsToldOneMore (s : Sort) (id : List ℕ) (old new : List KernelState) : Type 0 where
+  pub place : ℕ
+  pub first : place_in id old ≡ Some place
+  pub was : KernelState
+  pub there : slice_get old place ≡ Some was
+  pub home : HomeState
+  pub opened : was.home ≡ Some home
+  pub told : new ≡ slice_set old place (record { id = was.id; home = Some (told_more s home) })
+
+-- Where a command was told, the kernel of that identifier was sent it from seat 0, once; where it was not told, nothing was sent
+abbrev pub Tells : List KernelState → List ℕ → Command → Result (Unit {0}) Untold → List KernelState → Type 0
+Tells old id command (Ok done) new = IsToldOneMore (asked command) id old new
+Tells old id command (Err why) new = new ≡ old
