@@ -122,9 +122,13 @@ fn joins_streams_of_one_name(rt: HostRuntime) -> Result<(), Fail> {
     Ok(())
 }
 
-const REFUSED: [(&str, NbFault); 7] = [
+const REFUSED: [(&str, NbFault); 8] = [
     ("{", NbFault::NotJson),
     ("[1.5]", NbFault::NotWhole),
+    (
+        "{\"cells\":[],\"metadata\":{\"x\":1.5},\"nbformat\":4,\"nbformat_minor\":4}",
+        NbFault::NotWhole,
+    ),
     ("7", NbFault::OtherVersion),
     ("{\"nbformat\":4}", NbFault::OtherVersion),
     (
@@ -199,7 +203,7 @@ const FRACTION: &str =
     "{\"cell_type\":\"raw\",\"id\":\"c\",\"metadata\":{\"n\":1.5},\"source\":\"\"}";
 
 // A minor version, cells, and the fault that comes first, if there is one.
-const FIRST: [(u32, &[&str], Option<NbFault>); 7] = [
+const FIRST: [(u32, &[&str], Option<NbFault>); 8] = [
     (5, &[GOOD], None),
     (5, &[BAD_ID], Some(NbFault::BadId)),
     (5, &[GOOD, GOOD], Some(NbFault::RepeatedId)),
@@ -211,6 +215,7 @@ const FIRST: [(u32, &[&str], Option<NbFault>); 7] = [
         &[GOOD, GOOD, BAD_ID, NO_SOURCE, FRACTION],
         Some(NbFault::NotWhole),
     ),
+    (4, &[FRACTION], Some(NbFault::NotWhole)),
 ];
 
 // Texts with a comma between each two.

@@ -121,6 +121,19 @@ no file
 200 OK {"content":null,"created":"2001-09-09T01:46:40.123456Z","format":null,"last_modified":"2001-09-09T01:46:40.123456Z","mimetype":null,"name":"m.ipynb","path":"m.ipynb","type":"notebook","writable":true}
 > GET /api/contents/m.ipynb
 400 Bad Request
+-- A notebook of 4.4 that came there by its name is shown as one of 4.5, and stays what it was until it is put.
+> PUT /api/contents/o.txt {"content":"{\"cells\":[{\"cell_type\":\"raw\",\"metadata\":{},\"source\":\"a\"},{\"cell_type\":\"raw\",\"id\":\"run-1\",\"metadata\":{},\"source\":\"b\"},{\"cell_type\":\"raw\",\"metadata\":{},\"source\":\"c\"}],\"metadata\":{},\"nbformat\":4,\"nbformat_minor\":4}","format":"text","type":"file"}
+201 Created {"content":null,"created":"2001-09-09T01:46:40.123456Z","format":null,"last_modified":"2001-09-09T01:46:40.123456Z","mimetype":null,"name":"o.txt","path":"o.txt","type":"file","writable":true}
+> PATCH /api/contents/o.txt {"path":"o.ipynb"}
+200 OK {"content":null,"created":"2001-09-09T01:46:40.123456Z","format":null,"last_modified":"2001-09-09T01:46:40.123456Z","mimetype":null,"name":"o.ipynb","path":"o.ipynb","type":"notebook","writable":true}
+> GET /api/contents/o.ipynb
+200 OK {"content":{"cells":[{"cell_type":"raw","id":"run-2","metadata":{},"source":["a"]},{"cell_type":"raw","id":"run-1","metadata":{},"source":["b"]},{"cell_type":"raw","id":"run-3","metadata":{},"source":["c"]}],"metadata":{},"nbformat":4,"nbformat_minor":5},"created":"2001-09-09T01:46:40.123456Z","format":"json","last_modified":"2001-09-09T01:46:40.123456Z","mimetype":null,"name":"o.ipynb","path":"o.ipynb","type":"notebook","writable":true}
+? o.ipynb
+"{\"cells\":[{\"cell_type\":\"raw\",\"metadata\":{},\"source\":\"a\"},{\"cell_type\":\"raw\",\"id\":\"run-1\",\"metadata\":{},\"source\":\"b\"},{\"cell_type\":\"raw\",\"metadata\":{},\"source\":\"c\"}],\"metadata\":{},\"nbformat\":4,\"nbformat_minor\":4}"
+> PUT /api/contents/o.ipynb {"content":{"cells":[{"cell_type":"raw","metadata":{},"source":"a"},{"cell_type":"raw","id":"run-1","metadata":{},"source":"b"},{"cell_type":"raw","metadata":{},"source":"c"}],"metadata":{},"nbformat":4,"nbformat_minor":4},"type":"notebook"}
+200 OK {"content":null,"created":"2001-09-09T01:46:40.123456Z","format":null,"last_modified":"2001-09-09T01:46:40.123456Z","mimetype":null,"name":"o.ipynb","path":"o.ipynb","type":"notebook","writable":true}
+? o.ipynb
+"{\n  \"cells\": [\n    {\n      \"cell_type\": \"raw\",\n      \"id\": \"run-2\",\n      \"metadata\": {},\n      \"source\": [\n        \"a\"\n      ]\n    },\n    {\n      \"cell_type\": \"raw\",\n      \"id\": \"run-1\",\n      \"metadata\": {},\n      \"source\": [\n        \"b\"\n      ]\n    },\n    {\n      \"cell_type\": \"raw\",\n      \"id\": \"run-3\",\n      \"metadata\": {},\n      \"source\": [\n        \"c\"\n      ]\n    }\n  ],\n  \"metadata\": {},\n  \"nbformat\": 4,\n  \"nbformat_minor\": 5\n}\n"
 "#;
 
 // What is put at a notebook's path is a notebook, and is stored as the one text of it.
