@@ -6,9 +6,9 @@ use js_ws::Protocol;
 use std::test::Fail;
 use test_language::TestLanguage;
 
-/// A text frame of a kernel_info request, masked by zeros.
-const ASKS: &[u8] =
-    b"\x81\xd7\x00\x00\x00\x00{\"header\":{\"msg_id\":\"m1\",\"session\":\"s1\",\"msg_type\":\"kernel_info_request\"},\"content\":{}}";
+/// A text frame of a kernel_info request, masked by the key of RFC 6455, section 5.7.
+pub(crate) const ASKS: &[u8] =
+    b"\x81\xd77\xfa!=L\xd8IXV\x9eDO\x15\xc0Z\x1fZ\x89Fb^\x9e\x03\x07\x15\x97\x10\x1f\x1b\xd8RXD\x89HRY\xd8\x1b\x1fD\xcb\x03\x11\x15\x97RZh\x8eXMR\xd8\x1b\x1f\x5c\x9fSSR\x96~TY\x9cNbE\x9fPHR\x89U\x1fJ\xd6\x03^X\x94UXY\x8e\x03\x07L\x87\x5c";
 
 /// A frame of the same request as a binary message, made by serialize_msg_to_ws_v1 of Jupyter Server 1.23.3, masked by zeros.
 const ASKS_V1: &[u8] =

@@ -4,6 +4,8 @@
 #[cfg(test)]
 mod arrivals;
 #[cfg(test)]
+mod faults;
+#[cfg(test)]
 mod losses;
 #[cfg(test)]
 mod scene;

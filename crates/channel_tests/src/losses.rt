@@ -60,13 +60,14 @@ struct Made<L: Language> {
     parsers: Vec<WorkerEnd<ParsedCell<L>>>,
 }
 
-/// A driver, seat 3 and its follower, another seat, and a parser.
-struct Cast<L: Language> {
-    driver: Driver<L>,
-    other: Seat,
-    seat: Seat,
-    follower: Follower<L>,
-    parsers: Vec<WorkerEnd<ParsedCell<L>>>,
+/// A driver, seat 3 and its follower, another seat, another follower, and a parser.
+pub(crate) struct Cast<L: Language> {
+    pub(crate) driver: Driver<L>,
+    pub(crate) other: Seat,
+    pub(crate) seat: Seat,
+    pub(crate) follower: Follower<L>,
+    pub(crate) watch: Follower<L>,
+    pub(crate) parsers: Vec<WorkerEnd<ParsedCell<L>>>,
 }
 
 fn make<L: Language>(alloc: Global) -> Result<Made<L>, AllocError>
@@ -86,7 +87,10 @@ fn make<L: Language>(alloc: Global) -> Result<Made<L>, AllocError>
 }
 
 /// A driver with what it works with.
-fn make_cast<R: Wait, L: Language>(rt: &R, alloc: Global) -> Result<Cast<L>, AllocError> {
+pub(crate) fn make_cast<R: Wait, L: Language>(
+    rt: &R,
+    alloc: Global,
+) -> Result<Cast<L>, AllocError> {
     let made = make::<L>(alloc)?;
     let Board {
         publisher,
@@ -102,18 +106,20 @@ fn make_cast<R: Wait, L: Language>(rt: &R, alloc: Global) -> Result<Cast<L>, All
     let seat = seats.three;
     let other = seats.one;
     let follower = followers.three;
+    let watch = followers.recorder;
     let driver = Driver::new(alloc, kernel, taker, pool, publisher);
     Ok(Cast {
         driver,
         other,
         seat,
         follower,
+        watch,
         parsers,
     })
 }
 
 /// Stops the parser, and ends the board.
-fn finish<R: Wait, L: Language>(rt: &R, driver: Driver<L>) {
+pub(crate) fn finish<R: Wait, L: Language>(rt: &R, driver: Driver<L>) {
     let Parts {
         kernel: _,
         taker: _,
@@ -156,7 +162,7 @@ where
 }
 
 /// How many entries a turn sent.
-fn sent_by(turn: Turn) -> usize {
+pub(crate) fn sent_by(turn: Turn) -> usize {
     match turn {
         Turn::Open(count) | Turn::Quiet(count) | Turn::Closed(count) => count,
     }
@@ -185,6 +191,7 @@ where
         other: _,
         seat,
         follower,
+        watch: _,
         mut parsers,
     } = cast;
     let (follower, _) = follower.pass();
@@ -263,6 +270,7 @@ fn late_screen<R: Wait>(rt: &R, alloc: Global, passes: bool) -> Result<Option<us
         other,
         seat,
         follower,
+        watch: _,
         parsers: _,
     } = cast;
     let driver = crowd(rt, driver, other);

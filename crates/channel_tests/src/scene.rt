@@ -36,7 +36,7 @@ pub(crate) fn names(alloc: Global, protocol: Protocol) -> Result<Names, AllocErr
 }
 
 /// Sends joins until the inbox is full.
-fn fill<R: Wait>(rt: &R, seat: Seat) {
+pub(crate) fn fill<R: Wait>(rt: &R, seat: Seat) {
     let mut seat = seat;
     for _ in 0..257 {
         let join = Arrival {

@@ -82,6 +82,70 @@ impl Write for Socket<'_> {
     }
 }
 
+/// A stream of which one read or write fails.
+#[derive(Drop)]
+pub(crate) struct Failing<'s> {
+    socket: Socket<'s>,
+    fault: Fault,
+    has_failed: &'s Cell<bool>,
+}
+
+/// What fails: the read or the write of this number, counted down from 1 to 0.
+#[derive(Clone, Copy)]
+pub(crate) enum Fault {
+    Read(u32),
+    Write(u32),
+}
+
+impl<'s> Failing<'s> {
+    /// `has_failed` says whether it has failed.
+    pub(crate) fn new(socket: Socket<'s>, fault: Fault, has_failed: &'s Cell<bool>) -> Failing<'s> {
+        Failing {
+            socket,
+            fault,
+            has_failed,
+        }
+    }
+}
+
+/// Counts a call. It fails where it is the one that is to fail.
+fn count(left: &mut u32, has_failed: &Cell<bool>, kind: ErrorKind) -> io::Result<()> {
+    match *left {
+        0 => Ok(()),
+        1 => {
+            *left = 0;
+            has_failed.set(true);
+            Err(kind.into())
+        }
+        more => {
+            *left = more - 1;
+            Ok(())
+        }
+    }
+}
+
+impl Read for Failing<'_> {
+    fn read(&mut self, buf: &mut [u8]) -> io::Result<usize> {
+        if let Fault::Read(left) = &mut self.fault {
+            count(left, self.has_failed, ErrorKind::ConnectionReset)?;
+        }
+        self.socket.read(buf)
+    }
+}
+
+impl Write for Failing<'_> {
+    fn write(&mut self, buf: &[u8]) -> io::Result<usize> {
+        if let Fault::Write(left) = &mut self.fault {
+            count(left, self.has_failed, ErrorKind::BrokenPipe)?;
+        }
+        self.socket.write(buf)
+    }
+
+    fn flush(&mut self) -> io::Result<()> {
+        Ok(())
+    }
+}
+
 /// A stream whose written bytes are compared with others.
 #[derive(Drop)]
 pub(crate) struct Compared<'s> {

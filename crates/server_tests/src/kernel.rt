@@ -7,7 +7,7 @@ use crate::plays::{go_on, play};
 use jk_core::Work::{NeedsParse, Ran, Rest};
 use jk_core::{Kernel, Used};
 use jk_language::Language;
-use jk_log::Job;
+use jk_log::{Job, ParsedCell};
 use json_form::Text;
 use std::alloc::Global;
 use std::process::Abort;
@@ -84,16 +84,25 @@ fn parse_in_reverse<L: Language>(
     Ok(())
 }
 
-/// Whether the parse of another text under the first number is given back.
+/// Whether the parse of a text under the first number is handed back as it was given.
 fn is_stranger<L: Language>(
     alloc: Global,
     kernel: &mut Kernel<L>,
     text: &str,
 ) -> Result<bool, Fail> {
-    let number = 1;
-    let text = Text::from_str(alloc, text)?;
-    let used = kernel.parsed(Job { number, text }.parse(alloc));
-    Ok(matches!(used, Used::Stranger(_)))
+    let job = Job {
+        number: 1,
+        text: Text::from_str(alloc, text)?,
+    };
+    Ok(is_handed_back(&kernel.parsed(job.parse(alloc)), 1, text))
+}
+
+/// Whether the result of a job of this number and text was handed back.
+fn is_handed_back<L: Language>(used: &Used<ParsedCell<L>>, number: u64, text: &str) -> bool {
+    match used {
+        Used::Kept => false,
+        Used::Stranger(back) => back.job() == number && back.text().as_str() == text,
+    }
 }
 
 #[test]
@@ -114,6 +123,32 @@ fn results_of_parsing(rt: HostRuntime) -> Result<(), Fail> {
         kernel,
         &[NoJob, Turns(10, Ran), Turns(10, Ran), Shows(shown)],
     )
+}
+
+/// The first text is refused, and so the second is aborted before its result comes.
+fn abort_before_the_result<L: Language>(
+    rt: &impl Abort,
+    alloc: Global,
+    kernel: &mut Kernel<L>,
+) -> Result<(), Fail> {
+    if let (Some(first), Some(second)) = (kernel.next_job()?, kernel.next_job()?) {
+        assert!(rt; is_kept(alloc, kernel, first));
+        let shown =
+            "busy for m1, input 1 for m1, error CompileError: compile error 5 at 1:1 for m1, err 1 CompileError for m1 to 1, idle for m1, busy for m2, aborted for m2 to 2, idle for m2";
+        go_on(rt, alloc, kernel, &[Turns(10, Ran), Shows(shown)])?;
+        assert!(rt; is_handed_back(&kernel.parsed(second.parse(alloc)), 2, WRITES));
+    } else {
+        assert!(rt; false);
+    }
+    go_on(rt, alloc, kernel, &[NoJob, Turns(10, Rest)])
+}
+
+#[test]
+fn a_result_of_an_aborted_cell(rt: HostRuntime) -> Result<(), Fail> {
+    let mut kernel: Kernel<TestLanguage> = Kernel::new(rt.alloc())?;
+    let both = [Cell(1, "m1", REFUSED), Cell(2, "m2", WRITES)];
+    go_on(&rt, rt.alloc(), &mut kernel, &both)?;
+    abort_before_the_result(&rt, rt.alloc(), &mut kernel)
 }
 
 #[test]

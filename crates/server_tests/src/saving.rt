@@ -190,14 +190,19 @@ impl Device for Failing {
 const EMPTY_FILE: &str =
     "{\n  \"cells\": [],\n  \"metadata\": {},\n  \"nbformat\": 4,\n  \"nbformat_minor\": 5\n}\n";
 
-/// A save asks the device three times. Where one of these fails it is refused, and the next save is made.
+/// A save asks the device three times. Where one of these fails it is refused, and the next save is made. Where the fourth call
+/// fails the first save is made, and the second is refused.
 #[test]
 fn a_failing_device_refuses_a_save(rt: HostRuntime) -> Result<(), Fail> {
     let alloc = rt.alloc();
     let recorder = recorder(alloc)?;
-    for calls in 1..4 {
+    for calls in 1..5 {
         let shelf = MemoryShelf::new(alloc)?;
         let mut shelf = FileShelf::over(alloc, Failing { shelf, calls });
+        if calls == 4 {
+            assert_eq!(rt; recorder.save(&mut shelf), Ok(()));
+            assert_eq!(rt; shelf.failures(), 0);
+        }
         assert_eq!(rt; recorder.save(&mut shelf), Err(ShelfRefusal::Device));
         assert_eq!(rt; shelf.failures(), 1);
         assert_eq!(rt; recorder.save(&mut shelf), Ok(()));

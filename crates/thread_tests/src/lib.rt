@@ -12,5 +12,7 @@ pub mod following;
 mod inbox_tests;
 pub mod joins;
 #[cfg(test)]
+mod late_tests;
+#[cfg(test)]
 mod pool_tests;
 pub mod scene;
