@@ -100,6 +100,11 @@ fn statements_that_break_a_rule(rt: HostRuntime) -> Result<(), Fail> {
         ("CASE x OF 1 .. 3: | 5, 2 .. 2: END", Code::Label),
         ("CASE x OF 2 .. 1: END", Code::Label),
         ("PACK(x, y)", Code::LeftOut),
+        ("r(R).a := 1", Code::LeftOut),
+        ("x := r(R).a", Code::LeftOut),
+        ("t := r IS R", Code::LeftOut),
+        ("t := n IS R", Code::UnknownName),
+        ("Z(R) := 1", Code::ReadOnly),
     ] {
         assert_eq!(rt; body_code(rt.alloc(), body)?, Some(code), "{body}");
     }
@@ -113,6 +118,11 @@ fn declarations_and_procedures(rt: HostRuntime) -> Result<(), Fail> {
         ("CONST c = 1 DIV 0;", Some(Code::NotConstant)),
         ("VAR a: ARRAY 0 OF INTEGER;", Some(Code::Size)),
         ("VAR r: REAL;", Some(Code::LeftOut)),
+        (
+            "TYPE T = RECORD END; U = RECORD (T) END;",
+            Some(Code::LeftOut),
+        ),
+        ("CONST c = 1 IS INTEGER;", Some(Code::LeftOut)),
         ("IMPORT N;", Some(Code::NotLoaded)),
         ("IMPORT A;", Some(Code::ImportsItself)),
         ("PROCEDURE P(i: INTEGER); BEGIN P(i) END P;", None),

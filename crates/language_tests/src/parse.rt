@@ -86,15 +86,63 @@ fn codes(rt: HostRuntime) -> Result<(), Fail> {
         ),
         ("MODULE 1", Answer::Fault(Code::Token)),
         ("MODULE A; BEGIN", Answer::FaultAtEnd(Code::Token)),
+        ("MODULE A; BEGIN r(T)", Answer::FaultAtEnd(Code::Token)),
         ("MODULE A; END B.", Answer::Fault(Code::EndName)),
         ("MODULE A; END B", Answer::Fault(Code::EndName)),
         ("MODULE A; END A. M.P", Answer::Fault(Code::Token)),
-        (
-            "MODULE A; VAR r: RECORD (T) END; END A.",
-            Answer::Fault(Code::Token),
-        ),
     ] {
         assert_eq!(rt; read(rt.alloc(), text)?, answer, "{text}");
+    }
+    Ok(())
+}
+
+/// What comes of a module of this text between its name and its end.
+fn read_inside(alloc: Global, inside: &str) -> Result<Answer, AllocError> {
+    let text = format!(in alloc; "MODULE A; {inside} END A.")?;
+    read(alloc, text.as_str())
+}
+
+#[test]
+fn extensions_and_guards(rt: HostRuntime) -> Result<(), Fail> {
+    for inside in [
+        "VAR r: RECORD (T) END;",
+        "VAR r: RECORD (M.T) a: INTEGER END;",
+        "BEGIN r(T).x := 1",
+        "BEGIN r(M.T)[1] := 1",
+        "BEGIN r(T) := s",
+        "BEGIN r(T)(U).x := 1",
+        "BEGIN r(T)(U)",
+        "BEGIN P(r(T).x, r(T))",
+        "BEGIN x := r(T) IS M.T",
+        "BEGIN f(a)(b).c(d) := e(f)(g) = (h IS I)",
+        "BEGIN f(a)(b).c(d) := e(f)(g) + h IS I",
+    ] {
+        assert_eq!(rt;
+            read_inside(rt.alloc(), inside)?,
+            Answer::Module(1),
+            "{inside}"
+        );
+    }
+    Ok(())
+}
+
+#[test]
+fn parentheses_that_stand_for_nothing(rt: HostRuntime) -> Result<(), Fail> {
+    for inside in [
+        "VAR r: RECORD () END;",
+        "VAR r: RECORD (T END;",
+        "BEGIN P(1).x := 2",
+        "BEGIN P(T, U).x := 2",
+        "BEGIN P(a[1]).x := 2",
+        "BEGIN x := y IS 1",
+        "BEGIN x := a IS T & b",
+        "BEGIN x := a IS T IS U",
+    ] {
+        assert_eq!(rt;
+            read_inside(rt.alloc(), inside)?,
+            Answer::Fault(Code::Token),
+            "{inside}"
+        );
     }
     Ok(())
 }

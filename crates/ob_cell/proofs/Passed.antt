@@ -1,5 +1,5 @@
 -- Names after expressions and statements are words.
-use Rattle.std.proofs.Common.{ℕ, zero, suc, true, false, List, [], ◌∷◌, Some, None}
+use Rattle.std.proofs.Common.{ℕ, zero, suc, Bool, true, false, List, [], ◌∷◌, Some, None, subst}
 use Rattle.ob_scan.specs.declared.token.Kind.TheVariants as kinds
 use Rattle.ob_scan.specs.declared.token.Symbol.{Symbol}
 use Rattle.ob_scan.specs.declared.token.Symbol.TheVariants as s
@@ -9,7 +9,7 @@ use Rattle.ob_tree.specs.declared.tree.Case.{Case, out-Case}
 use Rattle.ob_tree.specs.declared.tree.Designator.{Designator, out-Designator}
 use Rattle.ob_tree.specs.declared.tree.Expr.{Expr, out-Expr}
 use Rattle.ob_tree.specs.declared.tree.Factor.{Factor, out-Factor}
-use Rattle.ob_tree.specs.declared.tree.Factor.TheOpen.{Factor-F, Selector-F}
+use Rattle.ob_tree.specs.declared.tree.Factor.TheOpen.{Factor-F, Selector-F, Related-F}
 use Rattle.ob_tree.specs.declared.tree.ForHead.{ForHead}
 use Rattle.ob_tree.specs.declared.tree.IdentDef.{IdentDef}
 use Rattle.ob_tree.specs.declared.tree.Label.{Label}
@@ -23,13 +23,14 @@ use Rattle.ob_tree.specs.declared.tree.Simple.{Simple, out-Simple}
 use Rattle.ob_tree.specs.declared.tree.Statement.{Statement, out-Statement}
 use Rattle.ob_tree.specs.declared.tree.Statement.TheOpen.{Statement-F}
 use Rattle.ob_tree.specs.declared.tree.Term.{Term, out-Term}
+use Rattle.ob_tree.specs.Ahead.{ahead}
 use Rattle.ob_tree.specs.Expression as p
-use Rattle.ob_tree.specs.Expression.{FactorLayer, SelectorLayer, mul_symbol, add_symbol, relation_symbol, sign_phrase, sign_symbol}
+use Rattle.ob_tree.specs.Expression.{FactorLayer, SelectorLayer, RelatedLayer, mul_symbol, add_symbol, relation_symbol, sign_phrase, sign_symbol}
 use Rattle.ob_tree.specs.Name as n
 use Rattle.ob_tree.specs.Phrase.{Phrase, ◌⨾◌, symbol_at, symbol, ident}
 use Rattle.ob_tree.specs.Statement as st
 use Rattle.ob_tree.specs.Statement.{StatementLayer}
-use Rattle.ob_cell.proofs.Tokens.{Keeps, then, one, empty, never, sign, mark, name, deeper, every, perhaps, between, list_of, behind_word}
+use Rattle.ob_cell.proofs.Tokens.{TokenWords, Keeps, then, one, empty, never, sign, mark, name, deeper, every, perhaps, between, list_of, behind_word}
 
 -- ---- names and labels
 
@@ -52,13 +53,17 @@ label_range r = then (label r.first) (perhaps (λ l. symbol s.DotDot ⨾ n.label
 
 -- ---- expressions
 
+looked : (b : Bool) → Keeps (ahead b)
+looked b = record { keeps = λ tokens rest h w. subst TokenWords h.1 w }
+
 module _ (levels : ℕ) (inner : Expr → Phrase) (inner_factor : Factor → Phrase) (expr_in : (e : Expr) → Keeps (inner e)) (factor_in : (f : Factor) → Keeps (inner_factor f)) where
   pub actuals : (es : List Expr) → Keeps (p.actuals levels inner inner_factor es)
-  actuals es = then (mark s.LeftParen) (then (deeper levels) (then (list_of s.Comma inner expr_in es) (mark s.RightParen)))
+  actuals es = then (looked false) (then (mark s.LeftParen) (then (deeper levels) (then (list_of s.Comma inner expr_in es) (mark s.RightParen))))
 
   selector_layer : (l : SelectorLayer) → Keeps (p.selector_layer levels inner inner_factor l)
   selector_layer (Selector-F.Field i) = then (mark s.Period) (name i)
   selector_layer (Selector-F.Index es) = then (mark s.LeftBracket) (then (deeper levels) (then (between s.Comma inner expr_in es) (mark s.RightBracket)))
+  selector_layer (Selector-F.Guard q) = then (looked true) (then (mark s.LeftParen) (then (qualident q) (mark s.RightParen)))
 
   selector : (x : Selector) → Keeps (p.selector levels inner inner_factor x)
   selector x = selector_layer (out-Selector x)
@@ -91,8 +96,12 @@ module _ (levels : ℕ) (inner : Expr → Phrase) (inner_factor : Factor → Phr
   simple : (x : Simple) → Keeps (p.simple levels inner inner_factor x)
   simple x = then (perhaps sign_phrase (λ y. sign (sign_symbol y.0) y.1) (out-Simple x).sign) (then (term (out-Simple x).first) (every (p.added_term levels inner inner_factor) added_term (out-Simple x).others))
 
+  related_layer : (l : RelatedLayer) → Keeps (p.related_layer levels inner inner_factor l)
+  related_layer (Related-F.By relation span x) = then (sign (relation_symbol relation) span) (simple x)
+  related_layer (Related-F.Is span q) = then (sign s.Is span) (qualident q)
+
   related : (r : Related) → Keeps (p.related levels inner inner_factor r)
-  related r = then (sign (relation_symbol (out-Related r).relation) (out-Related r).span) (simple (out-Related r).simple)
+  related r = related_layer (out-Related r)
 
   pub expr_phrase : (e : Expr) → Keeps (p.expr_phrase levels inner inner_factor e)
   expr_phrase e = then (simple (out-Expr e).left) (perhaps (p.related levels inner inner_factor) related (out-Expr e).right)

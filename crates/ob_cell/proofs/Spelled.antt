@@ -16,6 +16,7 @@ use Rattle.ob_tree.specs.declared.tree.IdentDef.{IdentDef}
 use Rattle.ob_tree.specs.declared.tree.Import.{Import}
 use Rattle.ob_tree.specs.declared.tree.Module.{Module}
 use Rattle.ob_tree.specs.declared.tree.Procedure.{Procedure, out-Procedure}
+use Rattle.ob_tree.specs.declared.tree.Qualident.{Qualident}
 use Rattle.ob_tree.specs.declared.tree.Returned.{Returned}
 use Rattle.ob_tree.specs.declared.tree.TypeDeclaration.{TypeDeclaration}
 use Rattle.ob_tree.specs.declared.tree.TypedNames.{TypedNames, out-TypedNames}
@@ -49,7 +50,7 @@ TypedIn inner x = Each NameIn (out-TypedNames x).names × inner (out-TypedNames 
 abbrev pub LayerIn : (TypeExpr → Type 0) → t.TypeLayer → Type 0
 LayerIn inner (TypeExpr-F.Named q) = Unit {0}
 LayerIn inner (TypeExpr-F.Array span lengths element) = inner element
-LayerIn inner (TypeExpr-F.Record span fields) = Each (TypedIn inner) fields
+LayerIn inner (TypeExpr-F.Record span base fields) = Each (TypedIn inner) fields
 
 -- of a type in which that many more constructs may nest
 abbrev pub InnerIn : ℕ → TypeExpr → Type 0
@@ -139,19 +140,22 @@ module _ (levels : ℕ) (inner : TypeExpr → Phrase) (In : TypeExpr → Type 0)
   names_say : (x : TypedNames) → Says (t.names_of inner x) (TypedIn In x)
   names_say x = both (first (said_list (out-TypedNames x).names)) (later (ident_list (out-TypedNames x).names) (later (mark s.Colon) (says_in (out-TypedNames x).of)))
 
+  base_keeps : (q : Qualident) → Keeps (t.base_name q)
+  base_keeps q = then (mark s.LeftParen) (then (qualident q) (mark s.RightParen))
+
   layer_keeps : (l : t.TypeLayer) → Keeps (t.type_layer levels inner l)
   layer_keeps (TypeExpr-F.Named q) = qualident q
   layer_keeps (TypeExpr-F.Array span lengths element) =
       then (sign s.Array span) (then (deeper levels) (then (between s.Comma (expression.inner levels) (passed.inner levels) lengths) (then (mark s.Of) (type_in element))))
-  layer_keeps (TypeExpr-F.Record span fields) =
-      then (sign s.Record span) (then (deeper levels) (then (list_of s.Semicolon (t.names_of inner) names_keep fields) (mark s.End)))
+  layer_keeps (TypeExpr-F.Record span base fields) =
+      then (sign s.Record span) (then (deeper levels) (then (perhaps t.base_name base_keeps base) (then (list_of s.Semicolon (t.names_of inner) names_keep fields) (mark s.End))))
 
   layer_says : (l : t.TypeLayer) → Says (t.type_layer levels inner l) (LayerIn In l)
   layer_says (TypeExpr-F.Named q) = nothing_said
   layer_says (TypeExpr-F.Array span lengths element) =
       later (sign s.Array span) (later (deeper levels) (later (between s.Comma (expression.inner levels) (passed.inner levels) lengths) (later (mark s.Of) (says_in element))))
-  layer_says (TypeExpr-F.Record span fields) =
-      later (sign s.Record span) (later (deeper levels) (first (list_said s.Semicolon (t.names_of inner) (TypedIn In) names_keep names_say fields)))
+  layer_says (TypeExpr-F.Record span base fields) =
+      later (sign s.Record span) (later (deeper levels) (later (perhaps t.base_name base_keeps base) (first (list_said s.Semicolon (t.names_of inner) (TypedIn In) names_keep names_say fields))))
 
 inner_keeps : (k : ℕ) (x : TypeExpr) → Keeps (t.inner k x)
 inner_keeps zero x = never

@@ -239,7 +239,8 @@ module _ (ms : Modules) (loaded : LoadedWords ms) (s : Scope) (scope : SeenWords
       subst (λ x. TypeWords x.of) t.2
       (arrays_words e.0.of (reverse h.0) t.0 t.1 (inside k element e.0 spelled e.1)
       (small_reversed h.0 (through_keeps AllSmall (λ x. Unit {0}) (next_length constants) (λ a b c u d f. subst AllSmall (d.2).2 (small_more a (d.2).0 f (length_small d.0 (d.2).0 (d.2).1))) [] lengths h.0 (always lengths) h.1 tt)))
-  layer_words In constants inner inside naming named k (TypeExpr-F.Record span fields) w spelled h =
+  layer_words In constants inner inside naming named k (TypeExpr-F.Record span (Some q) fields) w spelled h = absurd h
+  layer_words In constants inner inside naming named k (TypeExpr-F.Record span None fields) w spelled h =
       let r = h.1 in
       let fs = through_keeps (λ y. FieldWords y.fields) (TypedIn In) (next_fields inner) (λ a b c u d f. fields_words In inner inside a b c u d f) (no_fields (k + 1)) fields r.0 spelled r.1 tt in
       subst (λ x. TypeWords x.of) r.2

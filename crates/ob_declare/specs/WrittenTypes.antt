@@ -153,9 +153,11 @@ module _ (constant : Expr → Rule Constant) (inner : ℕ → TypeExpr → Rule 
       Then (through (next_length constant) [] lengths) (λ ns.
       Then (inner k element) (λ w.
       Then (through array_of w.of (reverse ns)) (λ t. Given (written t w.records))))
-  type_layer k (TypeExpr-F.Record span fields) =
+  type_layer k (TypeExpr-F.Record span None fields) =
       Needs (nat_lt k max_records) code.Size (
       record_rule inner naming k fields)
+  -- extensions are left out
+  type_layer k (TypeExpr-F.Record span (Some q) fields) = Breaks code.LeftOut
 
   unfoldable pub type_rule : ℕ → TypeExpr → Rule Written
   type_rule k t = type_layer k (out-TypeExpr t)

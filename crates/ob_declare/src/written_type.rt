@@ -334,7 +334,10 @@ pub fn written_type(
                 records: element.records,
             })
         }
-        TypeExpr::Record(span, fields) => {
+        TypeExpr::Record(_, Some(base), _) => {
+            Err(Rejected::Rule(broken(RuleCode::LeftOut, base.first.span)))
+        }
+        TypeExpr::Record(span, None, fields) => {
             if records == u32::MAX {
                 return Err(Rejected::Rule(broken(RuleCode::Size, *span)));
             }

@@ -14,7 +14,7 @@ use Rattle.ob_tree.specs.declared.tree.NextFactor.{NextFactor, out-NextFactor}
 use Rattle.ob_tree.specs.declared.tree.Factor.{Factor, out-Factor}
 use Rattle.ob_tree.specs.declared.tree.Designator.{Designator as Written, out-Designator}
 use Rattle.ob_tree.specs.declared.tree.Selector.{Selector}
-use Rattle.ob_tree.specs.declared.tree.Factor.TheOpen.{Factor-F}
+use Rattle.ob_tree.specs.declared.tree.Factor.TheOpen.{Factor-F, Related-F}
 use Rattle.ob_tree.specs.FirstToken.{first_of}
 use Rattle.ob_types.specs.declared.exports.Formal.{Formal}
 use Rattle.ob_types.specs.declared.exports.FormalKind.{FormalKind}
@@ -29,7 +29,7 @@ use Rattle.ob_mean.specs.declared.expression.TypedExpr.{TypedExpr}
 use Rattle.ob_mean.specs.declared.expression.TypedExpr.TheVariants as typed
 use Rattle.ob_scope.specs.declared.predeclared.Function.{Function}
 use Rattle.ob_scope.specs.declared.scope.Scope.{Scope}
-use Rattle.ob_fold.specs.Constants.{FactorLayer}
+use Rattle.ob_fold.specs.Constants.{FactorLayer, RelatedLayer}
 use Rattle.ob_scope.specs.Imports.{Modules}
 use Rattle.ob_scope.specs.Rule.{Rule, Given, Breaks, Then, Needs, there, through}
 use Rattle.ob_operand.specs.declared.operand.Operand.{Operand}
@@ -192,13 +192,17 @@ module _ (inner : Variables → Expr → Rule Typed) (deeper : Variables → Fac
       Then (signed (out-Simple x).sign v.0) (λ w.
       Then (through added_term (joined.One w, v.1) (out-Simple x).others) (λ j. Given (sum_of j.0, j.1))))
 
-  -- a relation to another sum
+  -- a relation to another sum; IS is left out
+  abbrev pub related_layer : Typed → RelatedLayer → Rule Typed
+  related_layer v (Related-F.By relation span x) =
+      Needs (may_relate (relation_of relation) v.0) code.Types (
+      Then (simple_rule v.1 x) (λ w.
+      related (relation_of relation) span.line w.1 v.0 w.0))
+  related_layer v (Related-F.Is span q) = Breaks code.LeftOut
+
   unfoldable pub related_rule : Typed → Option Related → Rule Typed
   related_rule v None = Given v
-  related_rule v (Some r) =
-      Needs (may_relate (relation_of (out-Related r).relation) v.0) code.Types (
-      Then (simple_rule v.1 (out-Related r).simple) (λ w.
-      related (relation_of (out-Related r).relation) (out-Related r).span.line w.1 v.0 w.0))
+  related_rule v (Some r) = related_layer v (out-Related r)
 
   unfoldable pub expr_rule : Variables → Expr → Rule Typed
   expr_rule vs e = Then (simple_rule vs (out-Expr e).left) (λ v. related_rule v (out-Expr e).right)

@@ -116,20 +116,15 @@ fn relation(
 {
     match right {
         None => Ok((left, variables)),
-        Some(right) => {
-            if !may_relate(relation_of(right.relation), &left) {
-                return Err(Rejected::Rule(broken(RuleCode::Types, right.span)));
+        Some(Related::By(relation, span, right)) => {
+            let relation = relation_of(*relation);
+            if !may_relate(relation, &left) {
+                return Err(Rejected::Rule(broken(RuleCode::Types, *span)));
             }
-            let (other, variables) = simple(site, variables, &right.simple)?;
-            related(
-                site.alloc,
-                relation_of(right.relation),
-                right.span,
-                variables,
-                left,
-                other,
-            )
+            let (other, variables) = simple(site, variables, right)?;
+            related(site.alloc, relation, *span, variables, left, other)
         }
+        Some(Related::Is(span, _)) => Err(Rejected::Rule(broken(RuleCode::LeftOut, *span))),
     }
 }
 
@@ -325,6 +320,7 @@ fn next_selected<'a>(
             Ok((of, part, variables))
         }
         Selector::Index(indexes) => elements(site, of, place, variables, indexes.as_slice()),
+        Selector::Guard(name) => { Err(Rejected::Rule(broken(RuleCode::LeftOut, name.first.span))) }
     }
 }
 

@@ -10,7 +10,7 @@ use Rattle.ob_tree.specs.declared.tree.NextFactor.{NextFactor, out-NextFactor}
 use Rattle.ob_tree.specs.declared.tree.Factor.{Factor, out-Factor}
 use Rattle.ob_tree.specs.declared.tree.Designator.{Designator as Written, out-Designator}
 use Rattle.ob_tree.specs.declared.tree.Selector.{Selector, out-Selector}
-use Rattle.ob_tree.specs.declared.tree.Factor.TheOpen.{Factor-F, Selector-F}
+use Rattle.ob_tree.specs.declared.tree.Factor.TheOpen.{Factor-F, Selector-F, Related-F}
 use Rattle.ob_tree.specs.FirstToken.{first_of}
 use Rattle.ob_types.specs.declared.exports.Formal.{Formal}
 use Rattle.ob_types.specs.declared.exports.FormalKind.{FormalKind}
@@ -25,7 +25,7 @@ use Rattle.ob_mean.specs.declared.module.Parameter.{Parameter}
 use Rattle.ob_mean.specs.WellFormed.{Names, ExprFits, IndexesFit, ListPassed, object_of, called, shape_object}
 use Rattle.ob_scope.specs.declared.predeclared.Function.{Function}
 use Rattle.ob_scope.specs.declared.scope.Scope.{Scope}
-use Rattle.ob_fold.specs.Constants.{FactorLayer, SelectorLayer}
+use Rattle.ob_fold.specs.Constants.{FactorLayer, SelectorLayer, RelatedLayer}
 use Rattle.ob_scope.specs.Imports.{Modules}
 use Rattle.ob_scope.specs.Rule.{Rule, gives}
 use Rattle.ob_operand.specs.declared.operand.Operand.{Operand}
@@ -38,7 +38,7 @@ use Rattle.ob_operand.specs.Functions.{one_of}
 use Rattle.ob_operand.specs.Selecting.{Selected, selected, indexed, selector_layer, element_of}
 use Rattle.ob_operand.specs.Named.{Meant, Callable}
 use Rattle.ob_operand.specs.Named as meaning
-use Rattle.ob_express.specs.Expressions.{Typed, Joining, Passing, alone, meant_rule, target_rule, two_taken, one_taken, predeclared_rule, one_passed, next_passed, none_left, all_passed, function_rule, call_rule, factor_layer, factor_rule, next_factor, term_rule, added_term, simple_rule, related_rule, expr_rule, variable_actual, value_actual, actual_rule, inner_at, deeper_at, passed_at, expr_at, target_at, actuals_at, is_value, value_at, value_for_at, guard_at, number_at, truth_at}
+use Rattle.ob_express.specs.Expressions.{Typed, Joining, Passing, alone, meant_rule, target_rule, two_taken, one_taken, predeclared_rule, one_passed, next_passed, none_left, all_passed, function_rule, call_rule, factor_layer, factor_rule, next_factor, term_rule, added_term, simple_rule, related_layer, related_rule, expr_rule, variable_actual, value_actual, actual_rule, inner_at, deeper_at, passed_at, expr_at, target_at, actuals_at, is_value, value_at, value_for_at, guard_at, number_at, truth_at}
 use Rattle.ob_check.specs.Shapes.{parameters_of}
 use Rattle.ob_fit.specs.Fitting.{Suits, OperandFits, ScopeFits, StartsWith}
 use Rattle.ob_fit.proofs.Forms.{function_fits, element_fits, element_object, field_fits, field_object}
@@ -90,6 +90,7 @@ module _ (names : Names) (inner : Variables → Expr → Rule Typed) (fits : Inn
       (field_fits names at.1 h.0.0 k.0, inl (field_object names at.1 h.0.0 ∙ field_suits s at.0 f.name h.0 (object_of names at.1) h.1 k.1), k.2, field_solid s at.0 f.name h.0 h.1 k.3)
   layer_fits s start at (Selector-F.Index es) p h g t =
       through_keeps (SelectedFits names start) (indexed inner) (λ a e b k c. indexed_fits start a e b k c) at es p h g t
+  layer_fits s start at (Selector-F.Guard q) p h g t = absurd h
 
   selected_fits : (s : Scope) (start : Variables) (at : Selected) (x : Selector) (p : Selected) → gives (selected inner s at x) p → SelectedFits names start at → SelectedFits names start p
   unfolding selected
@@ -241,15 +242,19 @@ module _ (ms : Modules) (names : Names) (s : Scope) (scope : ScopeFits ms names 
       (λ u. let f = term_fits vs (out-Simple x).first h.0 h.1 u in (signed_fits names (out-Simple x).sign h.0.0 w.0 w.1 f.0, f.1)) q in
       (subst (λ y. OperandFits names y.0) j.2 (sum_fits names j.0.0 k.0), k.1)
 
+  related_layer_fits : (vs : Variables) (v : Typed) (l : RelatedLayer) (p : Typed) → gives (related_layer inner deeper passed ms s v l) p → TypedFits names vs v → TypedFits names vs p
+  related_layer_fits vs v (Related-F.By relation span x) p needed g t =
+      let h = needed.1 in
+      let k = related_fits names (relation_of relation) span.line h.0.1 v.0 h.0.0 p h.2 t in
+      let w = simple_fits v.1 x h.0 h.1 k.1 in
+      let l = g w.1 in
+      (k.0 l.0 w.0, l.1)
+  related_layer_fits vs v (Related-F.Is span q) p h g t = absurd h
+
   relation_fits : (vs : Variables) (v : Typed) (r : Option Related) (p : Typed) → gives (related_rule inner deeper passed ms s v r) p → TypedFits names vs v → TypedFits names vs p
   unfolding related_rule
   relation_fits vs v None p h g t = subst (TypedFits names vs) h g t
-  relation_fits vs v (Some r) p needed g t =
-      let h = needed.1 in
-      let k = related_fits names (relation_of (out-Related r).relation) (out-Related r).span.line h.0.1 v.0 h.0.0 p h.2 t in
-      let w = simple_fits v.1 (out-Related r).simple h.0 h.1 k.1 in
-      let l = g w.1 in
-      (k.0 l.0 w.0, l.1)
+  relation_fits vs v (Some r) p h g t = related_layer_fits vs v (out-Related r) p h g t
 
   pub expr_fits : (vs : Variables) (e : Expr) (p : Typed) → gives (expr_rule inner deeper passed ms s vs e) p → TypedFits names vs p
   unfolding expr_rule

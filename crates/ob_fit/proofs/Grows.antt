@@ -15,7 +15,7 @@ use Rattle.ob_tree.specs.declared.tree.NextFactor.{NextFactor, out-NextFactor}
 use Rattle.ob_tree.specs.declared.tree.Factor.{Factor, out-Factor}
 use Rattle.ob_tree.specs.declared.tree.Designator.{Designator as Written, out-Designator}
 use Rattle.ob_tree.specs.declared.tree.Selector.{Selector, out-Selector}
-use Rattle.ob_tree.specs.declared.tree.Factor.TheOpen.{Factor-F, Selector-F}
+use Rattle.ob_tree.specs.declared.tree.Factor.TheOpen.{Factor-F, Selector-F, Related-F}
 use Rattle.ob_types.specs.declared.exports.Formal.{Formal}
 use Rattle.ob_types.specs.declared.exports.FormalKind.{FormalKind}
 use Rattle.ob_types.specs.declared.exports.FormalKind.TheVariants as kind
@@ -47,7 +47,7 @@ use Rattle.ob_scope.specs.declared.predeclared.OutputName.TheVariants as out_nam
 use Rattle.ob_scope.specs.declared.predeclared.ProperProcedure.{ProperProcedure}
 use Rattle.ob_scope.specs.declared.predeclared.ProperProcedure.TheVariants as procedure
 use Rattle.ob_scope.specs.declared.scope.Scope.{Scope}
-use Rattle.ob_fold.specs.Constants.{FactorLayer, SelectorLayer}
+use Rattle.ob_fold.specs.Constants.{FactorLayer, SelectorLayer, RelatedLayer}
 use Rattle.ob_scope.specs.Imports.{Modules}
 use Rattle.ob_scope.specs.Rule.{Rule, gives}
 use Rattle.ob_operand.specs.declared.operand.Operand.{Operand}
@@ -60,7 +60,7 @@ use Rattle.ob_operand.specs.Passing.{variable_argument, fixed_text, text_passed,
 use Rattle.ob_operand.specs.Selecting.{Selected, selected, indexed, selector_layer}
 use Rattle.ob_operand.specs.Named.{Meant, Callable}
 use Rattle.ob_operand.specs.Named as meaning
-use Rattle.ob_express.specs.Expressions.{Typed, Joining, Passing, alone, meant_rule, target_rule, two_taken, one_taken, predeclared_rule, one_passed, next_passed, none_left, all_passed, function_rule, call_rule, factor_layer, factor_rule, next_factor, term_rule, added_term, simple_rule, related_rule, expr_rule, variable_actual, value_actual, actual_rule, inner_at, deeper_at, passed_at, expr_at, target_at, actuals_at, value_at, value_for_at, guard_at, number_at, truth_at}
+use Rattle.ob_express.specs.Expressions.{Typed, Joining, Passing, alone, meant_rule, target_rule, two_taken, one_taken, predeclared_rule, one_passed, next_passed, none_left, all_passed, function_rule, call_rule, factor_layer, factor_rule, next_factor, term_rule, added_term, simple_rule, related_layer, related_rule, expr_rule, variable_actual, value_actual, actual_rule, inner_at, deeper_at, passed_at, expr_at, target_at, actuals_at, value_at, value_for_at, guard_at, number_at, truth_at}
 use Rattle.ob_statement.specs.Assignments.{basic_of, assigned, assignment}
 use Rattle.ob_statement.specs.Calls.{call_with, procedure_call, call_of, call}
 use Rattle.ob_statement.specs.StandardCalls.{none_left as no_actual_left, without_actuals, number_inside, truth_inside, place_at, scalar_at, read_call, in_call, out_char, out_string, out_width, out_int, out_call, adjusted_by, adjusted, asserted, predeclared_call}
@@ -183,6 +183,7 @@ module _ (inner : Variables → Expr → Rule Typed) (grows : Inner inner) where
   selector_grows s start at (Selector-F.Field f) p h g = subst (λ q. Extends q.2 start) h.2 g
   selector_grows s start at (Selector-F.Index es) p h g =
       through_keeps (λ q. Extends q.2 start) (indexed inner) (λ a e b k c. indexed_grows start a e b k c) at es p h g
+  selector_grows s start at (Selector-F.Guard q) p h g = absurd h
 
   selected_grows : (s : Scope) (start : Variables) (at : Selected) (x : Selector) (p : Selected) → gives (selected inner s at x) p → Extends at.2 start → Extends p.2 start
   unfolding selected
@@ -281,13 +282,17 @@ module _ (ms : Modules) (s : Scope) (inner : Variables → Expr → Rule Typed) 
       after vs _ _ p (w.2).2 (through_keeps (λ q. Extends q.1 vs) (added_term inner deeper passed ms s) (λ a e b u c. added_term_grows vs a e b u c) (joined.One w.0, h.0.1) (out-Simple x).others (w.2).0 (w.2).1
       (term_grows vs (out-Simple x).first h.0 h.1))
 
+  related_layer_grows : (vs : Variables) (v : Typed) (l : RelatedLayer) (p : Typed) → gives (related_layer inner deeper passed ms s v l) p → Extends v.1 vs → Extends p.1 vs
+  related_layer_grows vs v (Related-F.By relation span x) p needed g =
+      let h = needed.1 in
+      further p.1 h.0.1 vs (related_grows (relation_of relation) span.line h.0.1 v.0 h.0.0 p h.2)
+      (further h.0.1 v.1 vs (simple_grows v.1 x h.0 h.1) g)
+  related_layer_grows vs v (Related-F.Is span q) p h g = absurd h
+
   relation_grows : (vs : Variables) (v : Typed) (r : Option Related) (p : Typed) → gives (related_rule inner deeper passed ms s v r) p → Extends v.1 vs → Extends p.1 vs
   unfolding related_rule
   relation_grows vs v None p h g = subst (λ q. Extends q.1 vs) h g
-  relation_grows vs v (Some r) p needed g =
-      let h = needed.1 in
-      further p.1 h.0.1 vs (related_grows (relation_of (out-Related r).relation) (out-Related r).span.line h.0.1 v.0 h.0.0 p h.2)
-      (further h.0.1 v.1 vs (simple_grows v.1 (out-Related r).simple h.0 h.1) g)
+  relation_grows vs v (Some r) p h g = related_layer_grows vs v (out-Related r) p h g
 
   expr_grows : (vs : Variables) (e : Expr) (p : Typed) → gives (expr_rule inner deeper passed ms s vs e) p → Extends p.1 vs
   unfolding expr_rule

@@ -137,14 +137,17 @@ member_layer_fits ms names i place (Selector-F.Field f) xs m e s h =
     (λ t k. ap (λ o. face_object o (variable_number ms place f.name)) e ∙ imported_variable ms place f.name t (there_is (exported_at ms place f.name) code.NotExported h.0 h.1 ∙ ap Some k))
     (object_solid ms place f.name h.0 s (there_is (exported_at ms place f.name) code.NotExported h.0 h.1)) h.2
 member_layer_fits ms names i place (Selector-F.Index es) xs m e s h = absurd h
+member_layer_fits ms names i place (Selector-F.Guard q) xs m e s h = absurd h
 
 input_layer_fits : (names : Names) (l : SelectorLayer) (xs : List Selector) (m : Meant) → gives (input_member_layer l xs) m → MeantFits names m
 input_layer_fits names (Selector-F.Field f) xs m h = input_read_fits names (input_named f.name) xs m h
 input_layer_fits names (Selector-F.Index es) xs m h = absurd h
+input_layer_fits names (Selector-F.Guard q) xs m h = absurd h
 
 output_layer_fits : (names : Names) (l : SelectorLayer) (m : Meant) → gives (output_member_layer l) m → MeantFits names m
 output_layer_fits names (Selector-F.Field f) m h = output_read_fits names (output_named f.name) m h
 output_layer_fits names (Selector-F.Index es) m h = absurd h
+output_layer_fits names (Selector-F.Guard q) m h = absurd h
 
 entry_read_fits : (ms : Modules) (names : Names) (s : Scope) (e : Entry) (xs : List Selector) (m : Meant) → EntryFits ms names s e → gives (entry_read ms s e xs) m → MeantFits names m
 unfolding entry_read member_read input_member output_member
@@ -229,14 +232,17 @@ member_called_fits ms names i place (Selector-F.Field f) xs c e h =
     object_called_fits names i (procedure_number ms place f.name) h.0 xs c
     (λ p k. ap (λ o. face_heading o (procedure_number ms place f.name)) e ∙ imported_procedure ms place f.name p (there_is (exported_at ms place f.name) code.NotExported h.0 h.1 ∙ ap Some k)) h.2
 member_called_fits ms names i place (Selector-F.Index es) xs c e h = absurd h
+member_called_fits ms names i place (Selector-F.Guard q) xs c e h = absurd h
 
 input_call_fits : (names : Names) (l : SelectorLayer) (xs : List Selector) (c : Callable) → gives (input_call_layer l xs) c → CallableFits names c
 input_call_fits names (Selector-F.Field f) xs c h = input_called_fits names (input_named f.name) xs c h
 input_call_fits names (Selector-F.Index es) xs c h = absurd h
+input_call_fits names (Selector-F.Guard q) xs c h = absurd h
 
 output_call_fits : (names : Names) (l : SelectorLayer) (xs : List Selector) (c : Callable) → gives (output_call_layer l xs) c → CallableFits names c
 output_call_fits names (Selector-F.Field f) xs c h = output_called_fits names (output_named f.name) xs c h
 output_call_fits names (Selector-F.Index es) xs c h = absurd h
+output_call_fits names (Selector-F.Guard q) xs c h = absurd h
 
 entry_called_fits : (ms : Modules) (names : Names) (s : Scope) (e : Entry) (xs : List Selector) (c : Callable) → EntryFits ms names s e → gives (entry_called ms e xs) c → CallableFits names c
 unfolding entry_called member_called input_call output_call

@@ -268,7 +268,8 @@ module _ (ms : Modules) (loaded : EachSolid ms) (s : Scope) (scope : SeenSolid s
       subst (λ x. IsSolid x.of) t.2
       (arrays_solid e.0.of (reverse h.0) t.0 t.1 (inside k element e.0 e.1)
       (positive_reversed h.0 (through_keeps AllPositive (next_length constants) (λ a b c d f. subst AllPositive (d.2).2 (positive_more a (d.2).0 f (length_positive d.0 (d.2).0 (d.2).1))) [] lengths h.0 h.1 tt)))
-  layer_solid constants inner inside naming k (TypeExpr-F.Record span fields) w h =
+  layer_solid constants inner inside naming k (TypeExpr-F.Record span (Some q) fields) w h = absurd h
+  layer_solid constants inner inside naming k (TypeExpr-F.Record span None fields) w h =
       let r = h.1 in
       subst (λ x. IsSolid x.of) r.2
       (subst (λ x. x) (sym (record_solid (roll-RecordType (record { name = numbered naming k; fields = r.0.fields }))

@@ -15,7 +15,7 @@ use Rattle.ob_tree.specs.declared.tree.NextFactor.{NextFactor, out-NextFactor}
 use Rattle.ob_tree.specs.declared.tree.Factor.{Factor, out-Factor}
 use Rattle.ob_tree.specs.declared.tree.Designator.{Designator, out-Designator}
 use Rattle.ob_tree.specs.declared.tree.Selector.{Selector, out-Selector}
-use Rattle.ob_tree.specs.declared.tree.Factor.TheOpen.{Factor-F, Selector-F}
+use Rattle.ob_tree.specs.declared.tree.Factor.TheOpen.{Factor-F, Selector-F, Related-F}
 use Rattle.ob_types.specs.declared.exports.Constant.{Constant}
 use Rattle.ob_types.specs.declared.exports.Object.{Object}
 use Rattle.ob_types.specs.declared.exports.Object.TheVariants as object
@@ -40,10 +40,13 @@ use Rattle.ob_scope.specs.Rule.{Rule, Given, Breaks, Then, Needs, there, through
 use Rattle.ob_fold.specs.Folding.{adds, multiplies, relates, sum_of, product_of, sign_of, not_of, relation_of, related_of, takes, is_shift, one_of, two_of, folded_of, constant_of}
 
 abbrev pub FactorLayer : Type 0
-FactorLayer = Factor-F Factor Selector AddedTerm Designator Expr NextFactor Related Simple Term
+FactorLayer = Factor-F Factor Related Selector AddedTerm Designator Expr NextFactor Simple Term
 
 abbrev pub SelectorLayer : Type 0
-SelectorLayer = Selector-F Factor Selector AddedTerm Designator Expr NextFactor Related Simple Term
+SelectorLayer = Selector-F Factor Related Selector AddedTerm Designator Expr NextFactor Simple Term
+
+abbrev pub RelatedLayer : Type 0
+RelatedLayer = Related-F Factor Related Selector AddedTerm Designator Expr NextFactor Simple Term
 
 -- ---- names
 
@@ -59,6 +62,7 @@ imported (object.Procedure s) xs = Breaks code.Types
 abbrev pub member_layer : Modules → ℕ → SelectorLayer → List Selector → Rule Folded
 member_layer ms place (Selector-F.Field f) xs = Then (there (exported_at ms place f.name) code.NotExported) (λ o. imported o xs)
 member_layer ms place (Selector-F.Index indexes) xs = Breaks code.Types
+member_layer ms place (Selector-F.Guard q) xs = Breaks code.Types
 
 unfoldable pub member : Modules → ℕ → Selector → List Selector → Rule Folded
 member ms place x xs = member_layer ms place (out-Selector x) xs
@@ -76,6 +80,7 @@ no_output _ = code.Types
 abbrev pub input_layer : SelectorLayer → Rule Folded
 input_layer (Selector-F.Field f) = Breaks (no_input (input_named f.name))
 input_layer (Selector-F.Index indexes) = Breaks code.Types
+input_layer (Selector-F.Guard q) = Breaks code.Types
 
 unfoldable pub input_member : Selector → Rule Folded
 input_member x = input_layer (out-Selector x)
@@ -83,6 +88,7 @@ input_member x = input_layer (out-Selector x)
 abbrev pub output_layer : SelectorLayer → Rule Folded
 output_layer (Selector-F.Field f) = Breaks (no_output (output_named f.name))
 output_layer (Selector-F.Index indexes) = Breaks code.Types
+output_layer (Selector-F.Guard q) = Breaks code.Types
 
 unfoldable pub output_member : Selector → Rule Folded
 output_member x = output_layer (out-Selector x)
@@ -117,14 +123,17 @@ no_call false = code.NotExported
 abbrev pub calls_object : Modules → ℕ → SelectorLayer → RuleCode
 calls_object ms place (Selector-F.Field f) = no_call (is_some (exported_at ms place f.name))
 calls_object ms place (Selector-F.Index indexes) = code.NotConstant
+calls_object ms place (Selector-F.Guard q) = code.NotConstant
 
 abbrev pub calls_input : SelectorLayer → RuleCode
 calls_input (Selector-F.Field f) = no_call (is_input (input_named f.name))
 calls_input (Selector-F.Index indexes) = code.NotConstant
+calls_input (Selector-F.Guard q) = code.NotConstant
 
 abbrev pub calls_output : SelectorLayer → RuleCode
 calls_output (Selector-F.Field f) = no_call (is_output (output_named f.name))
 calls_output (Selector-F.Index indexes) = code.NotConstant
+calls_output (Selector-F.Guard q) = code.NotConstant
 
 -- what is broken where a declared name is called
 unfoldable pub entry_called : Modules → Entry → List Selector → RuleCode
@@ -200,12 +209,16 @@ module _ (inner : Expr → Rule Folded) (deeper : Factor → Rule Folded) (ms : 
       Then (term_rule (out-Simple x).first) (λ v.
       Then (signed (out-Simple x).sign v) (λ w. through added_term w (out-Simple x).others))
 
-  -- a relation to another sum
+  -- a relation to another sum; IS is left out
+  abbrev pub related_layer : Folded → RelatedLayer → Rule Folded
+  related_layer v (Related-F.By relation span x) =
+      Needs (relates (relation_of relation) v) code.Types (
+      Then (simple_rule x) (λ w. there (related_of (relation_of relation) v w) code.Types))
+  related_layer v (Related-F.Is span q) = Breaks code.LeftOut
+
   unfoldable pub related : Folded → Option Related → Rule Folded
   related v None = Given v
-  related v (Some r) =
-      Needs (relates (relation_of (out-Related r).relation) v) code.Types (
-      Then (simple_rule (out-Related r).simple) (λ w. there (related_of (relation_of (out-Related r).relation) v w) code.Types))
+  related v (Some r) = related_layer v (out-Related r)
 
   unfoldable pub expr_rule : Expr → Rule Folded
   expr_rule e = Then (simple_rule (out-Expr e).left) (λ v. related v (out-Expr e).right)

@@ -66,7 +66,9 @@ fn member(
             Some(object) => imported(alloc, object, behind, field.span),
             None => Err(Rejected::Rule(broken(RuleCode::NotExported, field.span))),
         },
-        Selector::Index(_) => Err(Rejected::Rule(broken(RuleCode::Types, span))),
+        Selector::Index(_) | Selector::Guard(_) => {
+            Err(Rejected::Rule(broken(RuleCode::Types, span)))
+        }
     }
 }
 
@@ -90,7 +92,9 @@ fn input_member(selector: &Selector, span: Span) -> Result<Folded, Rejected>
             let code = no_input(input_named(&field.name));
             Err(Rejected::Rule(broken(code, field.span)))
         }
-        Selector::Index(_) => Err(Rejected::Rule(broken(RuleCode::Types, span))),
+        Selector::Index(_) | Selector::Guard(_) => {
+            Err(Rejected::Rule(broken(RuleCode::Types, span)))
+        }
     }
 }
 
@@ -113,7 +117,9 @@ fn output_member(selector: &Selector, span: Span) -> Result<Folded, Rejected>
             let code = no_output(output_named(&field.name));
             Err(Rejected::Rule(broken(code, field.span)))
         }
-        Selector::Index(_) => Err(Rejected::Rule(broken(RuleCode::Types, span))),
+        Selector::Index(_) | Selector::Guard(_) => {
+            Err(Rejected::Rule(broken(RuleCode::Types, span)))
+        }
     }
 }
 
@@ -183,7 +189,7 @@ fn calls_object(modules: &Imports, place: usize, selector: &Selector) -> RuleCod
 {
     match selector {
         Selector::Field(field) => no_call(modules.exported_at(place, &field.name).is_some()),
-        Selector::Index(_) => RuleCode::NotConstant,
+        Selector::Index(_) | Selector::Guard(_) => RuleCode::NotConstant,
     }
 }
 
@@ -192,7 +198,7 @@ fn calls_input(selector: &Selector) -> RuleCode
 {
     match selector {
         Selector::Field(field) => no_call(is_input(input_named(&field.name))),
-        Selector::Index(_) => RuleCode::NotConstant,
+        Selector::Index(_) | Selector::Guard(_) => RuleCode::NotConstant,
     }
 }
 
@@ -201,7 +207,7 @@ fn calls_output(selector: &Selector) -> RuleCode
 {
     match selector {
         Selector::Field(field) => no_call(is_output(output_named(&field.name))),
-        Selector::Index(_) => RuleCode::NotConstant,
+        Selector::Index(_) | Selector::Guard(_) => RuleCode::NotConstant,
     }
 }
 
@@ -297,17 +303,14 @@ fn related(site: Site<'_>, left: Folded, right: &Option<Related>) -> Result<Fold
 {
     match right {
         None => Ok(left),
-        Some(right) => {
-            if !relates(right.relation, &left) {
-                return Err(Rejected::Rule(broken(RuleCode::Types, right.span)));
+        Some(Related::By(relation, span, right)) => {
+            if !relates(*relation, &left) {
+                return Err(Rejected::Rule(broken(RuleCode::Types, *span)));
             }
-            let other = simple(site, &right.simple)?;
-            fitting(
-                related_of(right.relation, &left, &other),
-                RuleCode::Types,
-                right.span,
-            )
+            let other = simple(site, right)?;
+            fitting(related_of(*relation, &left, &other), RuleCode::Types, *span)
         }
+        Some(Related::Is(span, _)) => Err(Rejected::Rule(broken(RuleCode::LeftOut, *span))),
     }
 }
 

@@ -52,6 +52,7 @@ abbrev pub member_read_layer : Modules → ℕ → ℕ → SelectorLayer → Lis
 member_read_layer ms i place (Selector-F.Field f) xs =
     Then (there (exported_at ms place f.name) code.NotExported) (λ o. object_read i (variable_number ms place f.name) o xs)
 member_read_layer ms i place (Selector-F.Index es) xs = Breaks code.Types
+member_read_layer ms i place (Selector-F.Guard q) xs = Breaks code.Types
 
 unfoldable pub member_read : Modules → ℕ → ℕ → Selector → List Selector → Rule Meant
 member_read ms i place x xs = member_read_layer ms i place (out-Selector x) xs
@@ -59,10 +60,12 @@ member_read ms i place x xs = member_read_layer ms i place (out-Selector x) xs
 abbrev pub input_member_layer : SelectorLayer → List Selector → Rule Meant
 input_member_layer (Selector-F.Field f) xs = input_read (input_named f.name) xs
 input_member_layer (Selector-F.Index es) xs = Breaks code.Types
+input_member_layer (Selector-F.Guard q) xs = Breaks code.Types
 
 abbrev pub output_member_layer : SelectorLayer → Rule Meant
 output_member_layer (Selector-F.Field f) = output_read (output_named f.name)
 output_member_layer (Selector-F.Index es) = Breaks code.Types
+output_member_layer (Selector-F.Guard q) = Breaks code.Types
 
 unfoldable pub input_member : Selector → List Selector → Rule Meant
 input_member x xs = input_member_layer (out-Selector x) xs
@@ -108,18 +111,21 @@ abbrev pub is_object : Option Object → Bool
 is_object None = false
 is_object (Some o) = true
 
--- whether a module has what a selector names: an index names nothing of it
+-- whether a module has what a selector names: an index and a guard name nothing of it
 abbrev pub has_input : SelectorLayer → Bool
 has_input (Selector-F.Field f) = is_input (input_named f.name)
 has_input (Selector-F.Index es) = true
+has_input (Selector-F.Guard q) = true
 
 abbrev pub has_output : SelectorLayer → Bool
 has_output (Selector-F.Field f) = is_output (output_named f.name)
 has_output (Selector-F.Index es) = true
+has_output (Selector-F.Guard q) = true
 
 abbrev pub has_object : Modules → ℕ → SelectorLayer → Bool
 has_object ms place (Selector-F.Field f) = is_object (exported_at ms place f.name)
 has_object ms place (Selector-F.Index es) = true
+has_object ms place (Selector-F.Guard q) = true
 
 unfoldable pub input_written : Selector → RuleCode
 input_written x = unwritten (has_input (out-Selector x))
@@ -180,6 +186,7 @@ abbrev pub member_called_layer : Modules → ℕ → ℕ → SelectorLayer → L
 member_called_layer ms i place (Selector-F.Field f) xs =
     Then (there (exported_at ms place f.name) code.NotExported) (λ o. object_called i (procedure_number ms place f.name) o xs)
 member_called_layer ms i place (Selector-F.Index es) xs = Breaks code.Types
+member_called_layer ms i place (Selector-F.Guard q) xs = Breaks code.Types
 
 unfoldable pub member_called : Modules → ℕ → ℕ → Selector → List Selector → Rule Callable
 member_called ms i place x xs = member_called_layer ms i place (out-Selector x) xs
@@ -187,10 +194,12 @@ member_called ms i place x xs = member_called_layer ms i place (out-Selector x) 
 abbrev pub input_call_layer : SelectorLayer → List Selector → Rule Callable
 input_call_layer (Selector-F.Field f) xs = input_called (input_named f.name) xs
 input_call_layer (Selector-F.Index es) xs = Breaks code.Types
+input_call_layer (Selector-F.Guard q) xs = Breaks code.Types
 
 abbrev pub output_call_layer : SelectorLayer → List Selector → Rule Callable
 output_call_layer (Selector-F.Field f) xs = output_called (output_named f.name) xs
 output_call_layer (Selector-F.Index es) xs = Breaks code.Types
+output_call_layer (Selector-F.Guard q) xs = Breaks code.Types
 
 unfoldable pub input_call : Selector → List Selector → Rule Callable
 input_call x xs = input_call_layer (out-Selector x) xs

@@ -83,6 +83,8 @@ module _ (inner : Variables → Expr → Rule (Operand × Variables)) where
   abbrev pub selector_layer : Scope → Selected → SelectorLayer → Rule Selected
   selector_layer s at (Selector-F.Field f) = Then (field_of s at.0 f.name) (λ p. Given (p.1, designator.Field at.1 p.0, at.2))
   selector_layer s at (Selector-F.Index es) = through indexed at es
+  -- guards are left out
+  selector_layer s at (Selector-F.Guard q) = Breaks code.LeftOut
 
   unfoldable pub selected : Scope → Selected → Selector → Rule Selected
   selected s at x = selector_layer s at (out-Selector x)

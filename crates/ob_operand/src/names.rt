@@ -73,7 +73,9 @@ fn input_member<'a>(
 {
     match selector {
         Selector::Field(field) => input_read(input_named(&field.name), behind, field.span),
-        Selector::Index(_) => Err(Rejected::Rule(broken(RuleCode::Types, span))),
+        Selector::Index(_) | Selector::Guard(_) => {
+            Err(Rejected::Rule(broken(RuleCode::Types, span)))
+        }
     }
 }
 
@@ -93,7 +95,9 @@ fn output_member<'a>(selector: &Selector, span: Span) -> Result<Named<'a>, Rejec
 {
     match selector {
         Selector::Field(field) => output_read(output_named(&field.name), field.span),
-        Selector::Index(_) => Err(Rejected::Rule(broken(RuleCode::Types, span))),
+        Selector::Index(_) | Selector::Guard(_) => {
+            Err(Rejected::Rule(broken(RuleCode::Types, span)))
+        }
     }
 }
 
@@ -137,7 +141,9 @@ fn member_read<'a>(
             }
             None => Err(Rejected::Rule(broken(RuleCode::NotExported, field.span))),
         },
-        Selector::Index(_) => Err(Rejected::Rule(broken(RuleCode::Types, span))),
+        Selector::Index(_) | Selector::Guard(_) => {
+            Err(Rejected::Rule(broken(RuleCode::Types, span)))
+        }
     }
 }
 
@@ -206,7 +212,7 @@ fn input_written(selector: &Selector) -> RuleCode
             InputName::Unknown => RuleCode::NotExported,
             _ => RuleCode::ReadOnly,
         },
-        Selector::Index(_) => RuleCode::ReadOnly,
+        Selector::Index(_) | Selector::Guard(_) => RuleCode::ReadOnly,
     }
 }
 
@@ -219,7 +225,7 @@ fn output_written(selector: &Selector) -> RuleCode
             OutputName::Unknown => RuleCode::NotExported,
             _ => RuleCode::ReadOnly,
         },
-        Selector::Index(_) => RuleCode::ReadOnly,
+        Selector::Index(_) | Selector::Guard(_) => RuleCode::ReadOnly,
     }
 }
 
@@ -232,7 +238,7 @@ fn object_written(imports: &Imports, place: usize, selector: &Selector) -> RuleC
             Some(_) => RuleCode::ReadOnly,
             None => RuleCode::NotExported,
         },
-        Selector::Index(_) => RuleCode::ReadOnly,
+        Selector::Index(_) | Selector::Guard(_) => RuleCode::ReadOnly,
     }
 }
 
@@ -339,7 +345,9 @@ fn input_call<'a>(
             (name, []) => Ok(Called::Input(name)),
             (_, [_, ..]) => Err(Rejected::Rule(broken(RuleCode::Types, field.span))),
         },
-        Selector::Index(_) => Err(Rejected::Rule(broken(RuleCode::Types, span))),
+        Selector::Index(_) | Selector::Guard(_) => {
+            Err(Rejected::Rule(broken(RuleCode::Types, span)))
+        }
     }
 }
 
@@ -360,7 +368,9 @@ fn output_call<'a>(
             (name, []) => Ok(Called::Output(name)),
             (_, [_, ..]) => Err(Rejected::Rule(broken(RuleCode::Types, field.span))),
         },
-        Selector::Index(_) => Err(Rejected::Rule(broken(RuleCode::Types, span))),
+        Selector::Index(_) | Selector::Guard(_) => {
+            Err(Rejected::Rule(broken(RuleCode::Types, span)))
+        }
     }
 }
 
@@ -404,7 +414,9 @@ fn member_called<'a>(
             }
             None => Err(Rejected::Rule(broken(RuleCode::NotExported, field.span))),
         },
-        Selector::Index(_) => Err(Rejected::Rule(broken(RuleCode::Types, span))),
+        Selector::Index(_) | Selector::Guard(_) => {
+            Err(Rejected::Rule(broken(RuleCode::Types, span)))
+        }
     }
 }
 

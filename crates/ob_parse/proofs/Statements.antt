@@ -22,16 +22,17 @@ use Rattle.ob_tree.specs.Expression as ex
 use Rattle.ob_tree.specs.Statement as p
 use Rattle.ob_tree.specs.Statement.{StatementLayer}
 use Rattle.ob_parse_expression.specs.Reading as reading
-use Rattle.ob_parse_expression.specs.Reading.{Outcome, Reader, eat}
+use Rattle.ob_parse_expression.specs.Reading.{Outcome, Reader, ◌>>=◌, and_then, pure, not_there, eat}
 use Rattle.ob_parse.specs.StatementReading as r
 use Rattle.ob_parse_expression.specs.ExpressionReading as exr
 use Rattle.ob_parse.specs.StatementReading.{at_case_end, ends_case}
-use Rattle.ob_parse_expression.proofs.Exact.{Exact, exact_where, Anything, OrAbsent, IsAbsent, Repeats, answer, same_answer, Seq, Made, Either, exact_seq, exact_as, exact_maybe_as, exact_many, each_follows, exact_made, exact_pure, exact_either, exact_where_some, absent_where, before_made, before_pure, exact_refuse}
+use Rattle.ob_parse_expression.proofs.Exact.{Exact, exact_where, and_then_ok, Anything, OrAbsent, IsAbsent, Repeats, answer, same_answer, Seq, Made, Either, exact_seq, exact_as, exact_maybe_as, exact_many, each_follows, exact_made, exact_pure, exact_either, exact_where_some, absent_where, before_made, before_pure, exact_refuse}
 use Rattle.ob_parse_expression.proofs.OneToken.{exact_expect, exact_eat, exact_ident, Starts, start_of, Ends, ends_by, other_symbol, Closes, closes_at, closes_by, closes_ends, closing, binding_of, absent_closing}
 use Rattle.ob_parse_expression.proofs.Separated.{exact_separated}
 use Rattle.ob_parse.proofs.Optional.{exact_optional, optional_begins}
 use Rattle.ob_parse_expression.proofs.Names.{exact_label_ranges, ranges_at_colon, ranges_start}
-use Rattle.ob_parse_expression.proofs.Expressions.{exact_expression, exact_designator_in, exact_actuals_in, behind_paren}
+use Rattle.ob_parse_expression.proofs.Expressions.{exact_expression, exact_designator_in, designator_stops_in, NoSelector, exact_actuals_in, behind_paren}
+use Rattle.ob_tree.specs.Ahead.{at_guard, opened}
 
 abbrev BranchLayer : Type 0
 BranchLayer = Branch-F Statement Branch Case
@@ -285,8 +286,12 @@ module _ (levels : ℕ) (B : List Statement → Phrase) (R : Reader (List Statem
   abbrev becomes_read : Designator → Option Span → Statement → Phrase
   becomes_read d = Either (no_assign d) (λ span. Seq (ex.expr levels) (λ x. Made out-Statement (Statement-F.Assign d x)))
 
+  abbrev after_read : Designator → Statement → Phrase
+  after_read d = Seq (maybe (symbol_at s.Becomes)) (becomes_read d)
+
+  -- what stands behind a designator, where no selector does
   abbrev assign_read : Statement → Phrase
-  assign_read = Seq (p.designator levels) (λ d. Seq (maybe (symbol_at s.Becomes)) (becomes_read d))
+  assign_read x tokens rest = (d : Designator) × (middle : List Token) × p.designator levels d tokens middle × after_read d x middle rest × (at_guard middle ≡ false)
 
   paren_follows : (d : Designator) (paren : Option Span) (x : Statement) (middle rest : List Token) → call_read d paren x middle rest → Closes 1 rest → OrAbsent (eat s.LeftParen) Anything paren middle
   paren_follows d None x middle rest h g = absent_closing s.LeftParen 1 middle (omega arith) (subst (Closes 1) (sym h.1) g)
@@ -308,22 +313,52 @@ module _ (levels : ℕ) (B : List Statement → Phrase) (R : Reader (List Statem
   designator_follows d None x tokens middle rest k h g = subst (Ends 5) (sym k) (called_follows d h.0 x middle h.1 rest h.2 h.3 g)
   designator_follows d (Some span) x tokens middle rest k h g = ends_by 5 s.Becomes span tokens middle k (omega arith)
 
-  exact_assign : Exact assign_read (r.assign_or_call levels R) (λ x. Closes 1)
-  unfolding r.assign_or_call
-  exact_assign = exact_seq (exact_designator_in levels) (λ d. exact_seq (exact_eat s.Becomes) (λ becomes. exact_either
+  abbrev after : Designator → Reader Statement
+  after d = eat s.Becomes >>= (λ becomes. not_there becomes (eat s.LeftParen >>= (λ paren. not_there paren (pure (roll-Statement (Statement-F.Call d None))) (λ span. exr.actuals levels (exr.inner levels) >>= (λ es. pure (roll-Statement (Statement-F.Call d (Some es))))))) (λ span. exr.expr levels >>= (λ x. pure (roll-Statement (Statement-F.Assign d x)))))
+
+  exact_after : (d : Designator) → Exact (after_read d) (after d) (λ x. Closes 1)
+  exact_after d = (exact_seq (exact_eat s.Becomes) (λ becomes. exact_either
       (exact_seq (exact_eat s.LeftParen) (λ paren. exact_either (exact_made out-Statement roll-Statement out-roll-Statement roll-out-Statement (Statement-F.Call d None))
       (λ span. exact_seq (exact_actuals_in levels) (λ es. exact_made out-Statement roll-Statement out-roll-Statement roll-out-Statement (Statement-F.Call d (Some es))) (λ es c middle rest h g. tt)) paren) (paren_follows d))
       (λ span. exact_seq (exact_expression levels) (λ x. exact_made out-Statement roll-Statement out-roll-Statement roll-out-Statement (Statement-F.Assign d x)) (λ x c middle rest h g. closes_ends 1 middle (before_made (Closes 1) out-Statement (Statement-F.Assign d x) c middle rest h g))) becomes) (becomes_follows d))
-      (λ d c middle rest h g. designator_follows d h.0 c middle h.1 rest h.2 h.3 g)
 
-  call_there : (d : Designator) (paren : Option Span) (x : Statement) (tokens middle after rest : List Token) → p.designator levels d tokens middle → maybe (symbol_at s.LeftParen) paren middle after → call_read d paren x after rest → layer (out-Statement x) tokens rest
-  call_there d None x tokens middle after rest h k g = subst (λ l. layer l tokens rest) (sym g.0) (subst (λ z. p.designator levels d tokens z) (k ∙ g.1) h)
-  call_there d (Some span) x tokens middle after rest h k g =
-      subst (λ l. layer l tokens rest) (sym g.3.0) (middle, h, (after, (span, k), subst (λ z. behind_paren levels g.0 after z) g.3.1 g.2))
+  assign_sound : (x : Statement) (tokens rest : List Token) → r.assign_or_call levels R tokens ≡ answer x rest → assign_read x tokens rest
+  unfolding r.assign_or_call
+  assign_sound x tokens rest e =
+      let b = and_then_ok (exr.designator levels (exr.inner levels) tokens) after x rest e in
+      (b.0, b.1, (exact_designator_in levels).sound b.0 tokens b.1 b.2, (exact_after b.0).sound x b.1 rest b.3, designator_stops_in levels b.0 tokens b.1 b.2)
 
-  assign_there : (d : Designator) (becomes : Option Span) (x : Statement) (tokens middle after rest : List Token) → p.designator levels d tokens middle → maybe (symbol_at s.Becomes) becomes middle after → becomes_read d becomes x after rest → layer (out-Statement x) tokens rest
-  assign_there d None x tokens middle after rest h k g = call_there d g.0 x tokens middle g.1 rest h (subst (λ z. maybe (symbol_at s.LeftParen) g.0 z g.1) (sym k) g.2) g.3
-  assign_there d (Some span) x tokens middle after rest h k g =
+  assign_complete : (x : Statement) (tokens rest : List Token) → assign_read x tokens rest → Closes 1 rest → r.assign_or_call levels R tokens ≡ answer x rest
+  unfolding r.assign_or_call
+  assign_complete x tokens rest h g =
+      let a = h.3 in
+      let none : NoSelector h.1 = (designator_follows h.0 a.0 x h.1 a.1 rest a.2 a.3 g, h.4) in
+      ap (λ o. and_then o after) ((exact_designator_in levels).complete h.0 tokens h.1 h.2 none) ∙ (exact_after h.0).complete x h.1 rest a g
+
+  exact_assign : Exact assign_read (r.assign_or_call levels R) (λ x. Closes 1)
+  exact_assign = record {
+    sound = assign_sound;
+    complete = assign_complete;
+    shorter = λ x tokens rest h. omega (arith, (exact_designator_in levels).shorter h.0 tokens h.1 h.2, (exact_after h.0).shorter x h.1 rest h.3);
+  }
+
+  -- no selector of this kind begins at `:=`, nor where a statement is over
+  no_guard_kind : (k : Kind) (ts : List Token) → 1 ≤ closing k → opened k ts ≡ false
+  no_guard_kind (kinds.Symbol s.LeftParen) ts h = absurd (omega arith)
+  no_guard_kind _ ts h = refl
+
+  closes_no_guard : (tokens : List Token) → Closes 1 tokens → at_guard tokens ≡ false
+  closes_no_guard [] e = refl
+  closes_no_guard (t ∷ ts) e = no_guard_kind t.kind ts e.first
+
+  call_there : (d : Designator) (paren : Option Span) (x : Statement) (tokens middle after rest : List Token) → p.designator levels d tokens middle → at_guard middle ≡ false → maybe (symbol_at s.LeftParen) paren middle after → call_read d paren x after rest → layer (out-Statement x) tokens rest
+  call_there d None x tokens middle after rest h ng k g = subst (λ l. layer l tokens rest) (sym g.0) (subst (λ z. p.designator levels d tokens z) (k ∙ g.1) h)
+  call_there d (Some span) x tokens middle after rest h ng k g =
+      subst (λ l. layer l tokens rest) (sym g.3.0) (middle, h, (middle, (ng, refl), (after, (span, k), subst (λ z. behind_paren levels g.0 after z) g.3.1 g.2)))
+
+  assign_there : (d : Designator) (becomes : Option Span) (x : Statement) (tokens middle after rest : List Token) → p.designator levels d tokens middle → at_guard middle ≡ false → maybe (symbol_at s.Becomes) becomes middle after → becomes_read d becomes x after rest → layer (out-Statement x) tokens rest
+  assign_there d None x tokens middle after rest h ng k g = call_there d g.0 x tokens middle g.1 rest h ng (subst (λ z. maybe (symbol_at s.LeftParen) g.0 z g.1) (sym k) g.2) g.3
+  assign_there d (Some span) x tokens middle after rest h ng k g =
       subst (λ l. layer l tokens rest) (sym g.3.0) (middle, h, (after, (span, k), subst (λ z. ex.expr levels g.0 after z) g.3.1 g.2))
 
   abbrev token : Kind → Span → Token
@@ -337,7 +372,7 @@ module _ (levels : ℕ) (B : List Statement → Phrase) (R : Reader (List Statem
   statement_there : (k : Kind) (span : Span) (x : Statement) (ts rest : List Token) → r.statement_by levels R k span (token k span ∷ ts) ts ≡ answer x rest → layer (out-Statement x) (token k span ∷ ts) rest
   statement_there (kinds.Ident n) span x ts rest e =
       let h = exact_assign.sound x (token (kinds.Ident n) span ∷ ts) rest e in
-      assign_there h.0 h.3.0 x (token (kinds.Ident n) span ∷ ts) h.1 h.3.1 rest h.2 h.3.2 h.3.3
+      assign_there h.0 h.3.0 x (token (kinds.Ident n) span ∷ ts) h.1 h.3.1 rest h.2 h.4 h.3.2 h.3.3
   statement_there (kinds.Symbol s.If) span x ts rest e =
       let h = exact_if.sound x ts rest e in
       let end : symbol_at s.End h.3.3.3.0 h.3.3.1 rest = subst (λ z. symbol_at s.End h.3.3.3.0 h.3.3.1 z) h.3.3.3.3.1 h.3.3.3.2 in
@@ -400,11 +435,12 @@ module _ (levels : ℕ) (B : List Statement → Phrase) (R : Reader (List Statem
   statement_back x Statement-F.Empty tokens rest is h g =
       empty_read tokens (subst (Closes 1) (sym h) g) ∙ same_answer (roll-Statement Statement-F.Empty) x tokens rest (roll_is x Statement-F.Empty is) h
   statement_back x (Statement-F.Assign d y) tokens rest is h g =
-      named_first d tokens h.0 h.1 ∙ exact_assign.complete x tokens rest (d, h.0, h.1, (Some h.2.1.0, h.2.0, h.2.1.1, (y, rest, h.2.2, (is, refl)))) g
+      named_first d tokens h.0 h.1 ∙ exact_assign.complete x tokens rest (d, h.0, h.1, (Some h.2.1.0, h.2.0, h.2.1.1, (y, rest, h.2.2, (is, refl))), ap at_guard h.2.1.1) g
   statement_back x (Statement-F.Call d None) tokens rest is h g =
-      named_first d tokens rest h ∙ exact_assign.complete x tokens rest (d, rest, h, (None, rest, refl, (None, rest, refl, (is, refl)))) g
+      named_first d tokens rest h ∙ exact_assign.complete x tokens rest (d, rest, h, (None, rest, refl, (None, rest, refl, (is, refl))), closes_no_guard rest g) g
   statement_back x (Statement-F.Call d (Some es)) tokens rest is h g =
-      named_first d tokens h.0 h.1 ∙ exact_assign.complete x tokens rest (d, h.0, h.1, (None, h.0, refl, (Some h.2.1.0, h.2.0, h.2.1.1, (es, rest, h.2.2, (is, refl))))) g
+      let k : symbol_at s.LeftParen h.2.2.1.0 h.0 h.2.2.0 = subst (λ ts. symbol_at s.LeftParen h.2.2.1.0 ts h.2.2.0) (sym h.2.1.1) h.2.2.1.1 in
+      named_first d tokens h.0 h.1 ∙ exact_assign.complete x tokens rest (d, h.0, h.1, (None, h.0, refl, (Some h.2.2.1.0, h.2.2.0, k, (es, rest, h.2.2.2, (is, refl)))), h.2.1.0) g
   statement_back x (Statement-F.If first others o) tokens rest is h g =
       ap (r.statement levels R) h.1.1 ∙ statement_at (token (kinds.Symbol s.If) h.1.0) h.0
       ∙ exact_if.complete x h.0 rest (first, h.2.0, h.2.1, (others, h.2.2.0, h.2.2.1, (o, h.2.2.2.0, h.2.2.2.1, (h.2.2.2.2.0, rest, h.2.2.2.2.1, (is, refl))))) g
@@ -425,7 +461,7 @@ module _ (levels : ℕ) (B : List Statement → Phrase) (R : Reader (List Statem
   statement_shorter Statement-F.Empty tokens rest h = omega (arith, ap length h)
   statement_shorter (Statement-F.Assign d y) tokens rest h = omega (arith, (exact_designator_in levels).shorter d tokens h.0 h.1, ap length h.2.1.1, (exact_expression levels).shorter y h.2.0 rest h.2.2)
   statement_shorter (Statement-F.Call d None) tokens rest h = (exact_designator_in levels).shorter d tokens rest h
-  statement_shorter (Statement-F.Call d (Some es)) tokens rest h = omega (arith, (exact_designator_in levels).shorter d tokens h.0 h.1, ap length h.2.1.1, (exact_actuals_in levels).shorter es h.2.0 rest h.2.2)
+  statement_shorter (Statement-F.Call d (Some es)) tokens rest h = omega (arith, (exact_designator_in levels).shorter d tokens h.0 h.1, ap length h.2.1.1, ap length h.2.2.1.1, (exact_actuals_in levels).shorter es h.2.2.0 rest h.2.2.2)
   statement_shorter (Statement-F.If first others o) tokens rest h =
       omega (arith, ap length h.1.1, (exact_branch s.Then (omega arith)).shorter first h.0 h.2.0 h.2.1, (exact_many (elsifs s.Then (omega arith))).shorter others h.2.0 h.2.2.0 h.2.2.1, exact_otherwise.shorter o h.2.2.0 h.2.2.2.0 h.2.2.2.1, ap length h.2.2.2.2.1)
   statement_shorter (Statement-F.Case span y cases) tokens rest h =

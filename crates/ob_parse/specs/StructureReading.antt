@@ -1,5 +1,5 @@
 -- Reading types.
-use Rattle.std.specs.Prelude.{ℕ, zero, suc, List, [], ◌∷◌, Err}
+use Rattle.std.specs.Prelude.{ℕ, zero, suc, List, [], ◌∷◌, Option, Err}
 use Rattle.ob_base.specs.declared.fault.Code.TheVariants as codes
 use Rattle.ob_scan.specs.declared.token.Kind.{Kind}
 use Rattle.ob_scan.specs.declared.token.Kind.TheVariants as kinds
@@ -9,7 +9,8 @@ use Rattle.ob_scan.specs.declared.token.Token.{Token}
 use Rattle.ob_tree.specs.declared.tree.TypeExpr.{TypeExpr, roll-TypeExpr}
 use Rattle.ob_tree.specs.declared.tree.TypedNames.{TypedNames, roll-TypedNames}
 use Rattle.ob_tree.specs.declared.tree.TypeExpr.TheOpen.{TypeExpr-F}
-use Rattle.ob_parse_expression.specs.Reading.{Reader, ◌>>=◌, ◌>>◌, pure, refuse, expect, opens, separated, closed_by}
+use Rattle.ob_parse_expression.specs.Reading.{Reader, ◌>>=◌, ◌>>◌, pure, refuse, expect, opens, eat, where_some, separated, closed_by}
+use Rattle.ob_tree.specs.declared.tree.Qualident.{Qualident}
 use Rattle.ob_parse_expression.specs.NameReading.{ident_def, qualident}
 use Rattle.ob_parse_expression.specs.ExpressionReading as expression
 
@@ -25,6 +26,17 @@ named = do
   q ← qualident
   pure (roll-TypeExpr (TypeExpr-F.Named q))
 
+-- after an opening parenthesis
+unfoldable pub base_name : Reader Qualident
+base_name = do
+  q ← qualident
+  expect s.RightParen
+  pure q
+
+-- the name of a base, if a parenthesis comes next
+unfoldable pub base : Reader (Option Qualident)
+base = eat s.LeftParen >>= where_some (λ _. base_name)
+
 module _ (levels : ℕ) (inner : Reader TypeExpr) where
   -- what stands after ARRAY
   unfoldable pub array : Span → Reader TypeExpr
@@ -39,8 +51,9 @@ module _ (levels : ℕ) (inner : Reader TypeExpr) where
   unfoldable pub record_type : Span → Reader TypeExpr
   record_type span = do
     opens levels
+    extended ← base
     fields ← closed_by s.End (separated s.Semicolon (names_of inner))
-    pure (roll-TypeExpr (TypeExpr-F.Record span fields))
+    pure (roll-TypeExpr (TypeExpr-F.Record span extended fields))
 
   abbrev pub type_by : Kind → Span → List Token → Reader TypeExpr
   type_by (kinds.Ident name) span all = λ _. named all

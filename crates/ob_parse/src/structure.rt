@@ -9,7 +9,7 @@ ghost use Rattle.ob_parse_expression.specs.Reading.{Reads, separated, next_item,
 use ob_base::{Boxed, Code, Items, Refused};
 use ob_parse_expression::Parser;
 use ob_scan::{Kind, Span, Symbol, Token};
-use ob_tree::tree::{TypeExpr, TypedNames};
+use ob_tree::tree::{Qualident, TypeExpr, TypedNames};
 
 /// A type in which `levels` more constructs may nest.
 #[cycle(structure)]
@@ -75,8 +75,31 @@ fn record_type(parser: &mut Parser<'_>, levels: u32, span: Span) -> Result<TypeE
     ensures shorter { length parser.new.rest.now ≤ length parser.old.rest.now }
 {
     let inside = parser.open(levels, span)?;
+    let base = base(parser)?;
     let fields = closed_fields(parser, inside)?;
-    Ok(TypeExpr::Record(span, fields))
+    Ok(TypeExpr::Record(span, base, fields))
+}
+
+/// The name of the type that is extended, if a parenthesis comes next.
+#[tactic(auto, unfolding(crate::specs::StructureReading::base))]
+fn base(parser: &mut Parser<'_>) -> Result<Option<Qualident>, Refused>
+    ensures read { Reads (spec.base parser.old.rest.now) result parser.new.rest.now }
+    ensures shorter { length parser.new.rest.now ≤ length parser.old.rest.now }
+{
+    if parser.eat(Symbol::LeftParen).is_none() {
+        return Ok(None);
+    }
+    Ok(Some(base_name(parser)?))
+}
+
+#[tactic(auto, unfolding(crate::specs::StructureReading::base_name))]
+fn base_name(parser: &mut Parser<'_>) -> Result<Qualident, Refused>
+    ensures read { Reads (spec.base_name parser.old.rest.now) result parser.new.rest.now }
+    ensures shorter { length parser.new.rest.now ≤ length parser.old.rest.now }
+{
+    let name = parser.qualident()?;
+    parser.expect(Symbol::RightParen)?;
+    Ok(name)
 }
 
 /// The fields up to END.

@@ -259,3 +259,27 @@ exact_made_some out roll out_roll roll_out l = record {
   complete = λ x tokens rest h follows. made_some_complete out roll roll_out l x tokens rest h;
   shorter = made_some_shorter out l;
 }
+
+-- ---- what holds where repetition stops
+
+module _ {A : Type 0} (step : Reader (Option A)) (Q : List Token → Type 0) (stops : (tokens middle : List Token) → step tokens ≡ Ok (None, middle) → Q middle) where
+  with_first_ok : (x : A) (o : Outcome (List A)) (xs : List A) (rest : List Token) → with_first x o ≡ answer xs rest → (ys : List A) × (o ≡ answer ys rest)
+  with_first_ok x (Ok q) xs rest h = let b = answers (x ∷ q.0) xs q.1 rest h in (q.0, same_answer q.0 q.0 q.1 rest refl b.1)
+  with_first_ok x (Err c) xs rest h = absurd cc
+
+  goes_on_stops : (n : ℕ) (o : Option A) (xs : List A) (tokens middle rest : List Token) → ((ys : List A) → many_from step n middle ≡ answer ys rest → Q rest) → step tokens ≡ Ok (o, middle) → goes_on o middle (many_from step n) ≡ answer xs rest → Q rest
+  goes_on_stops n None xs tokens middle rest more read h = let b = answers [] xs middle rest h in subst Q b.1 (stops tokens middle read)
+  goes_on_stops n (Some x) xs tokens middle rest more read h = let b = with_first_ok x (many_from step n middle) xs rest h in more b.0 b.1
+
+  after_stops : (n : ℕ) (o : Outcome (Option A)) (xs : List A) (tokens rest : List Token) → ((ys : List A) (middle : List Token) → many_from step n middle ≡ answer ys rest → Q rest) → step tokens ≡ o → many_after o (many_from step n) ≡ answer xs rest → Q rest
+  after_stops n (Ok q) xs tokens rest more read h = goes_on_stops n q.0 xs tokens q.1 rest (λ ys. more ys q.1) read h
+  after_stops n (Err c) xs tokens rest more read h = absurd cc
+
+  pub many_from_stops : (n : ℕ) (xs : List A) (tokens rest : List Token) → many_from step n tokens ≡ answer xs rest → Q rest
+  unfolding many_from
+  many_from_stops zero xs tokens rest h = absurd cc
+  many_from_stops (suc n) xs tokens rest h = after_stops n (step tokens) xs tokens rest (λ ys middle. many_from_stops n ys middle rest) refl h
+
+pub many_stops : {A : Type 0} (step : Reader (Option A)) (Q : List Token → Type 0) → ((tokens middle : List Token) → step tokens ≡ Ok (None, middle) → Q middle) → (xs : List A) (tokens rest : List Token) → many step tokens ≡ answer xs rest → Q rest
+unfolding many
+many_stops step Q stops xs tokens rest h = many_from_stops step Q stops (suc (length tokens)) xs tokens rest h

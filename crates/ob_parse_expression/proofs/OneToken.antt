@@ -190,6 +190,7 @@ binding_of s.Less = 2
 binding_of s.LessEqual = 2
 binding_of s.Greater = 2
 binding_of s.GreaterEqual = 2
+binding_of s.Is = 2
 binding_of s.Comma = 1
 binding_of _ = 0
 

@@ -1,5 +1,5 @@
 -- Reading expressions.
-use Rattle.std.specs.Prelude.{ℕ, zero, suc, List, [], ◌∷◌, true, false, Option, Some, None, Err}
+use Rattle.std.specs.Prelude.{ℕ, zero, suc, List, [], ◌∷◌, true, false, Option, Some, None, Ok, Err, if◌then◌else◌}
 use Rattle.ob_base.specs.declared.fault.Code.TheVariants as codes
 use Rattle.ob_scan.specs.declared.token.Kind.{Kind}
 use Rattle.ob_scan.specs.declared.token.Kind.TheVariants as kinds
@@ -23,7 +23,9 @@ use Rattle.ob_tree.specs.declared.tree.NextFactor.{NextFactor, roll-NextFactor}
 use Rattle.ob_tree.specs.declared.tree.Factor.{Factor, roll-Factor}
 use Rattle.ob_tree.specs.declared.tree.Designator.{Designator, roll-Designator}
 use Rattle.ob_tree.specs.declared.tree.Selector.{Selector, roll-Selector}
-use Rattle.ob_tree.specs.declared.tree.Factor.TheOpen.{Factor-F, Selector-F}
+use Rattle.ob_tree.specs.declared.tree.Factor.TheOpen.{Factor-F, Selector-F, Related-F}
+use Rattle.ob_tree.specs.Ahead.{at_guard}
+use Rattle.ob_parse_expression.specs.NameReading.{qualident}
 use Rattle.ob_parse_expression.specs.Reading.{Reader, ◌>>=◌, ◌>>◌, pure, refuse, eat, expect, ident, operator, opens, many, where_some, not_there}
 
 abbrev pub sign_of : Kind → Option Sign
@@ -66,6 +68,24 @@ exprs inner = do
   others ← many (next_expr inner)
   pure (first ∷ others)
 
+-- a name in parentheses
+unfoldable pub guard_name : Reader (Option Selector)
+guard_name = do
+  expect s.LeftParen
+  q ← qualident
+  expect s.RightParen
+  pure (Some (roll-Selector (Selector-F.Guard q)))
+
+-- one that is a selector, if it comes next
+unfoldable pub guard : Reader (Option Selector)
+guard tokens = if at_guard tokens then guard_name tokens else Ok (None, tokens)
+
+-- IS and the name of a type, if IS comes next
+unfoldable pub asked : Reader (Option Related)
+asked = eat s.Is >>= where_some (λ span. do
+  q ← qualident
+  pure (roll-Related (Related-F.Is span q)))
+
 module _ (levels : ℕ) (inner : Reader Expr) where
   -- what follows the opening parenthesis
   unfoldable pub actuals : Reader (List Expr)
@@ -80,7 +100,7 @@ module _ (levels : ℕ) (inner : Reader Expr) where
     period ← eat s.Period
     not_there period (do
       bracket ← eat s.LeftBracket
-      not_there bracket (pure None) (λ _. do
+      not_there bracket guard (λ _. do
         opens levels
         es ← exprs inner
         expect s.RightBracket
@@ -163,9 +183,9 @@ module _ (levels : ℕ) (inner : Reader Expr) (inner_factor : Reader Factor) whe
   unfoldable pub related : Reader (Option Related)
   related = do
     found ← operator relation_of
-    where_some (λ o. do
+    not_there found asked (λ o. do
       x ← simple
-      pure (roll-Related (record { relation = o.0; span = o.1; simple = x }))) found
+      pure (Some (roll-Related (Related-F.By o.0 o.1 x))))
 
   unfoldable pub expr_of : Reader Expr
   expr_of = do

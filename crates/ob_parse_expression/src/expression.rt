@@ -5,6 +5,7 @@ ghost use Rattle.ob_parse_expression.specs.ExpressionReading as spec;
 ghost use Rattle.ob_parse_expression.specs.ExpressionReading.{inner, inner_factor};
 ghost use Rattle.ob_parse_expression.specs.Reading.{Reads, many};
 
+use crate::ahead::at_guard;
 use crate::parser::Parser;
 use ob_base::{Boxed, Code, Items, Refused};
 use ob_scan::{Kind, Span, Symbol, Token};
@@ -42,14 +43,23 @@ impl Parser<'_> {
         ensures shorter { length self.new.rest.now ≤ length self.old.rest.now }
     {
         let Some((relation, span)) = self.relation() else {
-            return Ok(None);
+            return self.asked();
         };
         let simple = self.simple(levels)?;
-        Ok(Some(Related {
-            relation,
-            span,
-            simple,
-        }))
+        Ok(Some(Related::By(relation, span, simple)))
+    }
+
+    /// IS and the name of a type, if IS comes next.
+    #[tactic(auto, unfolding(crate::specs::ExpressionReading::asked))]
+    fn asked(&mut self) -> Result<Option<Related>, Refused>
+        ensures read { Reads (spec.asked self.old.rest.now) result self.new.rest.now }
+        ensures shorter { length self.new.rest.now ≤ length self.old.rest.now }
+    {
+        let Some(span) = self.eat(Symbol::Is) else {
+            return Ok(None);
+        };
+        let of = self.qualident()?;
+        Ok(Some(Related::Is(span, of)))
     }
 
     #[cycle(expression)]
@@ -268,12 +278,37 @@ impl Parser<'_> {
             return Ok(Some(Selector::Field(self.ident()?)));
         }
         let Some(span) = self.eat(Symbol::LeftBracket) else {
-            return Ok(None);
+            return self.guard();
         };
         let inside = self.open(levels, span)?;
         let indexes = self.exprs(inside)?;
         self.expect(Symbol::RightBracket)?;
         Ok(Some(Selector::Index(indexes)))
+    }
+
+    /// A name in parentheses that is a selector, if one comes next.
+    #[tactic(auto, unfolding(crate::specs::ExpressionReading::guard))]
+    fn guard(&mut self) -> Result<Option<Selector>, Refused>
+        ensures read { Reads (spec.guard self.old.rest.now) result self.new.rest.now }
+        ensures shorter { length self.new.rest.now ≤ length self.old.rest.now }
+        ensures taken { IfOk result (λ found. OnSome found (length self.new.rest.now < length self.old.rest.now)) }
+    {
+        if !at_guard(self.rest) {
+            return Ok(None);
+        }
+        self.guard_name()
+    }
+
+    #[tactic(auto, unfolding(crate::specs::ExpressionReading::guard_name))]
+    fn guard_name(&mut self) -> Result<Option<Selector>, Refused>
+        ensures read { Reads (spec.guard_name self.old.rest.now) result self.new.rest.now }
+        ensures shorter { length self.new.rest.now ≤ length self.old.rest.now }
+        ensures taken { IfOk result (λ found. OnSome found (length self.new.rest.now < length self.old.rest.now)) }
+    {
+        self.expect(Symbol::LeftParen)?;
+        let of = self.qualident()?;
+        self.expect(Symbol::RightParen)?;
+        Ok(Some(Selector::Guard(of)))
     }
 
     /// One or more expressions, with commas between.

@@ -22,14 +22,19 @@ use Rattle.ob_tree.specs.declared.tree.NextFactor.{NextFactor, out-NextFactor}
 use Rattle.ob_tree.specs.declared.tree.Factor.{Factor, out-Factor}
 use Rattle.ob_tree.specs.declared.tree.Designator.{Designator, out-Designator}
 use Rattle.ob_tree.specs.declared.tree.Selector.{Selector, out-Selector}
-use Rattle.ob_tree.specs.declared.tree.Factor.TheOpen.{Factor-F, Selector-F}
+use Rattle.ob_tree.specs.declared.tree.Factor.TheOpen.{Factor-F, Selector-F, Related-F}
+use Rattle.ob_tree.specs.Ahead.{ahead}
+use Rattle.ob_tree.specs.Name.{qualident}
 use Rattle.ob_tree.specs.Phrase.{Phrase, ◌⨾◌, symbol_at, symbol, ident, each, maybe, separated, listed, opens}
 
 abbrev pub FactorLayer : Type 0
-FactorLayer = Factor-F Factor Selector AddedTerm Designator Expr NextFactor Related Simple Term
+FactorLayer = Factor-F Factor Related Selector AddedTerm Designator Expr NextFactor Simple Term
 
 abbrev pub SelectorLayer : Type 0
-SelectorLayer = Selector-F Factor Selector AddedTerm Designator Expr NextFactor Related Simple Term
+SelectorLayer = Selector-F Factor Related Selector AddedTerm Designator Expr NextFactor Simple Term
+
+abbrev pub RelatedLayer : Type 0
+RelatedLayer = Related-F Factor Related Selector AddedTerm Designator Expr NextFactor Simple Term
 
 -- ---- operators
 
@@ -62,13 +67,14 @@ sign_phrase p = symbol_at (sign_symbol p.0) p.1
 -- ---- productions
 
 module _ (levels : ℕ) (inner : Expr → Phrase) (inner_factor : Factor → Phrase) where
-  -- "(" [expr {"," expr}] ")"
+  -- "(" [expr {"," expr}] ")", but a name that is a selector
   abbrev pub actuals : List Expr → Phrase
-  actuals es = symbol s.LeftParen ⨾ opens levels ⨾ listed s.Comma inner es ⨾ symbol s.RightParen
+  actuals es = ahead false ⨾ symbol s.LeftParen ⨾ opens levels ⨾ listed s.Comma inner es ⨾ symbol s.RightParen
 
   abbrev pub selector_layer : SelectorLayer → Phrase
   selector_layer (Selector-F.Field name) = symbol s.Period ⨾ ident name
   selector_layer (Selector-F.Index indexes) = symbol s.LeftBracket ⨾ opens levels ⨾ separated s.Comma inner indexes ⨾ symbol s.RightBracket
+  selector_layer (Selector-F.Guard q) = ahead true ⨾ symbol s.LeftParen ⨾ qualident q ⨾ symbol s.RightParen
 
   abbrev pub selector : Selector → Phrase
   selector x = selector_layer (out-Selector x)
@@ -104,9 +110,15 @@ module _ (levels : ℕ) (inner : Expr → Phrase) (inner_factor : Factor → Phr
   abbrev pub simple : Simple → Phrase
   simple x = maybe sign_phrase (out-Simple x).sign ⨾ term (out-Simple x).first ⨾ each added_term (out-Simple x).others
 
-  -- simple [relation simple]
+  -- relation simple, or IS qualident
+  abbrev pub related_layer : RelatedLayer → Phrase
+  related_layer (Related-F.By relation span x) = symbol_at (relation_symbol relation) span ⨾ simple x
+  related_layer (Related-F.Is span q) = symbol_at s.Is span ⨾ qualident q
+
   abbrev pub related : Related → Phrase
-  related r = symbol_at (relation_symbol (out-Related r).relation) (out-Related r).span ⨾ simple (out-Related r).simple
+  related r = related_layer (out-Related r)
+
+  -- simple [relation simple | IS qualident]
 
   abbrev pub expr_phrase : Expr → Phrase
   expr_phrase e = simple (out-Expr e).left ⨾ maybe related (out-Expr e).right

@@ -1,5 +1,6 @@
 pub mod Phrase
 pub mod Name
+pub mod Ahead
 pub mod Expression
 pub mod Statement
 pub mod Structure

@@ -5,7 +5,8 @@ use Rattle.ob_scan.specs.declared.token.Symbol.TheVariants as s
 use Rattle.ob_tree.specs.declared.tree.TypeExpr.{TypeExpr, out-TypeExpr}
 use Rattle.ob_tree.specs.declared.tree.TypedNames.{TypedNames, out-TypedNames}
 use Rattle.ob_tree.specs.declared.tree.TypeExpr.TheOpen.{TypeExpr-F}
-use Rattle.ob_tree.specs.Phrase.{Phrase, ◌⨾◌, symbol_at, symbol, separated, listed, opens}
+use Rattle.ob_tree.specs.declared.tree.Qualident.{Qualident}
+use Rattle.ob_tree.specs.Phrase.{Phrase, ◌⨾◌, symbol_at, symbol, maybe, separated, listed, opens}
 use Rattle.ob_tree.specs.Name.{ident_list, qualident}
 use Rattle.ob_tree.specs.Expression as expression
 
@@ -16,11 +17,15 @@ TypeLayer = TypeExpr-F TypeExpr TypedNames
 abbrev pub names_of : (TypeExpr → Phrase) → TypedNames → Phrase
 names_of type t = ident_list (out-TypedNames t).names ⨾ symbol s.Colon ⨾ type (out-TypedNames t).of
 
+-- "(" qualident ")"
+abbrev pub base_name : Qualident → Phrase
+base_name q = symbol s.LeftParen ⨾ qualident q ⨾ symbol s.RightParen
+
 module _ (levels : ℕ) (inner : TypeExpr → Phrase) where
   abbrev pub type_layer : TypeLayer → Phrase
   type_layer (TypeExpr-F.Named q) = qualident q
   type_layer (TypeExpr-F.Array span lengths element) = symbol_at s.Array span ⨾ opens levels ⨾ separated s.Comma (expression.inner levels) lengths ⨾ symbol s.Of ⨾ inner element
-  type_layer (TypeExpr-F.Record span fields) = symbol_at s.Record span ⨾ opens levels ⨾ listed s.Semicolon (names_of inner) fields ⨾ symbol s.End
+  type_layer (TypeExpr-F.Record span base fields) = symbol_at s.Record span ⨾ opens levels ⨾ maybe base_name base ⨾ listed s.Semicolon (names_of inner) fields ⨾ symbol s.End
 
   abbrev pub type_phrase : TypeExpr → Phrase
   type_phrase t = type_layer (out-TypeExpr t)

@@ -59,7 +59,7 @@ pub struct Qualident {
     pub second: Option<Ident>,
 }
 
-/// Two simple expressions with a relation between them, or one alone.
+/// Two simple expressions with a relation between them, one with IS and a type, or one alone.
 #[cycle(expression)]
 #[derive(Drop)]
 pub struct Expr {
@@ -67,13 +67,14 @@ pub struct Expr {
     pub right: Option<Related>,
 }
 
-/// A relation and what stands to its right.
+/// What stands to the right of the first sum.
 #[cycle(expression)]
 #[derive(Drop)]
-pub struct Related {
-    pub relation: Relation,
-    pub span: Span,
-    pub simple: Simple,
+pub enum Related {
+    /// A relation and what stands to its right.
+    By(Relation, Span, Simple),
+    /// The word IS, and the name of a type.
+    Is(Span, Qualident),
 }
 
 /// Terms, added from left to right. The sign applies to the first.
@@ -142,6 +143,8 @@ pub enum Selector {
     Field(Ident),
     /// One index or more: `a[i, j]` is one selector.
     Index(Items<Expr>),
+    /// The name of a type in parentheses.
+    Guard(Qualident),
 }
 
 #[cycle(statement)]
@@ -208,8 +211,8 @@ pub enum TypeExpr {
     Named(Qualident),
     /// The word ARRAY, one length or more, and the type of the elements.
     Array(Span, Items<Expr>, Boxed<TypeExpr>),
-    /// The word RECORD, and the fields.
-    Record(Span, Items<TypedNames>),
+    /// The word RECORD, the type that it extends, and the fields.
+    Record(Span, Option<Qualident>, Items<TypedNames>),
 }
 
 /// Names that are declared with one type: variables, or fields of a record.
