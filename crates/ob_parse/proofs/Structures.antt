@@ -123,7 +123,7 @@ module _ (levels : ℕ) (P : TypeExpr → Phrase) (R : Reader TypeExpr) (exact_i
   end_no_base span tokens rest h = absent_where (eat s.LeftParen) (λ _. r.base_name) tokens (absent_eat s.LeftParen 4 tokens (omega arith) (ends_by 4 s.End span tokens rest h (omega arith)))
 
   fields_no_base : (fs : List TypedNames) (tokens rest : List Token) → fields fs tokens rest → IsAbsent r.base tokens
-  fields_no_base [] tokens rest h = end_no_base h.1.0 tokens rest (subst (λ ts. symbol_at s.End h.1.0 ts rest) (sym h.0) h.1.1)
+  fields_no_base [] tokens rest h = end_no_base h.2.0 tokens rest (subst (λ ts. symbol_at s.End h.2.0 ts rest) (sym h.1) h.2.1)
   fields_no_base (x ∷ xs) tokens rest h = names_no_base (x ∷ xs) tokens h.0 h.1
 
   base_follows : (b : Option Qualident) (fs : List TypedNames) (tokens rest : List Token) → fields fs tokens rest → OrAbsent r.base Anything b tokens
