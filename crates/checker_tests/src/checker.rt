@@ -118,10 +118,6 @@ fn declarations_and_procedures(rt: HostRuntime) -> Result<(), Fail> {
         ("CONST c = 1 DIV 0;", Some(Code::NotConstant)),
         ("VAR a: ARRAY 0 OF INTEGER;", Some(Code::Size)),
         ("VAR r: REAL;", Some(Code::LeftOut)),
-        (
-            "TYPE T = RECORD END; U = RECORD (T) END;",
-            Some(Code::LeftOut),
-        ),
         ("CONST c = 1 IS INTEGER;", Some(Code::LeftOut)),
         ("IMPORT N;", Some(Code::NotLoaded)),
         ("IMPORT A;", Some(Code::ImportsItself)),
@@ -214,9 +210,62 @@ fn places_of_faults(rt: HostRuntime) -> Result<(), Fail> {
     Ok(())
 }
 
+/// A record, an extension of it and one of that, and variables of them.
+const EXTENSIONS: &str =
+    "TYPE T = RECORD a: INTEGER END; U = RECORD (T) b: INTEGER END; W = RECORD (U) c: INTEGER END; VAR t: T; u: U; w: W; x: ARRAY 2 OF U; PROCEDURE P(r: T); END P; PROCEDURE Q(VAR r: U); BEGIN r.a := r.b END Q; PROCEDURE S(r: ARRAY OF T); END S;";
+
+/// The code of statements after these names.
+fn extension_code(alloc: Global, body: &str) -> Result<Option<Code>, Refused> {
+    let inside = format!(in alloc; "{EXTENSIONS} BEGIN {body}")?;
+    module_code(alloc, inside.as_str())
+}
+
+#[test]
+fn records_that_extend_others(rt: HostRuntime) -> Result<(), Fail> {
+    for (body, code) in [
+        ("w.a := 1; w.b := w.a; w.c := w.b", None),
+        ("t := u; t := w; u := w; x[0] := w", None),
+        ("P(u); P(w); Q(w); Q(x[1])", None),
+        ("u := t", Some(Code::Types)),
+        ("t.b := 1", Some(Code::UnknownName)),
+        ("Q(t)", Some(Code::Parameters)),
+        ("S(x)", Some(Code::Parameters)),
+    ] {
+        assert_eq!(rt; extension_code(rt.alloc(), body)?, code, "{body}");
+    }
+    Ok(())
+}
+
+#[test]
+fn bases(rt: HostRuntime) -> Result<(), Fail> {
+    for (inside, code) in [
+        ("TYPE T = RECORD END; U = RECORD (T) END;", None),
+        (
+            "TYPE T = RECORD (T) a: INTEGER END;",
+            Some(Code::UnknownName),
+        ),
+        (
+            "TYPE R = ARRAY 2 OF CHAR; T = RECORD (R) END;",
+            Some(Code::Types),
+        ),
+        ("TYPE T = RECORD (CHAR) END;", Some(Code::Types)),
+        (
+            "TYPE T = RECORD a: CHAR END; U = RECORD (T) a: CHAR END;",
+            Some(Code::DeclaredTwice),
+        ),
+        (
+            "TYPE T = RECORD a: ARRAY 65536 OF CHAR END; U = RECORD (T) b: CHAR END;",
+            Some(Code::Size),
+        ),
+    ] {
+        assert_eq!(rt; module_code(rt.alloc(), inside)?, code, "{inside}");
+    }
+    Ok(())
+}
+
 /// A module with a record, a variable and a procedure.
 const LIBRARY: &str =
-    "MODULE N; TYPE T* = RECORD a: INTEGER END; VAR t*: T; v*: INTEGER; PROCEDURE Inc*; BEGIN INC(v) END Inc; END N.";
+    "MODULE N; TYPE T* = RECORD b*, a: INTEGER END; VAR t*: T; v*: INTEGER; PROCEDURE Inc*; BEGIN INC(v) END Inc; END N.";
 
 fn checked(alloc: Global, text: &str) -> Result<Checked, Refused> {
     match parse_text(alloc, text)? {
@@ -260,6 +309,22 @@ fn imported_modules(rt: HostRuntime) -> Result<(), Fail> {
         ),
         ("MODULE M; IMPORT N; BEGIN N.v END M.", Some(Code::Types)),
         ("MODULE B; IMPORT N; END B.", Some(Code::ImportsItself)),
+        (
+            "MODULE M; IMPORT N; TYPE W = RECORD (N.T) c: INTEGER END; VAR w: W; BEGIN w.b := w.c END M.",
+            None,
+        ),
+        (
+            "MODULE M; IMPORT N; TYPE W = RECORD (N.T) c: INTEGER END; VAR w: W; BEGIN w.a := 1 END M.",
+            Some(Code::NotExported),
+        ),
+        (
+            "MODULE M; IMPORT N; TYPE W = RECORD (N.T) c: INTEGER END; VAR w: W; BEGIN w.z := 1 END M.",
+            Some(Code::UnknownName),
+        ),
+        (
+            "MODULE M; IMPORT N; TYPE W = RECORD (N.T) a: INTEGER END; END M.",
+            Some(Code::DeclaredTwice),
+        ),
     ] {
         assert_eq!(rt; importer_code(rt.alloc(), text)?, code, "{text}");
     }

@@ -39,7 +39,7 @@ use Rattle.ob_scope.specs.Imports.{exported_at, exported_by}
 use Rattle.ob_scope.specs.LoadedTree.{LoadedTree}
 use Rattle.ob_scope.specs.Rule.{Rule, gives, there, through}
 use Rattle.ob_scope.specs.Scope.{seen, outer}
-use Rattle.ob_declare.specs.WrittenTypes.{predeclared_type, own_type, object_type, other_type, qualified, type_named, length_of, next_length, array_of, field_of, next_fields, no_fields, record_rule, type_layer, type_rule, inner_constant, inner_type, type_at, numbered}
+use Rattle.ob_declare.specs.WrittenTypes.{predeclared_type, own_type, object_type, other_type, qualified, type_named, length_of, next_length, array_of, field_of, next_fields, extended, begun, record_rule, type_layer, type_rule, inner_constant, inner_type, type_at, numbered}
 use Rattle.ob_load.specs.Words.{IsWord, RecordWords, TypeWords, RowWords, FieldWords, ObjectWords, ExportWords, InterfaceWords}
 use Rattle.ob_cell.proofs.Spelled.{Each, NameIn, TypedIn, LayerIn, InnerIn, TypeIn}
 
@@ -230,6 +230,13 @@ module _ (ms : Modules) (loaded : LoadedWords ms) (s : Scope) (scope : SeenWords
       subst (λ y. FieldWords y.fields) ((w.2).2)
       (fields_append fs.fields (map (field_of w.0.of) (out-TypedNames x).names) g (fields_of_type w.0.of (out-TypedNames x).names (inside fs.records (out-TypedNames x).of w.0 spelled.1 w.1) spelled.0))
 
+  begun_words : (k : ℕ) (base : Option Qualident) (f : Fields) → gives (begun ms s k base) f → FieldWords f.fields
+  unfolding begun extended
+  begun_words k None f h = subst (λ y. FieldWords y.fields) h tt
+  begun_words k (Some q) f h =
+      let e = (h.2).1 in
+      subst (λ y. FieldWords y.fields) e.2 (refl, named_words q h.0 h.1, tt)
+
   layer_words : (In : TypeExpr → Type 0) (constants : Expr → Rule Constant) (inner : ℕ → TypeExpr → Rule Written) → Inner In inner → (naming : RecordName) → RecordWords naming → (k : ℕ) (l : TypeExpr-F TypeExpr TypedNames) (w : Written) → LayerIn In l → gives (type_layer constants inner ms s naming k l) w → TypeWords w.of
   unfolding record_rule next_length
   layer_words In constants inner inside naming named k (TypeExpr-F.Named q) w spelled h = subst (λ x. TypeWords x.of) h.2 (named_words q h.0 h.1)
@@ -239,10 +246,10 @@ module _ (ms : Modules) (loaded : LoadedWords ms) (s : Scope) (scope : SeenWords
       subst (λ x. TypeWords x.of) t.2
       (arrays_words e.0.of (reverse h.0) t.0 t.1 (inside k element e.0 spelled e.1)
       (small_reversed h.0 (through_keeps AllSmall (λ x. Unit {0}) (next_length constants) (λ a b c u d f. subst AllSmall (d.2).2 (small_more a (d.2).0 f (length_small d.0 (d.2).0 (d.2).1))) [] lengths h.0 (always lengths) h.1 tt)))
-  layer_words In constants inner inside naming named k (TypeExpr-F.Record span (Some q) fields) w spelled h = absurd h
-  layer_words In constants inner inside naming named k (TypeExpr-F.Record span None fields) w spelled h =
-      let r = h.1 in
-      let fs = through_keeps (λ y. FieldWords y.fields) (TypedIn In) (next_fields inner) (λ a b c u d f. fields_words In inner inside a b c u d f) (no_fields (k + 1)) fields r.0 spelled r.1 tt in
+  layer_words In constants inner inside naming named k (TypeExpr-F.Record span base fields) w spelled h =
+      let f = h.1 in
+      let r = f.2 in
+      let fs = through_keeps (λ y. FieldWords y.fields) (TypedIn In) (next_fields inner) (λ a b c u d f. fields_words In inner inside a b c u d f) f.0 fields r.0 spelled r.1 (begun_words (k + 1) base f.0 f.1) in
       subst (λ x. TypeWords x.of) r.2
       (subst (λ x. x) (sym (record_words (roll-RecordType (record { name = numbered naming k; fields = r.0.fields }))
       ∙ ap (λ x. RecordWords x.name × FieldWords x.fields) (out-roll-RecordType (record { name = numbered naming k; fields = r.0.fields }))))

@@ -16,11 +16,12 @@ use Rattle.ob_types.specs.declared.exports.Constant.TheVariants as constant
 use Rattle.ob_types.specs.declared.exports.Object.{Object}
 use Rattle.ob_types.specs.declared.exports.Object.TheVariants as object
 use Rattle.ob_types.specs.declared.structure.Field.{Field}
-use Rattle.ob_types.specs.declared.structure.ObType.{ObType}
+use Rattle.ob_types.specs.declared.structure.ObType.{ObType, out-ObType}
+use Rattle.ob_types.specs.declared.structure.ObType.TheOpen.{ObType-F}
 use Rattle.ob_types.specs.declared.structure.ObType.TheVariants.{Basic as OfBasic, Array, Record}
 use Rattle.ob_types.specs.declared.structure.RecordName.{RecordName}
-use Rattle.ob_types.specs.declared.structure.RecordType.{roll-RecordType}
-use Rattle.ob_types.specs.Types.{cells, levels, max_cells, max_levels, is_admitted}
+use Rattle.ob_types.specs.declared.structure.RecordType.{RecordType, roll-RecordType, out-RecordType}
+use Rattle.ob_types.specs.Types.{cells, levels, max_cells, max_levels, is_admitted, chain}
 use Rattle.ob_scope.specs.declared.block.Entry.{Entry}
 use Rattle.ob_scope.specs.declared.block.Entry.TheVariants as entry
 use Rattle.ob_declare.specs.declared.written_type.Written.{Written}
@@ -131,6 +132,49 @@ next_fields inner fs x =
 abbrev pub no_fields : ℕ → Fields
 no_fields k = record { names = []; fields = []; cells = 0; records = k }
 
+-- ---- extensions
+
+abbrev pub TypeLayer : Type 0
+TypeLayer = ObType-F ObType Field RecordType
+
+abbrev pub record_layer : TypeLayer → Bool
+record_layer (ObType-F.Basic b) = false
+record_layer (ObType-F.Array n e) = false
+record_layer (ObType-F.Open e) = false
+record_layer (ObType-F.Record r) = true
+
+abbrev pub is_record : ObType → Bool
+is_record t = record_layer (out-ObType t)
+
+-- the names of a record's own fields, and those of all types of a chain
+abbrev pub names_of : List Field → List (List ℕ)
+names_of fields = map (λ (f : Field). f.name) fields
+
+abbrev pub names_layer : TypeLayer → List (List ℕ)
+names_layer (ObType-F.Basic b) = []
+names_layer (ObType-F.Array n e) = []
+names_layer (ObType-F.Open e) = []
+names_layer (ObType-F.Record r) = names_of (out-RecordType r).fields
+
+abbrev pub names_along : List ObType → List (List ℕ)
+names_along [] = []
+names_along (t ∷ ts) = names_layer (out-ObType t) ++ names_along ts
+
+-- a base is the first field, without a name
+abbrev pub base_field : ObType → Field
+base_field t = record { name = []; exported = false; of = t }
+
+-- An extension begins with its base, which is a record, and has the names of its fields.
+unfoldable pub extended : ℕ → ObType → Rule Fields
+extended k t =
+    Needs (is_record t) code.Types (
+    Then (there (cells_with 0 1 t) code.Size) (λ n.
+    Given (record { names = names_along (chain t); fields = base_field t ∷ []; cells = n; records = k })))
+
+unfoldable pub begun : Modules → Scope → ℕ → Option Qualident → Rule Fields
+begun ms s k None = Given (no_fields k)
+begun ms s k (Some q) = Then (type_named ms s q) (λ t. extended k t)
+
 abbrev pub record_of : RecordName → List Field → ObType
 record_of name fields = Record (roll-RecordType (record { name = name; fields = fields }))
 
@@ -141,10 +185,11 @@ abbrev pub max_records : ℕ
 max_records = 4294967295
 
 -- a record, after so many words RECORD
-unfoldable pub record_rule : (ℕ → TypeExpr → Rule Written) → RecordName → ℕ → List TypedNames → Rule Written
-record_rule inner naming k fields =
-    Then (through (next_fields inner) (no_fields (k + 1)) fields) (λ fs.
-    Given (written (record_of (numbered naming k) fs.fields) fs.records))
+unfoldable pub record_rule : Modules → Scope → (ℕ → TypeExpr → Rule Written) → RecordName → ℕ → Option Qualident → List TypedNames → Rule Written
+record_rule ms s inner naming k base fields =
+    Then (begun ms s (k + 1) base) (λ f.
+    Then (through (next_fields inner) f fields) (λ fs.
+    Given (written (record_of (numbered naming k) fs.fields) fs.records)))
 
 module _ (constant : Expr → Rule Constant) (inner : ℕ → TypeExpr → Rule Written) (ms : Modules) (s : Scope) (naming : RecordName) where
   abbrev pub type_layer : ℕ → TypeExpr-F TypeExpr TypedNames → Rule Written
@@ -153,11 +198,9 @@ module _ (constant : Expr → Rule Constant) (inner : ℕ → TypeExpr → Rule 
       Then (through (next_length constant) [] lengths) (λ ns.
       Then (inner k element) (λ w.
       Then (through array_of w.of (reverse ns)) (λ t. Given (written t w.records))))
-  type_layer k (TypeExpr-F.Record span None fields) =
+  type_layer k (TypeExpr-F.Record span base fields) =
       Needs (nat_lt k max_records) code.Size (
-      record_rule inner naming k fields)
-  -- extensions are left out
-  type_layer k (TypeExpr-F.Record span (Some q) fields) = Breaks code.LeftOut
+      record_rule ms s inner naming k base fields)
 
   unfoldable pub type_rule : ℕ → TypeExpr → Rule Written
   type_rule k t = type_layer k (out-TypeExpr t)

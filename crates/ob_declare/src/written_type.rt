@@ -4,8 +4,10 @@ ghost use Rattle.std.specs.Prelude.{◌≡◌, ◌<◌, ◌++◌, [], length, ma
 ghost use Rattle.ob_scope.specs.Rule.{Judges, through};
 ghost use Rattle.ob_scope.specs.Scope.{in_heading};
 ghost use Rattle.ob_declare.specs.WrittenTypes as spec;
+ghost use Rattle.ob_types.specs.declared.structure.ObType.{out-ObType};
+ghost use Rattle.ob_types.specs.Types.{chain};
 
-use ob_base::{Items, Shared, SharedItems};
+use ob_base::{Items, Shared, SharedItems, Text};
 use ob_fold::constant::constant;
 use ob_scan::Span;
 use ob_scope::block::{Block, Entry};
@@ -18,8 +20,8 @@ use ob_scope::scope::Scope;
 use ob_scope::site::Site;
 use ob_tree::tree::{Expr, Ident, IdentDef, Qualident, TypeExpr, TypedNames};
 use ob_types::{
-    Constant, Field, MAX_CELLS, MAX_LEVELS, ObType, Object, RecordName, RecordType, is_admitted,
-    levels, zero_size,
+    Constant, Field, MAX_CELLS, MAX_LEVELS, ObType, Object, RecordName, RecordType, base_of,
+    is_admitted, levels, zero_size,
 };
 use std::alloc::{AllocError, Global};
 
@@ -309,6 +311,104 @@ fn cells_with(taken: u32, count: usize, of: &ObType) -> Option<u32>
     Some(total as u32)
 }
 
+fn is_record(of: &ObType) -> bool
+    ensures { result ≡ spec.is_record of.now }
+{
+    match of {
+        ObType::Record(_) => true,
+        ObType::Basic(_) | ObType::Array(_, _) | ObType::Open(_) => false,
+    }
+}
+
+fn push_names(alloc: Global, first: Names, fields: &[Field]) -> Result<Names, AllocError>
+    ensures { IfOk result (λ names. names ≡ first ++ spec.names_of fields.now) }
+{
+    let mut so_far = first;
+    for field in fields {
+        so_far.push(alloc, &field.name)?;
+    }
+    Ok(so_far)
+}
+
+fn own_names(alloc: Global, first: Names, of: &ObType) -> Result<Names, AllocError>
+    ensures { IfOk result (λ names. names ≡ first ++ spec.names_layer (out-ObType of.now)) }
+{
+    match of {
+        ObType::Record(record) => push_names(alloc, first, record.fields.as_slice()),
+        ObType::Basic(_) | ObType::Array(_, _) | ObType::Open(_) => Ok(first),
+    }
+}
+
+/// The names of a record's fields, and of those of its bases.
+#[tactic(auto, using(crate::proofs::Chains::names_step, ob_types::proofs::Equations::base_lower))]
+fn inherited(alloc: Global, first: Names, of: &ObType) -> Result<Names, AllocError>
+    ensures { IfOk result (λ names. names ≡ first ++ spec.names_along (chain of.now)) }
+{
+    let so_far = own_names(alloc, first, of)?;
+    match base_of(of) {
+        Some(base) => inherited(alloc, so_far, base),
+        None => Ok(so_far),
+    }
+}
+
+/// The beginning of an extension of this type: its base, whose fields it has.
+#[tactic(auto, unfolding(crate::specs::WrittenTypes::extended))]
+fn extended(
+    alloc: Global,
+    records: u32,
+    of: ObType,
+    span: Span,
+    at: Span,
+) -> Result<Fields, Rejected>
+    ensures { Judges (spec.extended records of) result }
+{
+    if !is_record(&of) {
+        return Err(Rejected::Rule(broken(RuleCode::Types, at)));
+    }
+    match cells_with(0, 1, &of) {
+        None => Err(Rejected::Rule(broken(RuleCode::Size, span))),
+        Some(cells) => {
+            let names = inherited(alloc, Names::new(alloc), &of)?;
+            let mut fields = Items::new(alloc);
+            fields.push(Field {
+                name: Text::from_vec(Vec::new(alloc)),
+                exported: false,
+                of,
+            })?;
+            Ok(Fields {
+                names,
+                fields,
+                cells,
+                records,
+            })
+        }
+    }
+}
+
+/// The beginning of a record, which may be an extension.
+#[tactic(auto, unfolding(crate::specs::WrittenTypes::begun))]
+fn begun(
+    site: Site<'_>,
+    records: u32,
+    span: Span,
+    base: &Option<Qualident>,
+) -> Result<Fields, Rejected>
+    ensures { Judges (spec.begun site.entry.imports.now site.entry.scope.now records base.now) result }
+{
+    match base {
+        None => Ok(Fields {
+            names: Names::new(site.alloc),
+            fields: Items::new(site.alloc),
+            cells: 0,
+            records,
+        }),
+        Some(name) => {
+            let of = type_named(site.imports, site.scope, name)?;
+            extended(site.alloc, records, of, span, name.first.span)
+        }
+    }
+}
+
 /// A type as it is written, after so many words RECORD of its declaration.
 #[cycle(written)]
 #[tactic(auto, unfolding(crate::specs::WrittenTypes::type_at, crate::specs::WrittenTypes::type_rule))]
@@ -334,14 +434,11 @@ pub fn written_type(
                 records: element.records,
             })
         }
-        TypeExpr::Record(_, Some(base), _) => {
-            Err(Rejected::Rule(broken(RuleCode::LeftOut, base.first.span)))
-        }
-        TypeExpr::Record(span, None, fields) => {
+        TypeExpr::Record(span, base, fields) => {
             if records == u32::MAX {
                 return Err(Rejected::Rule(broken(RuleCode::Size, *span)));
             }
-            record_type(site, naming, records, *span, fields.as_slice())
+            record_type(site, naming, records, *span, base, fields.as_slice())
         }
     }
 }
@@ -354,12 +451,14 @@ fn record_type(
     naming: &RecordName,
     records: u32,
     span: Span,
+    base: &Option<Qualident>,
     list: &[TypedNames],
 ) -> Result<Written, Rejected>
     requires { records < 4294967295 }
-    ensures { Judges (spec.record_rule (spec.inner_type site.entry.imports.now site.entry.scope.now naming.now site.entry.levels) naming.now records list.now) result }
+    ensures { Judges (spec.record_rule site.entry.imports.now site.entry.scope.now (spec.inner_type site.entry.imports.now site.entry.scope.now naming.now site.entry.levels) naming.now records base.now list.now) result }
 {
-    let all = all_fields(site, naming, records + 1, span, list)?;
+    let first = begun(site, records + 1, span, base)?;
+    let all = all_fields(site, naming, first, span, list)?;
     let name = Shared::new(site.alloc, numbered(site.alloc, naming, records)?)?;
     let fields = SharedItems::new(site.alloc, all.fields)?;
     Ok(Written {
@@ -372,18 +471,13 @@ fn record_type(
 fn all_fields(
     site: Site<'_>,
     naming: &RecordName,
-    records: u32,
+    first: Fields,
     span: Span,
     list: &[TypedNames],
 ) -> Result<Fields, Rejected>
-    ensures { Judges (through (spec.next_fields (spec.inner_type site.entry.imports.now site.entry.scope.now naming.now site.entry.levels)) (spec.no_fields records) list.now) result }
+    ensures { Judges (through (spec.next_fields (spec.inner_type site.entry.imports.now site.entry.scope.now naming.now site.entry.levels)) first list.now) result }
 {
-    let mut so_far = Fields {
-        names: Names::new(site.alloc),
-        fields: Items::new(site.alloc),
-        cells: 0,
-        records,
-    };
+    let mut so_far = first;
     for x in list {
         so_far = next_fields(site, naming, so_far, x, span)?;
     }

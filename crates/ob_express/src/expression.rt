@@ -315,8 +315,7 @@ fn next_selected<'a>(
 {
     match selector {
         Selector::Field(name) => {
-            let (number, of) = field_of(site.scope, of, name)?;
-            let part = Designator::Field(Boxed::new(site.alloc, place)?, number);
+            let (of, part) = field_of(site.alloc, site.scope, of, name, place)?;
             Ok((of, part, variables))
         }
         Selector::Index(indexes) => elements(site, of, place, variables, indexes.as_slice()),
@@ -599,7 +598,7 @@ fn variable_actual(
         None => Err(Rejected::Rule(broken(RuleCode::ReadOnly, span))),
         Some(d) => {
             let (of, place, variables) = target_part(site, variables, d)?;
-            variable_argument(variables, formal, of, place, span)
+            variable_argument(site.alloc, variables, formal, of, place, span)
         }
     }
 }

@@ -13,7 +13,6 @@ use Rattle.ob_types.specs.declared.structure.ObType.{ObType, end_of-ObType, more
 use Rattle.ob_types.specs.declared.structure.ObType.TheVariants.{Basic as OfBasic, Array', Open', Array, Open, Record}
 use Rattle.ob_types.specs.declared.structure.ObType.TheBlock as block
 use Rattle.ob_types.specs.Types.{is_char, string_assignable}
-use Rattle.ob_types.proofs.SameType.{same_true}
 use Rattle.ob_mean.specs.declared.expression.Argument.{Argument}
 use Rattle.ob_mean.specs.declared.expression.Argument.TheVariants as argument
 use Rattle.ob_mean.specs.declared.expression.Callee.{Callee}
@@ -38,11 +37,13 @@ use Rattle.ob_scope.specs.declared.predeclared.ProperProcedure.{ProperProcedure}
 use Rattle.ob_scope.specs.declared.predeclared.ProperProcedure.TheVariants as procedure
 use Rattle.ob_scope.specs.declared.scope.Scope.{Scope}
 use Rattle.ob_scope.specs.Imports.{Modules}
+use Rattle.ob_scope.specs.declared.rule.RuleCode.TheVariants as code
 use Rattle.ob_scope.specs.Rule.{gives}
 use Rattle.ob_operand.specs.declared.operand.Operand.{Operand}
 use Rattle.ob_operand.specs.declared.operand.Operand.TheVariants as operand
 use Rattle.ob_operand.specs.Operands.{Variables}
 use Rattle.ob_operand.specs.Named.{Callable}
+use Rattle.ob_operand.specs.Selecting.{part_as}
 use Rattle.ob_operand.specs.Named as meaning
 use Rattle.ob_statement.specs.Assignments.{basic_of, is_open, is_left_out_copy, structured_assigned, assigned, assignment}
 use Rattle.ob_statement.specs.Calls.{call_with, procedure_call, call_of, call}
@@ -50,8 +51,10 @@ use Rattle.ob_statement.specs.StandardCalls.{value_formal, variable_formal, read
 use Rattle.ob_check.specs.Shapes.{shape_of, parameters_of}
 use Rattle.ob_check.proofs.ShapeForms.{parameter_open}
 use Rattle.ob_fit.specs.Fitting.{Suits, OperandFits, ScopeFits, StartsWith, heading_of}
+use Rattle.ob_fit.proofs.Bases.{part_fits}
 use Rattle.ob_fit.proofs.Expressions.{at_fits, target_at_fits, passed_fits, actuals_fit, value_for_fits, number_at_fits, truth_at_fits}
 use Rattle.ob_fit.proofs.Read.{CallableFits, called_fits}
+use Rattle.ob_fit.proofs.Rules.{there_is}
 use Rattle.ob_fit.proofs.Suiting.{never, nothing, closed_suits, elements_suit, char_basic}
 
 -- an action, where the variables begin with these
@@ -77,27 +80,25 @@ text_assigned names (Array' m p (more_of-ObType x end_of-ObType)) d n e h g =
 text_assigned names (Open' p (more_of-ObType x end_of-ObType)) d n e h g = elements_suit (Open x) x (object_of names d) refl g ∙ ap Some (char_basic x h)
 text_assigned names (Record r) d n e h g = never h
 
-open_copied : (t : ObType) → not (is_left_out_copy t t) ≡ true → is_open t ≡ false
-unfolding block.hidden-the_row-ObType-0 denote.Hole.Carrier.hidden
-open_copied (OfBasic b) h = refl
-open_copied (Array' m p (more_of-ObType x end_of-ObType)) h = refl
-open_copied (Open' p (more_of-ObType x end_of-ObType)) h = never h
-open_copied (Record r) h = refl
+closed_target : (b : Bool) → not b ≡ true → b ≡ false
+closed_target true h = never h
+closed_target false h = refl
 
 structured_fits : (names : Names) (t : ObType) (to : Designator) (line : ℕ) (v : Operand) (a : Action) → basic_of t ≡ None → gives (structured_assigned t to line v) a → IndexesFit names to → Suits t (object_of names to) → OperandFits names v → ActionFits names a
 unfolding structured_assigned
 structured_fits names t to line (operand.Text chars) a e h g s k =
     subst (ActionFits names) h.1 (g, text_assigned names t to (length chars) e h.0 s)
 structured_fits names t to line (operand.Place u from) a e h g s k =
-    let same = same_true t u h.1.0 in
-    let o = open_copied t (subst (λ x. not (is_left_out_copy t x) ≡ true) (sym same) h.0) in
-    subst (ActionFits names) h.1.1 (
+    let o = closed_target (is_open t) h.1.0 in
+    let p = h.1.1 in
+    let f = part_fits names t u from p.0 (there_is (part_as t u from) code.Types p.0 p.1) k.0 k.1 in
+    subst (ActionFits names) p.2 (
       g,
-      k.0,
+      f.0,
       (
         shape_of t,
         closed_suits t (object_of names to) o s,
-        closed_suits u (object_of names from) (ap is_open (sym same) ∙ o) k.1 ∙ ap (λ x. Some (Of (shape_of x))) (sym same),
+        closed_suits t (object_of names p.0) o f.1,
       ),
     )
 structured_fits names t to line (operand.Value b x) a e h g s k = absurd h

@@ -41,13 +41,14 @@ use Rattle.ob_operand.specs.Named as meaning
 use Rattle.ob_express.specs.Expressions.{Typed, Joining, Passing, alone, meant_rule, target_rule, two_taken, one_taken, predeclared_rule, one_passed, next_passed, none_left, all_passed, function_rule, call_rule, factor_layer, factor_rule, next_factor, term_rule, added_term, simple_rule, related_layer, related_rule, expr_rule, variable_actual, value_actual, actual_rule, inner_at, deeper_at, passed_at, expr_at, target_at, actuals_at, is_value, value_at, value_for_at, guard_at, number_at, truth_at}
 use Rattle.ob_check.specs.Shapes.{parameters_of}
 use Rattle.ob_fit.specs.Fitting.{Suits, OperandFits, ScopeFits, StartsWith}
-use Rattle.ob_fit.proofs.Forms.{function_fits, element_fits, element_object, field_fits, field_object}
+use Rattle.ob_fit.proofs.Bases.{field_suits}
+use Rattle.ob_fit.proofs.Forms.{function_fits, element_fits, element_object}
 use Rattle.ob_fit.proofs.Operands.{TypedFits, PassedFits, JoinedFits, number_fits, truth_fits, value_fits, constant_fits, variable_operand, operand_joined, sum_fits, product_fits, signed_fits, negated_fits, one_fits, two_fits, related_fits, variable_argument_fits, value_passed_fits}
 use Rattle.ob_fit.proofs.Read.{MeantFits, CallableFits, read_fits, written_fits, called_fits}
 use Rattle.ob_fit.proofs.Rules.{joined_none, there_is, through_keeps, joined as one_behind}
 use Rattle.ob_types.specs.Solid.{IsSolid}
-use Rattle.ob_fit.proofs.Solid.{element_solid, field_solid}
-use Rattle.ob_fit.proofs.Suiting.{elements_suit, field_suits, some_same, nothing}
+use Rattle.ob_fit.proofs.Solid.{element_solid}
+use Rattle.ob_fit.proofs.Suiting.{elements_suit, some_same, nothing}
 
 -- ---- what holds of the rules for what is inside
 
@@ -86,8 +87,8 @@ module _ (names : Names) (inner : Variables → Expr → Rule Typed) (fits : Inn
   layer_fits s start at (Selector-F.Field f) p h g t =
       let q = subst (λ x. StartsWith names.variables x.2) (sym h.2) t in
       let k = g q in
-      subst (λ x. IndexesFit names x.1 × Suits x.0 (object_of names x.1) × StartsWith names.variables start × IsSolid x.0) h.2
-      (field_fits names at.1 h.0.0 k.0, inl (field_object names at.1 h.0.0 ∙ field_suits s at.0 f.name h.0 (object_of names at.1) h.1 k.1), k.2, field_solid s at.0 f.name h.0 h.1 k.3)
+      let p = field_suits names s at.0 f.name at.1 h.0 h.1 k.0 k.1 k.3 in
+      subst (λ x. IndexesFit names x.1 × Suits x.0 (object_of names x.1) × StartsWith names.variables start × IsSolid x.0) h.2 (p.0, inl p.1, k.2, p.2)
   layer_fits s start at (Selector-F.Index es) p h g t =
       through_keeps (SelectedFits names start) (indexed inner) (λ a e b k c. indexed_fits start a e b k c) at es p h g t
   layer_fits s start at (Selector-F.Guard q) p h g t = absurd h

@@ -13,3 +13,4 @@ pub mod Procedures
 pub mod Modules
 pub mod Solid
 pub mod Sizes
+pub mod Bases

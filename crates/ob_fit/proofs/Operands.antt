@@ -1,5 +1,5 @@
 -- Operands fit, and what is made of them.
-use Rattle.std.proofs.Common.{◌≡◌, ℕ, ◌+◌, ◌++◌, length, Bool, true, false, cond, List, [], ◌∷◌, Option, Some, None, slice_get, refl, sym, ap, ◌∙◌, subst}
+use Rattle.std.proofs.Common.{◌≡◌, ℕ, ◌+◌, ◌++◌, length, Bool, true, false, cond, List, [], ◌∷◌, Option, Some, None, option_map, slice_get, refl, sym, ap, ◌∙◌, subst}
 use Rattle.ob_tree.specs.declared.tree.Sign.{Sign}
 use Rattle.ob_tree.specs.declared.tree.Sign.TheVariants as sign
 use Rattle.ob_scan.specs.declared.token.Span.{Span}
@@ -45,10 +45,11 @@ use Rattle.ob_strings.specs.Strings.{string_at, number_or, with_more}
 use Rattle.ob_strings.proofs.Numbers.{string_reads}
 use Rattle.ob_operand.specs.Relations.{compared, texts_related, values_related, characters_related, related}
 use Rattle.ob_operand.specs.Passing.{has_elements, variable_passed, variable_argument, fixed_text, text_passed, structure_passed, value_passed}
-use Rattle.ob_operand.specs.Selecting.{element_of}
+use Rattle.ob_operand.specs.Selecting.{element_of, part_as}
 use Rattle.ob_statement.specs.Assignments.{is_open}
 use Rattle.ob_check.specs.Shapes.{shape_of, parameter_of}
 use Rattle.ob_fit.specs.Fitting.{Suits, OperandFits, OperationListFits, ExprListFits, StartsWith}
+use Rattle.ob_fit.proofs.Bases.{part_fits}
 use Rattle.ob_fit.proofs.Forms.{unary_fits, chain_fits, every_fits, either_fits}
 use Rattle.ob_fit.proofs.Rules.{there_is, if_some, starts_before, starts_reads}
 use Rattle.ob_types.specs.Solid.{IsSolid}
@@ -325,6 +326,11 @@ same_place names formal t d a o h g s =
     let e = same_true formal t k.0 in
     (k.1, g, closed_suits t (object_of names d) (ap is_open (sym e) ∙ o) s ∙ ap (λ x. Some (Of (shape_of x))) (sym e))
 
+-- the part that is passed of a variable
+is_passed : (o : Option Designator) (a : Argument) → option_map (λ part. argument.Place part) o ≡ Some a → (part : Designator) × (o ≡ Some part) × (argument.Place part ≡ a)
+is_passed None a h = nothing a h
+is_passed (Some part) a h = (part, refl, some_same (argument.Place part) a h)
+
 variable_is : (names : Names) (formal t : ObType) (d : Designator) (a : Argument) → variable_passed formal t d ≡ Some a → IndexesFit names d → Suits t (object_of names d) → IsPassed names a (parameter_of kind.Variable formal)
 unfolding variable_passed block.hidden-the_row-ObType-0 denote.Hole.Carrier.hidden block.shown-the_row-ObType-0 denote.Hole.Carrier.shown out-ObType denote.Hole.Carrier.out
 variable_is names (OfBasic b) t d a h g s =
@@ -335,7 +341,9 @@ variable_is names (Open' p (more_of-ObType x end_of-ObType)) t d a h g s =
     let k = if_some (has_elements x t) (argument.Open d) a h in
     subst (λ y. IsPassed names y (parameter_of kind.Variable (Open x))) k.1 (g, elements_suit t x (object_of names d) (elements_are x t k.0) s)
 variable_is names (Record r) t d a h g s =
-    let k = same_place names (Record r) t d a refl h g s in subst (λ y. IsPassed names y (parameter_of kind.Variable (Record r))) k.0 (k.1, k.2)
+    let p = is_passed (part_as (Record r) t d) a h in
+    let k = part_fits names (Record r) t d p.0 p.1 g s in
+    subst (λ y. IsPassed names y (parameter_of kind.Variable (Record r))) p.2 (k.0, closed_suits (Record r) (object_of names p.0) refl k.1)
 
 pub variable_argument_fits : (names : Names) (vs : Variables) (formal t : ObType) (d : Designator) (p : Argument × Variables) → gives (variable_argument vs formal t d) p → PassedIf (IndexesFit names d × Suits t (object_of names d)) names vs kind.Variable formal p
 unfolding variable_argument

@@ -42,9 +42,8 @@ use Rattle.ob_scope.specs.Imports.{exported_at, exported_by}
 use Rattle.ob_scope.specs.LoadedTree.{LoadedTree}
 use Rattle.ob_scope.specs.Rule.{Rule, gives, through}
 use Rattle.ob_scope.specs.Scope.{seen, outer}
-use Rattle.ob_declare.specs.WrittenTypes.{predeclared_type, own_type, object_type, other_type, qualified, type_named, length_of, next_length, array_of, field_of, next_fields, no_fields, record_rule, type_layer, type_rule, inner_constant, inner_type, type_at, numbered}
-use Rattle.ob_operand.specs.Selecting.{element_of, field_from, seen_field}
-use Rattle.ob_operand.specs.Selecting as selecting
+use Rattle.ob_declare.specs.WrittenTypes.{predeclared_type, own_type, object_type, other_type, qualified, type_named, length_of, next_length, array_of, field_of, next_fields, extended, begun, record_rule, type_layer, type_rule, inner_constant, inner_type, type_at, numbered}
+use Rattle.ob_operand.specs.Selecting.{element_of, field_from}
 use Rattle.ob_check.specs.Shapes.{shape_of, shapes_of}
 use Rattle.ob_mean.specs.WellFormed.{Object as Object', elements_in}
 use Rattle.ob_operand.specs.Functions.{is_array}
@@ -52,7 +51,7 @@ use Rattle.ob_fit.specs.Fitting.{Suits}
 use Rattle.ob_types.specs.Solid.{IsSolid, AreSolid, FieldsSolid, ObjectSolid, ExportsSolid}
 use Rattle.ob_fit.specs.Solid.{LoadedSolid, EachSolid}
 use Rattle.ob_fit.proofs.Rules.{through_keeps, there_is}
-use Rattle.ob_fit.proofs.Suiting.{never, nothing, some_same, array_forms, seen_is, elements_suit}
+use Rattle.ob_fit.proofs.Suiting.{never, nothing, some_same, array_forms, elements_suit}
 
 -- ---- cells
 
@@ -77,7 +76,7 @@ row_solid : (k : _) (fields : Row_of-Field k) → AreSolid fields ≡ FieldsSoli
 row_solid k end_of-Field = refl
 row_solid k (more_of-Field name e of rest) = ap (λ l. IsSolid of × l) (row_solid _ rest)
 
-record_solid : (r : RecordType) → IsSolid (Record r) ≡ FieldsSolid (out-RecordType r).fields
+pub record_solid : (r : RecordType) → IsSolid (Record r) ≡ FieldsSolid (out-RecordType r).fields
 unfolding out-RecordType denote.Hole.Carrier.out
 record_solid (RecordType' name k fields) = row_solid _ fields ∙ ap FieldsSolid (sym (items_shown-the_row-Field-1 k fields))
 
@@ -108,18 +107,9 @@ found_by : (n : ℕ) (f : Field) (fs : List Field) (name : List ℕ) (q : ℕ ×
 found_by n f fs name q true g s e = subst (λ x. IsSolid x.1.of) (some_same (n, f) q e) s
 found_by n f fs name q false g s e = g e
 
-found_solid : (n : ℕ) (fs : List Field) (name : List ℕ) (q : ℕ × Field) → FieldsSolid fs → field_from n fs name ≡ Some q → IsSolid q.1.of
+pub found_solid : (n : ℕ) (fs : List Field) (name : List ℕ) (q : ℕ × Field) → FieldsSolid fs → field_from n fs name ≡ Some q → IsSolid q.1.of
 found_solid n [] name q s h = nothing q h
 found_solid n (f ∷ fs) name q s h = found_by n f fs name q (bytes_eq f.name name) (found_solid (n + 1) fs name q s.1) s.0 h
-
-pub field_solid : (s : Scope) (t : ObType) (name : List ℕ) (p : ℕ × ObType) → gives (selecting.field_of s t name) p → IsSolid t → IsSolid p.1
-unfolding block.hidden-the_row-ObType-0 denote.Hole.Carrier.hidden block.shown-the_row-ObType-0 denote.Hole.Carrier.shown out-ObType denote.Hole.Carrier.out selecting.field_of
-field_solid s (OfBasic b) name p h g = absurd h
-field_solid s (Array' n w (more_of-ObType x end_of-ObType)) name p h g = absurd h
-field_solid s (Open' w (more_of-ObType x end_of-ObType)) name p h g = absurd h
-field_solid s (Record r) name p h g =
-    let q = seen_is (bytes_eq (out-RecordType r).name.module_name s.module_name) (field_from 0 (out-RecordType r).fields name) p h in
-    subst IsSolid q.3 (found_solid 0 (out-RecordType r).fields name q.0 (subst (λ x. x) (record_solid r) g) q.1)
 
 -- ---- what is imported
 
@@ -259,6 +249,13 @@ module _ (ms : Modules) (loaded : EachSolid ms) (s : Scope) (scope : SeenSolid s
       subst (λ y. FieldsSolid y.fields) ((w.2).2)
       (fields_append fs.fields (map (field_of w.0.of) (out-TypedNames x).names) g (fields_of_type w.0.of (out-TypedNames x).names (inside fs.records (out-TypedNames x).of w.0 w.1)))
 
+  begun_solid : (k : ℕ) (base : Option Qualident) (f : Fields) → gives (begun ms s k base) f → FieldsSolid f.fields
+  unfolding begun extended
+  begun_solid k None f h = subst (λ y. FieldsSolid y.fields) h tt
+  begun_solid k (Some q) f h =
+      let e = (h.2).1 in
+      subst (λ y. FieldsSolid y.fields) e.2 (named_solid q h.0 h.1, tt)
+
   layer_solid : (constants : Expr → Rule Constant) (inner : ℕ → TypeExpr → Rule Written) → Inner inner → (naming : RecordName) (k : ℕ) (l : TypeExpr-F TypeExpr TypedNames) (w : Written) → gives (type_layer constants inner ms s naming k l) w → IsSolid w.of
   unfolding record_rule next_length
   layer_solid constants inner inside naming k (TypeExpr-F.Named q) w h = subst (λ x. IsSolid x.of) h.2 (named_solid q h.0 h.1)
@@ -268,13 +265,13 @@ module _ (ms : Modules) (loaded : EachSolid ms) (s : Scope) (scope : SeenSolid s
       subst (λ x. IsSolid x.of) t.2
       (arrays_solid e.0.of (reverse h.0) t.0 t.1 (inside k element e.0 e.1)
       (positive_reversed h.0 (through_keeps AllPositive (next_length constants) (λ a b c d f. subst AllPositive (d.2).2 (positive_more a (d.2).0 f (length_positive d.0 (d.2).0 (d.2).1))) [] lengths h.0 h.1 tt)))
-  layer_solid constants inner inside naming k (TypeExpr-F.Record span (Some q) fields) w h = absurd h
-  layer_solid constants inner inside naming k (TypeExpr-F.Record span None fields) w h =
-      let r = h.1 in
+  layer_solid constants inner inside naming k (TypeExpr-F.Record span base fields) w h =
+      let f = h.1 in
+      let r = f.2 in
       subst (λ x. IsSolid x.of) r.2
       (subst (λ x. x) (sym (record_solid (roll-RecordType (record { name = numbered naming k; fields = r.0.fields }))
       ∙ ap (λ x. FieldsSolid x.fields) (out-roll-RecordType (record { name = numbered naming k; fields = r.0.fields }))))
-      (through_keeps (λ y. FieldsSolid y.fields) (next_fields inner) (λ a b c d f. fields_solid inner inside a b c d f) (no_fields (k + 1)) fields r.0 r.1 tt))
+      (through_keeps (λ y. FieldsSolid y.fields) (next_fields inner) (λ a b c d f. fields_solid inner inside a b c d f) f.0 fields r.0 r.1 (begun_solid (k + 1) base f.0 f.1)))
 
   inner_solid : (naming : RecordName) (n : ℕ) → Inner (inner_type ms s naming n)
   unfolding inner_type type_rule

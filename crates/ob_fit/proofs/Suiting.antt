@@ -99,9 +99,15 @@ found_by : (n : ℕ) (f : Field) (fs : List Field) (name : List ℕ) (q : ℕ ×
 found_by n f fs name q true g e = let k = some_same (n, f) q e in (0, (let u : n ≡ q.0 = ap (λ x. x.0) k in omega arith), ap (λ x. Some (shape_of x.1.of)) k)
 found_by n f fs name q false g e = let k = g e in (suc k.0, (let u : q.0 ≡ n + 1 + k.0 = k.1 in omega arith), k.2)
 
-found_field : (n : ℕ) (fs : List Field) (name : List ℕ) (q : ℕ × Field) → field_from n fs name ≡ Some q → IsField n fs q
-found_field n [] name q h = nothing q h
-found_field n (f ∷ fs) name q h = found_by n f fs name q (bytes_eq f.name name) (found_field (n + 1) fs name q) h
+found_from : (n : ℕ) (fs : List Field) (name : List ℕ) (q : ℕ × Field) → field_from n fs name ≡ Some q → IsField n fs q
+found_from n [] name q h = nothing q h
+found_from n (f ∷ fs) name q h = found_by n f fs name q (bytes_eq f.name name) (found_from (n + 1) fs name q) h
+
+pub found_field : (fs : List Field) (name : List ℕ) (q : ℕ × Field) → field_from 0 fs name ≡ Some q → slice_get (shapes_in fs) q.0 ≡ Some (shape_of q.1.of)
+found_field fs name q h =
+    let k = found_from 0 fs name q h in
+    let at : q.0 ≡ k.0 = (let u : q.0 ≡ 0 + k.0 = k.1 in omega arith) in
+    ap (slice_get (shapes_in fs)) at ∙ k.2
 
 row_fields : (k : _) (row : Row_of-Shape k) (i : ℕ) → field_at row i ≡ shape_object (slice_get (items-the_row-Shape k row) i)
 row_fields k end_of-Shape i = refl
@@ -112,29 +118,9 @@ abbrev fields_in : Shape → (k : _) × Row_of-Shape k
 fields_in (shape.Record' k fields) = (_, fields)
 fields_in _ = (_, end_of-Shape)
 
-record_fields : (ss : List Shape) (i : ℕ) → field_shape (shape.Record ss) i ≡ shape_object (slice_get ss i)
+pub record_fields : (ss : List Shape) (i : ℕ) → field_shape (shape.Record ss) i ≡ shape_object (slice_get ss i)
 record_fields ss i =
     row_fields (fields_in (shape.Record ss)).0 (fields_in (shape.Record ss)).1 i ∙ ap (λ l. shape_object (slice_get l i)) (items_hidden-the_row-Shape-1 ss)
 
-record_not_open : (r : RecordType) → is_open (Record r) ≡ false
+pub record_not_open : (r : RecordType) → is_open (Record r) ≡ false
 record_not_open r = refl
-
-pub seen_is : (own : Bool) (o : Option (ℕ × Field)) (p : ℕ × ObType) → gives (seen_field own o) p → (q : ℕ × Field) × (o ≡ Some q) × (q.0 ≡ p.0) × (q.1.of ≡ p.1)
-unfolding seen_field
-seen_is own None p h = absurd h
-seen_is own (Some q) p h = (q, refl, ap (λ x. x.0) h.1, ap (λ x. x.1) h.1)
-
-pub field_suits : (s : Scope) (t : ObType) (name : List ℕ) (p : ℕ × ObType) (o : Option Object) → gives (field_of s t name) p → Suits t o → field_in o p.0 ≡ Some (Of (shape_of p.1))
-unfolding Rattle.ob_types.specs.declared.structure.ObType.TheBlock.hidden-the_row-ObType-0 denote.Hole.Carrier.hidden block.shown-the_row-ObType-0 denote.Hole.Carrier.shown out-ObType denote.Hole.Carrier.out field_of
-field_suits s (OfBasic b) name p o h g = absurd h
-field_suits s (Array' n w (more_of-ObType x end_of-ObType)) name p o h g = absurd h
-field_suits s (Open' w (more_of-ObType x end_of-ObType)) name p o h g = absurd h
-field_suits s (Record r) name p o h g =
-    let q = seen_is (bytes_eq (out-RecordType r).name.module_name s.module_name) (field_from 0 (out-RecordType r).fields name) p h in
-    let k = found_field 0 (out-RecordType r).fields name q.0 q.1 in
-    let at : p.0 ≡ k.0 = (let u : q.0.0 ≡ 0 + k.0 = k.1 in let v : q.0.0 ≡ p.0 = q.2 in omega arith) in
-    ap (λ x. field_in x p.0) (closed_suits (Record r) o (record_not_open r) g)
-    ∙ ap (λ x. field_shape x p.0) (shape_record r)
-    ∙ record_fields (shapes_in (out-RecordType r).fields) p.0
-    ∙ ap (λ i. shape_object (slice_get (shapes_in (out-RecordType r).fields) i)) at
-    ∙ ap shape_object (k.2 ∙ ap (λ x. Some (shape_of x)) q.3)

@@ -1,8 +1,8 @@
 -- To be believed.
 -- What is passed to parameters (Wirth, The Programming Language Oberon, Oberon-07). A VAR parameter takes a variable that may
 -- be written, of the same type; a structured value a variable of the same type or a string; an open array any array of the
--- same element.
-use Rattle.std.specs.Prelude.{ℕ, ◌+◌, List, length, Bool, false, Option, Some, None, nat_lt, if◌then◌else◌}
+-- same element. Of an extension the part is passed that is of the parameter's type.
+use Rattle.std.specs.Prelude.{ℕ, ◌+◌, List, length, Bool, false, Option, Some, None, option_map, nat_lt, if◌then◌else◌}
 use Rattle.ob_scope.specs.declared.rule.RuleCode.TheVariants as code
 use Rattle.ob_types.specs.declared.structure.ObType.{ObType, out-ObType}
 use Rattle.ob_types.specs.declared.structure.ObType.TheOpen.{ObType-F}
@@ -14,6 +14,7 @@ use Rattle.ob_scope.specs.Rule.{Rule, Given, Breaks, Then, Needs, there}
 use Rattle.ob_operand.specs.declared.operand.Operand.{Operand}
 use Rattle.ob_operand.specs.declared.operand.Operand.TheVariants as operand
 use Rattle.ob_operand.specs.Operands.{TypeLayer, Variables, text_variable, value_for}
+use Rattle.ob_operand.specs.Selecting.{part_as}
 
 -- whether an array has these elements
 abbrev pub has_elements_layer : ObType → TypeLayer → Bool
@@ -30,7 +31,7 @@ abbrev pub variable_layer : TypeLayer → ObType → ObType → Designator → O
 variable_layer (ObType-F.Open e) formal t d = if has_elements e t then Some (argument.Open d) else None
 variable_layer (ObType-F.Basic b) formal t d = if same formal t then Some (argument.Place d) else None
 variable_layer (ObType-F.Array n e) formal t d = if same formal t then Some (argument.Place d) else None
-variable_layer (ObType-F.Record r) formal t d = if same formal t then Some (argument.Place d) else None
+variable_layer (ObType-F.Record r) formal t d = option_map (λ part. argument.Place part) (part_as formal t d)
 
 unfoldable pub variable_passed : ObType → ObType → Designator → Option Argument
 variable_passed formal t d = variable_layer (out-ObType formal) formal t d

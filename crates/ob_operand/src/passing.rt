@@ -1,6 +1,6 @@
 //! What is passed to parameters.
 
-ghost use Rattle.std.specs.Prelude.{◌≡◌, ◌+◌, length};
+ghost use Rattle.std.specs.Prelude.{◌≡◌, ◌+◌, length, IfOk};
 ghost use Rattle.ob_scope.specs.declared.rule.RuleCode.TheVariants as code;
 ghost use Rattle.ob_scope.specs.Rule.{Judges, Given, Then, there};
 ghost use Rattle.ob_mean.specs.declared.expression.Argument.TheVariants as argument;
@@ -8,6 +8,7 @@ ghost use Rattle.ob_operand.specs.Operands.{text_variable};
 ghost use Rattle.ob_operand.specs.Passing as spec;
 
 use crate::operand::{Operand, fitting, hidden, hidden_with_end, is_char, value_for};
+use crate::selecting::part_as;
 use ob_base::Text;
 use ob_mean::{Argument, Designator};
 use ob_scan::Span;
@@ -15,7 +16,7 @@ use ob_scope::rejected::{Rejected, broken};
 use ob_scope::rule::RuleCode;
 use ob_strings::Variables;
 use ob_types::{ObType, same};
-use std::alloc::Global;
+use std::alloc::{AllocError, Global};
 
 fn has_elements(element: &ObType, of: &ObType) -> bool
     ensures { result ≡ spec.has_elements element.now of.now }
@@ -26,24 +27,33 @@ fn has_elements(element: &ObType, of: &ObType) -> bool
     }
 }
 
-/// A variable for a parameter that names one.
+/// A variable for a parameter that names one: of an extension, the part that is of the parameter's type.
 #[tactic(auto, unfolding(crate::specs::Passing::variable_passed))]
-fn variable_passed(formal: &ObType, of: &ObType, place: Designator) -> Option<Argument>
-    ensures { result ≡ spec.variable_passed formal.now of.now place }
+fn variable_passed(
+    alloc: Global,
+    formal: &ObType,
+    of: &ObType,
+    place: Designator,
+) -> Result<Option<Argument>, AllocError>
+    ensures { IfOk result (λ argument. argument ≡ spec.variable_passed formal.now of.now place) }
 {
     match formal {
         ObType::Open(element) => {
             if has_elements(element.get(), of) {
-                Some(Argument::Open(place))
+                Ok(Some(Argument::Open(place)))
             } else {
-                None
+                Ok(None)
             }
         }
-        ObType::Basic(_) | ObType::Array(_, _) | ObType::Record(_) => {
+        ObType::Record(_) => match part_as(alloc, formal, of, place)? {
+            Some(part) => Ok(Some(Argument::Place(part))),
+            None => Ok(None),
+        },
+        ObType::Basic(_) | ObType::Array(_, _) => {
             if same(formal, of) {
-                Some(Argument::Place(place))
+                Ok(Some(Argument::Place(place)))
             } else {
-                None
+                Ok(None)
             }
         }
     }
@@ -52,6 +62,7 @@ fn variable_passed(formal: &ObType, of: &ObType, place: Designator) -> Option<Ar
 /// A variable as what is passed. The fault stands at `span`.
 #[tactic(auto, unfolding(crate::specs::Passing::variable_argument))]
 pub fn variable_argument(
+    alloc: Global,
     variables: Variables,
     formal: &ObType,
     of: &ObType,
@@ -60,11 +71,8 @@ pub fn variable_argument(
 ) -> Result<(Argument, Variables), Rejected>
     ensures { Judges (spec.variable_argument variables formal.now of.now place) result }
 {
-    let argument = fitting(
-        variable_passed(formal, of, place),
-        RuleCode::Parameters,
-        span,
-    )?;
+    let passed = variable_passed(alloc, formal, of, place)?;
+    let argument = fitting(passed, RuleCode::Parameters, span)?;
     Ok((argument, variables))
 }
 
@@ -142,6 +150,7 @@ fn text_passed(
 /// A structured value: a variable alone, or a string.
 #[tactic(auto, unfolding(crate::specs::Passing::structure_passed))]
 fn structure_passed(
+    alloc: Global,
     variables: Variables,
     formal: &ObType,
     alone: bool,
@@ -155,7 +164,7 @@ fn structure_passed(
         Operand::Text(text) => text_passed(variables, formal, text, span),
         Operand::Place(of, place) => {
             if alone {
-                variable_argument(variables, formal, &of, place, span)
+                variable_argument(alloc, variables, formal, &of, place, span)
             } else {
                 Err(Rejected::Rule(broken(RuleCode::Parameters, span)))
             }
@@ -181,7 +190,7 @@ pub fn value_passed(
             Ok((Argument::Value(value), variables))
         }
         ObType::Array(_, _) | ObType::Open(_) | ObType::Record(_) => {
-            structure_passed(variables, formal, alone, operand, span)
+            structure_passed(alloc, variables, formal, alone, operand, span)
         }
     }
 }

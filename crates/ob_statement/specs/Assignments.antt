@@ -8,17 +8,18 @@ use Rattle.ob_tree.specs.FirstToken.{first_of}
 use Rattle.ob_types.specs.declared.structure.Basic.{Basic}
 use Rattle.ob_types.specs.declared.structure.ObType.{ObType}
 use Rattle.ob_types.specs.declared.structure.ObType.TheVariants.{Basic as OfBasic, Array', Open'}
-use Rattle.ob_types.specs.Types.{same, string_assignable}
+use Rattle.ob_types.specs.Types.{string_assignable}
 use Rattle.ob_mean.specs.declared.expression.Designator.{Designator as Place}
 use Rattle.ob_mean.specs.declared.statement.Action.{Action}
 use Rattle.ob_mean.specs.declared.statement.Action.TheVariants as action
 use Rattle.ob_scope.specs.Imports.{Modules}
-use Rattle.ob_scope.specs.Rule.{Rule, Given, Breaks, Then, Needs}
+use Rattle.ob_scope.specs.Rule.{Rule, Given, Breaks, Then, Needs, there}
 use Rattle.ob_scope.specs.declared.scope.Scope.{Scope}
 use Rattle.ob_operand.specs.declared.operand.Operand.{Operand}
 use Rattle.ob_operand.specs.declared.operand.Operand.TheVariants as operand
 use Rattle.ob_express.specs.Expressions.{expr_at, value_for_at, target_at}
 use Rattle.ob_operand.specs.Operands.{Variables}
+use Rattle.ob_operand.specs.Selecting.{part_as}
 
 -- the basic type that a type is
 abbrev pub basic_of : ObType → Option Basic
@@ -38,12 +39,15 @@ is_array t = false
 abbrev pub is_left_out_copy : ObType → ObType → Bool
 is_left_out_copy t u = is_array t && is_array u && (is_open t || is_open u)
 
--- what is assigned to a variable of structured type: a value of the same type, or a string in this line
+-- What is assigned to a variable of structured type: a value of the same type, or a string in this line. Of an extension the part
+-- is assigned that is of the variable's type.
 unfoldable pub structured_assigned : ObType → Place → ℕ → Operand → Rule Action
 structured_assigned t to line (operand.Text chars) =
     Needs (string_assignable t (length chars)) code.Types (Given (action.AssignText to line chars))
 structured_assigned t to line (operand.Place u from) =
-    Needs (not (is_left_out_copy t u)) code.LeftOut (Needs (same t u) code.Types (Given (action.Copy to from)))
+    Needs (not (is_left_out_copy t u)) code.LeftOut (
+    Needs (not (is_open t)) code.Types (
+    Then (there (part_as t u from) code.Types) (λ part. Given (action.Copy to part))))
 structured_assigned t to line (operand.Value b e) = Breaks code.Types
 
 module _ (ms : Modules) (s : Scope) (n : ℕ) where

@@ -7,13 +7,15 @@ ghost use Rattle.ob_statement.specs.Assignments as spec;
 use ob_express::{assigned_value, expr, target};
 use ob_mean::{Action, Designator as Place};
 use ob_operand::Operand;
+use ob_operand::selecting::part_as;
 use ob_scan::Span;
 use ob_scope::Site;
 use ob_scope::rejected::{Rejected, broken};
 use ob_scope::rule::RuleCode;
 use ob_strings::Variables;
 use ob_tree::tree::{Designator, Expr};
-use ob_types::{Basic, ObType, same, string_assignable};
+use ob_types::{Basic, ObType, string_assignable};
+use std::alloc::Global;
 
 /// The basic type that a type is.
 fn basic_of(of: &ObType) -> Option<Basic>
@@ -53,6 +55,7 @@ fn is_left_out_copy(to: &ObType, from: &ObType) -> bool
 /// What is assigned to a variable of structured type. The value begins at this token.
 #[tactic(auto, unfolding(crate::specs::Assignments::structured_assigned))]
 fn structured_assigned(
+    alloc: Global,
     of: &ObType,
     to: Place,
     span: Span,
@@ -71,10 +74,13 @@ fn structured_assigned(
             if is_left_out_copy(of, &from_type) {
                 return Err(Rejected::Rule(broken(RuleCode::LeftOut, span)));
             }
-            if !same(of, &from_type) {
+            if is_open(of) {
                 return Err(Rejected::Rule(broken(RuleCode::Types, span)));
             }
-            Ok(Action::Copy(to, from))
+            match part_as(alloc, of, &from_type, from)? {
+                Some(part) => Ok(Action::Copy(to, part)),
+                None => Err(Rejected::Rule(broken(RuleCode::Types, span))),
+            }
         }
         Operand::Value(_, _) => Err(Rejected::Rule(broken(RuleCode::Types, span))),
     }
@@ -99,7 +105,7 @@ fn assigned(
         }
         None => {
             let (value, variables) = expr(site, variables, e)?;
-            let action = structured_assigned(of, to, e.first_token(), value)?;
+            let action = structured_assigned(site.alloc, of, to, e.first_token(), value)?;
             Ok((action, variables))
         }
     }

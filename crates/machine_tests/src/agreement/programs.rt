@@ -45,7 +45,7 @@ pub(crate) const CONTROL: [&str; 21] = [
 ];
 
 /// Arrays, records and strings.
-pub(crate) const DATA: [&str; 12] = [
+pub(crate) const DATA: [&str; 13] = [
     "MODULE A; IMPORT Out; VAR a: ARRAY 5 OF INTEGER; i: INTEGER; BEGIN FOR i := 0 TO 4 DO a[i] := i * i END; FOR i := 4 TO 0 BY -1 DO Out.Int(a[i], 3) END; INC(a[2], a[3]); DEC(a[a[1]]); Out.Int(a[2], 4); Out.Int(a[1], 4); Out.Int(LEN(a), 4) END A.",
     "MODULE A; IMPORT Out; VAR a: ARRAY 3, 4 OF INTEGER; i, j: INTEGER; BEGIN FOR i := 0 TO 2 DO FOR j := 0 TO 3 DO a[i, j] := i * 10 + j END END; a[0] := a[2]; a[1][3] := a[0][1]; FOR i := 0 TO 2 DO Out.Int(a[i, 1], 3); Out.Int(a[i][3], 3) END; Out.Int(LEN(a), 2); Out.Int(LEN(a[1]), 2) END A.",
     "MODULE A; IMPORT Out; TYPE R = RECORD x, y: INTEGER; s: ARRAY 4 OF CHAR; q: RECORD z: BYTE; w: BOOLEAN END END; VAR r, t: R; a: ARRAY 2 OF R; BEGIN r.x := 1; r.y := 2; r.s := \"ab\"; r.q.z := 9; r.q.w := TRUE; t := r; r.x := 5; a[1] := t; a[0] := r; a[1].y := 7; t := a[1]; Out.Int(t.x, 0); Out.Int(t.y, 2); Out.String(t.s); Out.Int(a[0].x, 2); Out.Int(t.q.z, 2); Out.Int(ORD(a[1].q.w), 2); Out.Int(ORD(r.q.w), 2) END A.",
@@ -58,6 +58,7 @@ pub(crate) const DATA: [&str; 12] = [
     "MODULE A; IMPORT Out; TYPE T = RECORD a: ARRAY 2 OF RECORD b: INTEGER; c: ARRAY 2 OF BYTE END END; VAR t: ARRAY 2 OF T; i: INTEGER; BEGIN FOR i := 0 TO 1 DO t[i].a[1 - i].c[i] := 200 + i; t[i].a[i].b := -i END; t[0].a[0] := t[1].a[1]; Out.Int(t[0].a[0].b, 3); Out.Int(t[0].a[1].c[0], 4); Out.Int(t[1].a[0].c[1], 4); Out.Int(t[0].a[0].c[1], 4) END A.",
     "MODULE A; IMPORT Out; VAR a: ARRAY 300 OF BYTE; i, s: INTEGER; BEGIN FOR i := 0 TO 255 DO a[i] := i END; FOR i := 0 TO LEN(a) - 1 DO INC(s, a[i]) END; Out.Int(s, 0) END A.",
     "MODULE A; IMPORT Out; VAR a: ARRAY 6 OF INTEGER; i, j, t: INTEGER; BEGIN a[0] := 5; a[1] := -3; a[2] := 9; a[3] := 0; a[4] := 9; a[5] := 1; FOR i := 0 TO 4 DO FOR j := 0 TO 4 - i DO IF a[j] > a[j + 1] THEN t := a[j]; a[j] := a[j + 1]; a[j + 1] := t END END END; FOR i := 0 TO 5 DO Out.Int(a[i], 3) END END A.",
+    "MODULE A; IMPORT Out; TYPE T = RECORD a: INTEGER END; U = RECORD (T) b: INTEGER END; W = RECORD (U) c: INTEGER END; VAR t: T; u: U; w: W; PROCEDURE P(VAR r: T; v: U); BEGIN r.a := r.a + v.b END P; BEGIN w.a := 1; w.b := 2; w.c := 3; u := w; t := u; P(w, w); P(t, u); Out.Int(t.a, 3); Out.Int(u.a, 3); Out.Int(u.b, 3); Out.Int(w.a, 3); Out.Int(w.b, 3); Out.Int(w.c, 3) END A.",
 ];
 
 /// Procedures and what is passed to them.

@@ -19,4 +19,4 @@ abbrev pub decreases-inner_type : goal.decreases-inner_type
 decreases-inner_type l = 5 * l.site.levels + 0
 
 abbrev pub invariant-all_fields-loop-x : goal.invariant-all_fields-loop-x
-invariant-all_fields-loop-x l = answer (through (spec.next_fields (spec.inner_type l.site.imports.now l.site.scope.now l.naming l.site.levels)) (spec.no_fields l.records) l.list) ≡ answer (through (spec.next_fields (spec.inner_type l.site.imports.now l.site.scope.now l.naming l.site.levels)) l.so_far (drop l.x-index l.list))
+invariant-all_fields-loop-x l = answer (through (spec.next_fields (spec.inner_type l.site.imports.now l.site.scope.now l.naming l.site.levels)) l.fn.first l.list) ≡ answer (through (spec.next_fields (spec.inner_type l.site.imports.now l.site.scope.now l.naming l.site.levels)) l.so_far (drop l.x-index l.list))
