@@ -282,6 +282,38 @@ fn modules_are_replaced_and_keys_are_compared(rt: HostRuntime) -> Result<(), Fai
     Ok(())
 }
 
+const BASE: &str =
+    "MODULE N; IMPORT Out; TYPE T* = RECORD a*: INTEGER; h: INTEGER END; PROCEDURE Set*(VAR r: T); BEGIN r.a := 4; r.h := 5 END Set; PROCEDURE Show*(r: T); BEGIN Out.Int(r.a, 0); Out.Int(r.h, 0) END Show; END N.";
+
+#[test]
+fn records_extend_those_of_other_modules(rt: HostRuntime) -> Result<(), Fail> {
+    let written = cells(
+        rt.alloc(),
+        &[
+            BASE,
+            "MODULE M; IMPORT N, Out; TYPE W* = RECORD (N.T) c*: INTEGER END; VAR w*: W; t: N.T; BEGIN w.c := 7; N.Set(w); t := w; N.Set(t); t.a := 1; w.a := w.a + t.a; N.Show(w); N.Show(t); Out.Int(w.c, 0) END M.",
+            "MODULE L; IMPORT M, N; PROCEDURE P*; BEGIN N.Show(M.w) END P; END L.",
+            "L.P",
+            "MODULE L; IMPORT M, N; VAR t: N.T; BEGIN t := M.w; t.h := 1 END L.",
+        ],
+    )?;
+    assert_eq!(rt; written.as_str(), "|55157||55|#18|");
+    Ok(())
+}
+
+#[test]
+fn an_extension_keeps_its_own_fields(rt: HostRuntime) -> Result<(), Fail> {
+    let written = cells(
+        rt.alloc(),
+        &[
+            "MODULE A; IMPORT Out; TYPE T = RECORD a: INTEGER END; U = RECORD (T) b: INTEGER END; VAR t: T; u: U; PROCEDURE P(VAR r: T; x: T); BEGIN r := x END P; BEGIN u.b := 5; t.a := 6; P(u, t); Out.Int(u.a, 0); Out.Int(u.b, 0) END A.",
+            "MODULE A; IMPORT Out; TYPE T = RECORD END; U = RECORD (T) b: INTEGER END; VAR t: T; u, v: U; BEGIN u.b := 2; t := u; v := u; u.b := 3; Out.Int(v.b, 0); Out.Int(u.b, 0) END A.",
+        ],
+    )?;
+    assert_eq!(rt; written.as_str(), "65|23|");
+    Ok(())
+}
+
 #[test]
 fn what_does_not_link_or_check(rt: HostRuntime) -> Result<(), Fail> {
     let written = cells(
