@@ -340,7 +340,7 @@ fn own_names(alloc: Global, first: Names, of: &ObType) -> Result<Names, AllocErr
 }
 
 /// The names of a record's fields, and of those of its bases.
-#[tactic(auto, using(crate::proofs::Chains::names_step, ob_types::proofs::Equations::base_lower))]
+#[tactic(auto, using(ob_types::proofs::Equations::base_lower))]
 fn inherited(alloc: Global, first: Names, of: &ObType) -> Result<Names, AllocError>
     ensures { IfOk result (λ names. names ≡ first ++ spec.names_along (chain of.now)) }
 {
