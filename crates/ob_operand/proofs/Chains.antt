@@ -24,9 +24,9 @@ pub field_by_base : (t b : ObType) (name : List ℕ) (d e : Designator) → own_
 field_by_base t b name d e own base same_place =
     ap (λ x. field_along (chain b) name (designator.Field x 0)) same_place
     ∙ sym (
-      field_step t name d
-      ∙ ap (λ o. nearest d o (field_from_base (base_of t) name d)) own
-      ∙ ap (λ o. field_from_base o name d) base)
+    field_step t name d
+    ∙ ap (λ o. nearest d o (field_from_base (base_of t) name d)) own
+    ∙ ap (λ o. field_from_base o name d) base)
 
 -- a part that is a base or in one
 abbrev pub part_from_base : ObType → Option ObType → Designator → Option Designator
@@ -45,9 +45,9 @@ pub part_by_base : (to t b : ObType) (d e : Designator) → same to t ≡ false 
 part_by_base to t b d e apart base same_place =
     ap (λ x. part_as to b (designator.Field x 0)) same_place
     ∙ sym (
-      part_step to t d
-      ∙ ap (λ x. cond x (Some d) (part_from_base to (base_of t) d)) apart
-      ∙ ap (λ o. part_from_base to o d) base)
+    part_step to t d
+    ∙ ap (λ x. cond x (Some d) (part_from_base to (base_of t) d)) apart
+    ∙ ap (λ o. part_from_base to o d) base)
 
 -- an answer that is known to be one value is known to be another that equals it
 pub answer_as : {A B E : Type 0} (r : Result A E) (f : A → B) (x y : B) → x ≡ y → IfOk r (λ a. f a ≡ x) → IfOk r (λ a. f a ≡ y)
