@@ -204,6 +204,22 @@ fn places_of_faults(rt: HostRuntime) -> Result<(), Fail> {
             (Code::ReadOnly, 2, 7),
         ),
         ("MODULE Out; END Out.", (Code::DeclaredTwice, 1, 8)),
+        (
+            "MODULE A; TYPE T = RECORD (T) a: INTEGER END; END A.",
+            (Code::UnknownName, 1, 28),
+        ),
+        (
+            "MODULE A; TYPE R = ARRAY 2 OF INTEGER; T = RECORD (R) a: INTEGER END; END A.",
+            (Code::Types, 1, 52),
+        ),
+        (
+            "MODULE A; TYPE T = RECORD a: CHAR END; U = RECORD (T) a: CHAR END; END A.",
+            (Code::DeclaredTwice, 1, 55),
+        ),
+        (
+            "MODULE A; TYPE T = RECORD END; PROCEDURE P; END P; BEGIN P(T) := 1 END A.",
+            (Code::ReadOnly, 1, 58),
+        ),
     ] {
         assert_eq!(rt; place_of(rt.alloc(), text)?, Some(place), "{text}");
     }
