@@ -313,15 +313,6 @@ fn what_may_be_assigned(rt: HostRuntime) -> Result<(), Fail> {
     Ok(())
 }
 
-#[test]
-fn an_extension_may_be_assigned(rt: HostRuntime) -> Result<(), Fail> {
-    let base = record_of_one(rt.alloc(), b"a", true)?;
-    let longer = extension(rt.alloc())?;
-    assert!(rt; assignable(&base, &longer));
-    assert!(rt; !assignable(&longer, &base));
-    Ok(())
-}
-
 // Whether a string of so many characters may be assigned to an array of so many characters.
 fn fits(alloc: Global, elements: u32, length: usize) -> Result<bool, AllocError> {
     let of = array(alloc, elements, ObType::Basic(Basic::Char))?;

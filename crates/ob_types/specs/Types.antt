@@ -149,9 +149,9 @@ is_number (OfBasic basic.Integer) = true
 is_number (OfBasic basic.Byte) = true
 is_number _ = false
 
--- a value of the second type to a variable of the first: of the same type or an extension, or INTEGER and BYTE mixed
+-- a value of the second type to a variable of the first: of the same type, or INTEGER and BYTE mixed
 abbrev pub assignable : ObType → ObType → Bool
-assignable to from = extends to from || (is_number to && is_number from)
+assignable to from = same to from || (is_number to && is_number from)
 
 abbrev pub is_char : ObType → Bool
 is_char (OfBasic basic.Char) = true

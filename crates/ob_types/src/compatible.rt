@@ -125,12 +125,12 @@ fn is_number(of: &ObType) -> bool
     }
 }
 
-/// Whether a value of the type `from` may be assigned to a variable of the type `to`: the types are the same, or `from` extends
-/// `to`, or INTEGER and BYTE mixed. For a string see `string_assignable`.
+/// Whether a value of the type `from` may be assigned to a variable of the type `to`: the types are the same, or INTEGER and
+/// BYTE mixed. For a string see `string_assignable`.
 pub fn assignable(to: &ObType, from: &ObType) -> bool
     ensures { result ≡ spec.assignable to.now from.now }
 {
-    extends(to, from) || (is_number(to) && is_number(from))
+    same(to, from) || (is_number(to) && is_number(from))
 }
 
 fn is_char(of: &ObType) -> bool
