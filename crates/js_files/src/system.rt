@@ -251,7 +251,8 @@ impl<R: Files + AllocGlobal + Clone + Drop> Device for SystemFolder<R> {
         if opened.len() > MAX_FILE_LEN {
             return Err(DeviceFault::Failed);
         }
-        let mut bytes = Vec::new(self.rt.alloc());
+        // Room for the whole file at once, and for one byte that would show that it has grown.
+        let mut bytes = Vec::with_capacity(self.rt.alloc(), opened.len() as usize + 1)?;
         file.take(MAX_FILE_LEN + 1).read_to_end(&mut bytes)?;
         if bytes.len() as u64 > MAX_FILE_LEN {
             return Err(DeviceFault::Failed);
