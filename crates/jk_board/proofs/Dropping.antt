@@ -1,9 +1,9 @@
 -- A board that drops what was read.
-use Rattle.std.proofs.Common.{◌≡◌, ℕ, ◌+◌, ◌-◌, ◌<◌, ◌≤◌, List, [], ◌++◌, take, drop, length, sym, ap, ◌∙◌, subst, arith, length-append, append-nil, append_assoc}
+use Rattle.std.proofs.Common.{◌≡◌, ℕ, ◌+◌, ◌-◌, ◌<◌, ◌≤◌, List, [], ◌++◌, take, drop, length, sym, ap, ◌∙◌, arith, length-append, append-nil}
 use Rattle.std.proofs.lemmas.List.{take_all, length-drop, drop-append-le}
 use Rattle.jk_log.specs.declared.entry.Entry.{Entry}
 use Rattle.jk_board.specs.declared.posted.Posted.{Posted}
-use Rattle.jk_board.specs.Posted.{held_of, Shows, IsSame, Follows}
+use Rattle.jk_board.specs.Posted.{held_of, Shows, Follows}
 use Rattle.jk_board.proofs.Lists.{drop-drop, drop_pair}
 
 -- three rows, of which the first ones are dropped

@@ -1,4 +1,7 @@
-//! How far the followers that are lent have read. No clause speaks of it.
+//! How far the followers that are lent have read. No clause speaks of what stands in the words of their marks, and `least_of` says what
+//! is made of what was read there.
+ghost use Rattle.std.specs.Prelude.{◌≡◌, ◌==◌, if◌then◌else◌, None, Some};
+ghost use Rattle.jk_board.specs.Marks.{least_lent};
 
 use std::alloc::Global;
 use std::sync::Arc;
@@ -28,20 +31,12 @@ impl Marks {
 
     /// How many entries the slowest that is lent has read, and the last number there is where none is lent.
     pub fn least_place(&self) -> usize {
-        let mut least = IDLE;
-        for seat in 0..SEATS {
-            least = least.min(self.places[seat].load(Ordering::SeqCst));
-        }
-        least
+        least_of(&read(&self.places))
     }
 
     /// How many bytes the slowest that is lent has read, and the last number there is where none is lent.
     pub fn least_bytes(&self) -> usize {
-        let mut least = IDLE;
-        for seat in 0..SEATS {
-            least = least.min(self.bytes[seat].load(Ordering::SeqCst));
-        }
-        least
+        least_of(&read(&self.bytes))
     }
 
     fn write(&self, seat: usize, place: usize, bytes: usize) {
@@ -52,8 +47,38 @@ impl Marks {
     }
 
     fn is_lent(&self, seat: usize) -> bool {
-        seat < SEATS && self.places[seat].load(Ordering::SeqCst) != IDLE
+        seat < SEATS && lent(self.places[seat].load(Ordering::SeqCst)).is_some()
     }
+}
+
+/// The least number of those who are lent, and the last number there is where nobody is lent. One who is not lent has none, and holds
+/// nothing back.
+pub fn least_of(marks: &[Option<usize>]) -> usize
+    ensures { result ≡ least_lent usize.MAX marks.now }
+{
+    let mut least = usize::MAX;
+    for mark in marks {
+        if let Some(number) = *mark {
+            least = least.min(number);
+        }
+    }
+    least
+}
+
+/// What a word says of its follower: how far one who is lent has read.
+fn lent(word: usize) -> Option<usize>
+    ensures { result ≡ (if word == usize.MAX then None else Some word) }
+{
+    if word == IDLE { None } else { Some(word) }
+}
+
+/// What the words say now, one after another.
+fn read(words: &[AtomicUsize; SEATS]) -> [Option<usize>; SEATS] {
+    let mut marks = [None; SEATS];
+    for seat in 0..SEATS {
+        marks[seat] = lent(words[seat].load(Ordering::SeqCst));
+    }
+    marks
 }
 
 fn idle_words() -> [AtomicUsize; SEATS] {

@@ -23,7 +23,7 @@ pub fn bytes_of(entries: &[Entry]) -> usize {
 fn text_bytes(output: &Output) -> usize {
     match output {
         Output::ExecuteInput { code, .. } => code.as_str().len(),
-        Output::Stream(text) => text.as_str().len(),
+        Output::Stream(text) => text.value().as_str().len(),
         Output::Error(failure) => failure_bytes(failure),
         Output::ExecuteReply(Outcome::Failed { failure, .. }) => failure_bytes(failure),
         _ => 0,

@@ -177,7 +177,8 @@ fn add_shown(
             if execute.silent || text.as_str().is_empty() {
                 return Ok(());
             }
-            add_iopub(entries, parent, Output::Stream(text.copy()?))
+            let output = Output::stream_of(alloc, text.copy()?)?;
+            add_iopub(entries, parent, output)
         }
         Kind::End { ending, count } => {
             add_ended(entries, seat, parent, execute.silent, ending, *count)

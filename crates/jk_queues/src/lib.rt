@@ -7,8 +7,10 @@ pub mod part;
 pub mod pauses;
 pub mod pool;
 pub mod rule;
+pub mod spare;
 pub mod stop;
 
 pub use inbox::{Full, Inbox, Left, Seat, Seats, Taker, close};
 pub use jk_log::{Job, ParsedCell};
 pub use pool::{Gate, Pool, WorkerEnd, worker};
+pub use spare::Spare;

@@ -9,16 +9,17 @@ ghost use Rattle.jk_run.specs.Hand.{hand};
 use jk_core::Kernel;
 use jk_language::Language;
 use jk_log::Arrival;
-use jk_queues::Taker;
+use jk_queues::{Spare, Taker};
 use std::sync::Wait;
 
 /// Takes the arrival in hand, and then arrivals until there are none or the kernel was shut down. One that finds no memory
-/// in the kernel is in hand after it.
+/// in the kernel, also once the spare block is let go, is in hand after it.
 pub(crate) fn take_arrivals<L: Language, R: Wait>(
     rt: &R,
     kernel: &mut Kernel<L>,
     taker: Taker,
     arrival: Option<Arrival>,
+    spare: &mut Spare,
 ) -> (Taker, Option<Arrival>)
     requires { takes kernel.old.log ++ hand arrival ≡ taken_by taker }
     ensures took { takes kernel.new.log ++ hand result.1 ≡ taken_by result.0 }
@@ -29,8 +30,8 @@ pub(crate) fn take_arrivals<L: Language, R: Wait>(
     if kernel.ended() {
         return (taker, arrival);
     }
-    match take_hand(kernel, arrival) {
-        Ok(()) => take_all(rt, kernel, taker),
+    match take_hand(kernel, arrival, spare) {
+        Ok(()) => take_all(rt, kernel, taker, spare),
         Err(arrival) => (taker, Some(arrival)),
     }
 }
@@ -40,6 +41,7 @@ fn take_all<L: Language, R: Wait>(
     rt: &R,
     kernel: &mut Kernel<L>,
     taker: Taker,
+    spare: &mut Spare,
 ) -> (Taker, Option<Arrival>)
     requires { takes kernel.old.log ≡ taken_by taker }
     ensures took { takes kernel.new.log ++ hand result.1 ≡ taken_by result.0 }
@@ -56,7 +58,7 @@ fn take_all<L: Language, R: Wait>(
         let Some(arrival) = first else {
             return (same, None);
         };
-        if let Err(arrival) = take_one(kernel, arrival) {
+        if let Err(arrival) = take_one(kernel, arrival, spare) {
             return (same, Some(arrival));
         }
         taker = same;
@@ -65,19 +67,45 @@ fn take_all<L: Language, R: Wait>(
 }
 
 /// Takes what is in hand, if anything is.
-fn take_hand<L: Language>(kernel: &mut Kernel<L>, arrival: Option<Arrival>) -> Result<(), Arrival>
+fn take_hand<L: Language>(
+    kernel: &mut Kernel<L>,
+    arrival: Option<Arrival>,
+    spare: &mut Spare,
+) -> Result<(), Arrival>
     requires { ended kernel.old.log ≡ false }
     ensures took { MatchResult result (λ _. takes kernel.new.log ≡ takes kernel.old.log ++ hand arrival) (λ back. (arrival ≡ Some back) × (kernel.new ≡ kernel.old)) }
     ensures acts { MovesKernel L.spoken kernel.old kernel.new }
 {
     match arrival {
-        Some(arrival) => take_one(kernel, arrival),
+        Some(arrival) => take_one(kernel, arrival, spare),
         None => Ok(()),
     }
 }
 
+/// Takes an arrival. Where memory is refused, it lets the spare block go and tries once more.
+fn take_one<L: Language>(
+    kernel: &mut Kernel<L>,
+    arrival: Arrival,
+    spare: &mut Spare,
+) -> Result<(), Arrival>
+    requires { ended kernel.old.log ≡ false }
+    ensures took { MatchResult result (λ _. takes kernel.new.log ≡ takes kernel.old.log ++ hand (Some arrival)) (λ back. (back ≡ arrival) × (kernel.new ≡ kernel.old)) }
+    ensures acts { MovesKernel L.spoken kernel.old kernel.new }
+{
+    match try_take(kernel, arrival) {
+        Ok(()) => Ok(()),
+        Err(back) => {
+            if spare.let_go() {
+                try_take(kernel, back)
+            } else {
+                Err(back)
+            }
+        }
+    }
+}
+
 /// Takes an arrival. It comes back where memory is refused.
-fn take_one<L: Language>(kernel: &mut Kernel<L>, arrival: Arrival) -> Result<(), Arrival>
+fn try_take<L: Language>(kernel: &mut Kernel<L>, arrival: Arrival) -> Result<(), Arrival>
     requires { ended kernel.old.log ≡ false }
     ensures took { MatchResult result (λ _. takes kernel.new.log ≡ takes kernel.old.log ++ hand (Some arrival)) (λ back. (back ≡ arrival) × (kernel.new ≡ kernel.old)) }
     ensures acts { MovesKernel L.spoken kernel.old kernel.new }

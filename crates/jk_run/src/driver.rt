@@ -12,12 +12,13 @@ use jk_board::Publisher;
 use jk_core::Kernel;
 use jk_language::Language;
 use jk_log::{Arrival, Entry, Job, ParsedCell};
-use jk_queues::{Pool, Taker};
+use jk_queues::{Pool, Spare, Taker};
 use std::alloc::Global;
 
 /// A kernel with its driver's ends of the inbox, the pool and the board. In hand is at most one arrival that found no
 /// memory in the kernel, one job that found no room in the pool, and one list of entries that found no memory on the
-/// board. A result is never in hand, since handing it to the kernel takes no memory.
+/// board. A result is never in hand, since handing it to the kernel takes no memory. A spare block is let go where memory is
+/// refused to an arrival or to what is shown.
 pub struct Driver<L: Language> {
     pub(crate) alloc: Global,
     pub(crate) kernel: Kernel<L>,
@@ -27,6 +28,7 @@ pub struct Driver<L: Language> {
     pub(crate) arrival: Option<Arrival>,
     pub(crate) job: Option<Job>,
     pub(crate) entries: Option<Vec<Entry>>,
+    pub(crate) spare: Spare,
     /// The arrivals that the kernel took, and then the one in hand, are those that the taker took.
     ghost took: { takes kernel.log ++ hand arrival ≡ taken_by taker },
     /// What was published, what is in hand and what is pending are what is shown of the log.
@@ -69,6 +71,7 @@ impl<L: Language> Driver<L> {
             arrival: None,
             job: None,
             entries: None,
+            spare: Spare::new(),
         }
     }
 
@@ -87,6 +90,7 @@ impl<L: Language> Driver<L> {
             arrival,
             job,
             entries,
+            spare: _,
         } = self;
         Parts {
             kernel,

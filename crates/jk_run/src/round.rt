@@ -75,8 +75,9 @@ fn show_hand<L: Language, R: Wait>(rt: &R, driver: Driver<L>) -> Driver<L>
         arrival,
         job,
         entries,
+        mut spare,
     } = driver;
-    let (publisher, entries) = publish_hand(rt, alloc, &kernel, publisher, entries);
+    let (publisher, entries) = publish_hand(rt, alloc, &kernel, publisher, entries, &mut spare);
     Driver {
         alloc,
         kernel,
@@ -86,6 +87,7 @@ fn show_hand<L: Language, R: Wait>(rt: &R, driver: Driver<L>) -> Driver<L>
         arrival,
         job,
         entries,
+        spare,
     }
 }
 
@@ -106,15 +108,23 @@ fn go_round<L: Language, R: Wait>(rt: &R, turns: u64, driver: Driver<L>) -> (Dri
         arrival,
         job,
         entries: _,
+        mut spare,
     } = driver;
-    let (taker, arrival) = take_arrivals(rt, &mut kernel, taker, arrival);
+    let (taker, arrival) = take_arrivals(rt, &mut kernel, taker, arrival, &mut spare);
     let (job, gave) = give_jobs(rt, &mut kernel, &mut pool, job);
     hand_results(rt, &mut kernel, &mut pool);
-    let room = kernel.ended() || publisher.unread() <= UNREAD;
+    let kept = spare.keep(alloc);
+    let room = kernel.ended() || (kept && publisher.unread() <= UNREAD);
     let before = kernel.pending_marks();
     let work = work_slice(&mut kernel, turns, room);
     let marks = kernel.pending_marks().saturating_sub(before);
-    let (publisher, entries, shown) = publish_pending(rt, alloc, &mut kernel, publisher);
+    let (publisher, entries, shown) = publish_pending(
+        rt,
+        alloc,
+        &mut kernel,
+        publisher,
+        &mut spare,
+    );
     let taken = arrival.is_none();
     let next = Driver {
         alloc,
@@ -125,6 +135,7 @@ fn go_round<L: Language, R: Wait>(rt: &R, turns: u64, driver: Driver<L>) -> (Dri
         arrival,
         job,
         entries,
+        spare,
     };
     (next, answer_of(taken, gave, shown, work), marks)
 }

@@ -1,6 +1,6 @@
 //! Making messages.
 
-ghost use Rattle.std.specs.Prelude.{◌≡◌, IfOk, string_bytes};
+ghost use Rattle.std.specs.Prelude.{◌≡◌, IfOk};
 ghost use Rattle.jp_msg.specs.Building.{kernel_header, kernel_message, output_type};
 ghost use Rattle.jp_msg.specs.declared.message.Output.TheVariants.{Status, ExecuteInput, Stream, Error, InputRequest, ExecuteReply, KernelInfoReply, IsCompleteReply, CompleteReply, InspectReply, HistoryReply, CommInfoReply, InterruptReply, ShutdownReply};
 ghost use Rattle.jp_msg.specs.declared.message.Outcome.TheVariants.{Done, Failed, Aborted};
@@ -9,7 +9,7 @@ use crate::message::{
     Channel, Completeness, Content, Failure, Header, Message, Outcome, Output, State,
 };
 use crate::writing::header_value;
-use json_form::{Json, Text, Whole};
+use json_form::{Json, Shared, Text, Whole};
 use std::alloc::{AllocError, Global};
 
 impl Output {
@@ -38,14 +38,17 @@ impl Output {
     pub fn stream(alloc: Global, text: &str) -> Result<Output, AllocError>
         ensures { IfOk result (λ o. o ≡ Stream text.now) }
     {
-        Ok(Self::stream_of(String::from_str(alloc, text)?))
+        Self::stream_of(alloc, Text::from_str(alloc, text)?)
     }
 
-    /// `stream`, of a text that is taken over. It takes no memory.
-    pub fn stream_of(text: String) -> Output
-        ensures { result ≡ Stream (string_bytes text) }
+    /// `stream`, of a text that is taken over.
+    pub fn stream_of(alloc: Global, text: Text) -> Result<Output, AllocError>
+        ensures { IfOk result (λ o. o ≡ Stream text) }
     {
-        Self::Stream(Text::from_string(text))
+        match Shared::share(alloc, text) {
+            Ok(shared) => Ok(Self::Stream(shared)),
+            Err(_) => Err(AllocError),
+        }
     }
 
     /// `error`: a cell's error, whose value may be empty.

@@ -99,7 +99,7 @@ impl Output {
                 code: code.copy()?,
                 execution_count: *execution_count,
             }),
-            Output::Stream(text) => Ok(Output::Stream(text.copy()?)),
+            Output::Stream(text) => Ok(Output::Stream(text.another()?)),
             Output::Error(failure) => Ok(Output::Error(failure.copy()?)),
             Output::InputRequest => Ok(Output::InputRequest),
             Output::ExecuteReply(outcome) => Ok(Output::ExecuteReply(outcome.copy()?)),

@@ -1,6 +1,6 @@
 //! What a message holds.
 
-use json_form::{Json, Text, Whole};
+use json_form::{Json, Shared, Text, Whole};
 
 /// A message, read or to be written, as in "Messaging in Jupyter", version 5.4.
 #[derive(Drop)]
@@ -97,8 +97,8 @@ pub enum Output {
     Status(State),
     /// A cell that begins, and its count.
     ExecuteInput { code: Text, execution_count: u64 },
-    /// What a cell wrote.
-    Stream(Text),
+    /// What a cell wrote. Copies share its text.
+    Stream(Shared<Text>),
     Error(Failure),
     InputRequest,
     ExecuteReply(Outcome),

@@ -134,7 +134,7 @@ fn output_value(alloc: Global, output: &Output) -> Result<Value, AllocError>
             code,
             execution_count,
         } => execute_input_value(alloc, code, *execution_count),
-        Output::Stream(text) => stream_value(alloc, text),
+        Output::Stream(text) => stream_value(alloc, text.value()),
         Output::Error(failure) => error_value(alloc, failure),
         Output::InputRequest => input_request_value(alloc),
         Output::ExecuteReply(outcome) => execute_reply_value(alloc, outcome),

@@ -8,9 +8,12 @@ use crate::hearing::{Heard, heard_of};
 use crate::names::Names;
 use crate::payload::{Naming, Payload, write_entry};
 use jk_log::Entry;
+use jk_queues::Spare;
 use std::alloc::Global;
 use std::io::{Read, Write};
-use tungstenite::{CloseCode, CloseFrame, Error, Message, NoMask, Role, Utf8Bytes, WebSocket};
+use tungstenite::{
+    Bytes, CloseCode, CloseFrame, Error, Message, NoMask, Role, Utf8Bytes, WebSocket,
+};
 
 /// A WebSocket of a server, and what its messages are named by.
 #[derive(Drop)]
@@ -21,6 +24,8 @@ pub struct Wire<S> {
     pub(crate) sent: u64,
     /// Whether the stream has failed.
     pub(crate) failed: bool,
+    /// Is let go where memory is refused to what was read, or to what is due.
+    spare: Spare,
     ghost serves: { failed ≡ false → socket.conn.role ≡ Server },
 }
 
@@ -54,6 +59,7 @@ impl<S: Read + Write + Drop> Wire<S> {
             names,
             sent: 0,
             failed: false,
+            spare: Spare::new(),
         }
     }
 
@@ -64,7 +70,7 @@ impl<S: Read + Write + Drop> Wire<S> {
         self.failed
     }
 
-    /// Reads one message.
+    /// Reads one message. Where memory is refused to what it says, it lets the spare block go and tries once more.
     pub(crate) fn hear(&mut self, alloc: Global) -> Heard
         requires good { self.old.failed ≡ false }
         ensures heard { (r : Result Message Error) × Reads S.remaining self.old.socket self.new.socket r × Hears self.old.names.protocol r result }
@@ -72,7 +78,12 @@ impl<S: Read + Write + Drop> Wire<S> {
         ensures same { (self.new.names ≡ self.old.names) × (self.new.sent ≡ self.old.sent) }
     {
         let read = self.socket.read();
-        let heard = heard_of(alloc, self.names.protocol, &read);
+        let first = heard_of(alloc, self.names.protocol, &read);
+        let heard = if read.is_ok() && first.is_fault() && self.spare.let_go() {
+            heard_of(alloc, self.names.protocol, &read)
+        } else {
+            first
+        };
         self.failed = heard.is_fault();
         heard
     }
@@ -107,16 +118,16 @@ impl<S: Read + Write + Drop> Wire<S> {
         }
     }
 
-    /// Sends a text.
-    fn send_text(&mut self, alloc: Global, text: &str) -> Sending
+    /// Sends a text, whose bytes are not copied before they go into the frame.
+    fn send_text(&mut self, text: String) -> Sending
         requires good { self.old.failed ≡ false }
-        ensures sends { Sends S.contents self.old self.new (text_frame text.now) result }
+        ensures sends { Sends S.contents self.old self.new (text_frame (string_bytes text)) result }
         ensures same { (self.new.names ≡ self.old.names) × (self.new.sent ≡ self.old.sent) }
     {
-        let Ok(message) = Message::text(alloc, text) else {
+        let Ok(text) = Utf8Bytes::from_string(text) else {
             return Sending::Held;
         };
-        match self.socket.send(message) {
+        match self.socket.send(Message::Text(text)) {
             Ok(()) => Sending::Sent,
             Err(Error::OutOfMemory) => Sending::Held,
             Err(_) => {
@@ -126,16 +137,16 @@ impl<S: Read + Write + Drop> Wire<S> {
         }
     }
 
-    /// Sends a binary message.
-    fn send_binary(&mut self, alloc: Global, bytes: &[u8]) -> Sending
+    /// Sends a binary message, whose bytes are not copied before they go into the frame.
+    fn send_binary(&mut self, bytes: Vec<u8>) -> Sending
         requires good { self.old.failed ≡ false }
-        ensures sends { Sends S.contents self.old self.new (binary_frame bytes.now) result }
+        ensures sends { Sends S.contents self.old self.new (binary_frame bytes.items) result }
         ensures same { (self.new.names ≡ self.old.names) × (self.new.sent ≡ self.old.sent) }
     {
-        let Ok(message) = Message::binary(alloc, bytes) else {
+        let Ok(bytes) = Bytes::from_vec(bytes) else {
             return Sending::Held;
         };
-        match self.socket.send(message) {
+        match self.socket.send(Message::Binary(bytes)) {
             Ok(()) => Sending::Sent,
             Err(Error::OutOfMemory) => Sending::Held,
             Err(_) => {
@@ -146,14 +157,14 @@ impl<S: Read + Write + Drop> Wire<S> {
     }
 
     /// Sends what an entry is sent as, or where that is nothing, what waits.
-    fn send_payload(&mut self, alloc: Global, payload: Payload) -> Sending
+    fn send_payload(&mut self, payload: Payload) -> Sending
         requires good { self.old.failed ≡ false }
         ensures sends { Sends S.contents self.old self.new (payload_frame payload) result }
         ensures same { (self.new.names ≡ self.old.names) × (self.new.sent ≡ self.old.sent) }
     {
         match payload {
-            Payload::Text(text) => self.send_text(alloc, text.as_str()),
-            Payload::Binary(bytes) => self.send_binary(alloc, bytes.as_slice()),
+            Payload::Text(text) => self.send_text(text),
+            Payload::Binary(bytes) => self.send_binary(bytes),
             Payload::Nothing => self.flush(),
         }
     }
@@ -177,7 +188,7 @@ impl<S: Read + Write + Drop> Wire<S> {
         let Ok(payload) = write_entry(alloc, naming, entry) else {
             return Sending::Held;
         };
-        match self.send_payload(alloc, payload) {
+        match self.send_payload(payload) {
             Sending::Sent => {
                 self.sent = next;
                 Sending::Sent
@@ -205,7 +216,8 @@ impl<S: Read + Write + Drop> Wire<S> {
         held.len()
     }
 
-    /// Sends the held entries in order, as far as that goes, and holds the others. How many were sent.
+    /// Sends the held entries in order, as far as that goes, and holds the others. How many were sent. Where memory is refused it lets
+    /// the spare block go, and takes one again once all are sent.
     pub(crate) fn send_held(&mut self, alloc: Global, date: &str, held: &mut Vec<Entry>) -> usize
         ensures first { (front : List Entry) × (held.old.items ≡ front ++ held.new.items) × (length front ≡ result)
             × (self.new.failed ≡ false → SentAll S.contents self.old.names date.now self.old.sent self.old.socket self.new.socket front) }
@@ -217,6 +229,11 @@ impl<S: Read + Write + Drop> Wire<S> {
             return 0;
         }
         let count = self.send_all(alloc, date, held.as_slice());
+        if count == held.len() {
+            self.spare.keep(alloc);
+        } else {
+            self.spare.let_go();
+        }
         drop(held.drain(..count));
         count
     }

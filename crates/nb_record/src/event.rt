@@ -58,7 +58,7 @@ fn told(alloc: Global, request: &Message, output: &ToldOutput) -> Result<Event, 
         ToldOutput::Stream(text) => Ok(Event::Writes(Output::stream(
             alloc,
             "stdout",
-            text.as_str(),
+            text.value().as_str(),
         )?)),
         ToldOutput::Error(failure) => Ok(Event::Writes(error(alloc, failure)?)),
         ToldOutput::ExecuteReply(_) => Ok(Event::Ends),

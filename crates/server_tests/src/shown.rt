@@ -73,7 +73,7 @@ fn details(alloc: Global, output: &Output) -> Result<String, Fail> {
             format!(in alloc; " {cursor}")?
         }
         Output::Stream(written) => {
-            let written = written.as_str();
+            let written = written.value().as_str();
             format!(in alloc; " {written}")?
         }
         Output::Error(failure) => {

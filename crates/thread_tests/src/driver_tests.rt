@@ -31,7 +31,7 @@ fn own_cell_on_another_screen(rt: HostRuntime) -> Result<(), Fail> {
     assert_eq!(rt; view_of(alloc, &entries, 1)?.as_str(), "besri");
     assert_eq!(rt; view_of(alloc, &entries, 2)?.as_str(), "besi");
     let text = entries.iter().find_map(|entry| match &entry.content {
-        Told::Output(Output::Stream(text)) => Some(text.as_str()),
+        Told::Output(Output::Stream(text)) => Some(text.value().as_str()),
         _ => None,
     });
     assert_eq!(rt; text, Some("42\n"));

@@ -16,3 +16,5 @@ mod late_tests;
 #[cfg(test)]
 mod pool_tests;
 pub mod scene;
+#[cfg(test)]
+mod spare_tests;

@@ -24,7 +24,8 @@ impl<T: Holds> Row<T> {
     /// Whether it holds no entry.
     pub fn is_empty(&self) -> bool
         requires { IsWholeRow T.entries T.is_whole self.now }
-        ensures { result ≡ true → of_row T.entries self.now ≡ [] }
+        ensures yes { result ≡ true → of_row T.entries self.now ≡ [] }
+        ensures no { of_row T.entries self.now ≡ [] → result ≡ true }
     {
         self.count == 0
     }
@@ -54,6 +55,7 @@ impl<T: Holds> Row<T> {
         requires { IsWholeRow T.entries T.is_whole self.now }
         ensures all { IfOk result (λ r. of_row T.entries r.0 ≡ drop r.1 (of_row T.entries self.now)) }
         ensures within { IfOk result (λ r. (r.1 ≤ length (of_row T.entries self.now)) × (r.1 ≤ place)) }
+        ensures past { IfOk result (λ r. length (of_row T.entries self.now) ≤ place → r.1 ≡ length (of_row T.entries self.now)) }
         ensures whole { IfOk result (λ r. IsWholeRow T.entries T.is_whole r.0) }
     {
         let (from, gone) = self.before(place);
@@ -71,6 +73,7 @@ impl<T: Holds> Row<T> {
         ensures parts { result.0 ≤ length (arc_value self.now.parts).items }
         ensures entries { result.1 ≡ length (flat T.entries (take result.0 (arc_value self.now.parts).items)) }
         ensures before { result.1 ≤ place }
+        ensures past { length (of_row T.entries self.now) ≤ place → result.1 ≡ length (of_row T.entries self.now) }
     {
         let parts: &Vec<Part<T>> = &self.parts;
         if self.count <= place {

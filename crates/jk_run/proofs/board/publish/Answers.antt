@@ -2,14 +2,8 @@ use Rattle.std.proofs.Common.{◌≡◌, ℕ, [], ◌++◌, List, length, sym, a
 use Rattle.std.proofs.lemmas.Bool.{eqb-true}
 use Rattle.std.proofs.lemmas.List.{nil_from_length}
 use Rattle.jk_log.specs.declared.entry.Entry.{Entry}
-use Rattle.jk_log.specs.Pending.{joined}
 use Rattle.jk_board.specs.Ends.{published}
-use Rattle.jk_run.proofs.Rounds.{next_board}
 use Rattle.jk_run.proofs.board.publish.Goals as goal
-
-pub publish-publisher-requires : goal.publish-publisher-requires
-publish-publisher-requires g c =
-    next_board g.L.Language.spoken c.args.kernel.now.log (published c.args.publisher) c.args.entries.items (joined c.args.kernel.now.pending) c.legal.ensures c.requires
 
 pub returns-then-is_empty : goal.returns-then-is_empty
 returns-then-is_empty g c =

@@ -1,5 +1,5 @@
 use Rattle.jk_run.proofs.Acting.{took_one, moves_take, moves_same}
-use Rattle.jk_run.proofs.arrivals.take_one.Goals as goal
+use Rattle.jk_run.proofs.arrivals.try_take.Goals as goal
 
 pub returns-in-Ok-clause-took : goal.returns-in-Ok-clause-took
 returns-in-Ok-clause-took g c = took_one g.L.Language.spoken c.args.arrival c.args.kernel.now c.take.new.self c.in-Ok.ensures.ok c.requires
