@@ -4,6 +4,8 @@
 mod calls;
 mod limited;
 mod paced;
+mod rest;
 
 pub use limited::{Limited, end_of_answer};
-pub use paced::Paced;
+pub use paced::{Owner, Paced};
+pub use rest::{Rest, Selector, Waking};

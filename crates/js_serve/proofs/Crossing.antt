@@ -1,14 +1,15 @@
 -- What a thread of the server is given may go to it; the end of a parser, wherever a tree of the language may.
-use denote.Param.Send.{IsSend, sendable}
+use denote.Param.Send.{IsSend, IsSync, sendable}
 use denote.Param.SendFields.{declared_send, variants_send}
 use denote.RattleType.{RattleType}
 use denote.Struct.Field.{u64-field}
-use Rattle.std.proofs.Crossing.{crosses, frees, send, sync}
+use Rattle.std.proofs.Crossing.{Arc-send, Vec-send, crosses, frees, send, sync}
 use Rattle.std.specs.contracts.alloc.Global as Heap
 use Rattle.std.specs.contracts.impls.GlobalAllocator.TheImpl as heap
 use Rattle.std.specs.contracts.net.tcp.TcpListener as TcpListener
 use Rattle.std.specs.contracts.net.tcp.TcpStream as TcpStream
 use Rattle.std.specs.contracts.sync.Arc as Arc
+use Rattle.std.specs.contracts.sync.Mutex as Mutex
 use Rattle.std.specs.contracts.sync.atomic.AtomicBool as AtomicBool
 use Rattle.crossbeam_channel.specs.contracts.channel.Receiver as Receiver
 use Rattle.std.specs.contracts.sync.atomic.AtomicU64 as AtomicU64
@@ -23,21 +24,27 @@ use Rattle.js_tables.proofs.forms.About.TheSendSync as about
 use Rattle.js_ws.proofs.names.Names.TheSendSync as names
 use Rattle.jk_board.proofs.Crossing.{follower_send}
 use Rattle.js_home.proofs.Crossing.{home_send, place_send as lent_send}
+use Rattle.js_paced.proofs.Crossing.{selector_send, waking_send}
 use Rattle.jk_log.proofs.job.ParsedCell.TheSendSync as parsed
 use Rattle.jk_log.specs.contracts.job.ParsedCell as ParsedCell
 use Rattle.jk_queues.proofs.pool.WorkerEnd.TheSendSync as end
 use Rattle.jk_queues.specs.contracts.pool.WorkerEnd as WorkerEnd
 use Rattle.std.specs.contracts.timed.Parker as Parker
+use Rattle.std.specs.contracts.vec.Vec as Vec
 use Rattle.js_serve.specs.contracts.bell.Bell as Bell
 use Rattle.js_serve.specs.contracts.call.Call as Call
 use Rattle.js_serve.specs.contracts.call.Place as Place
 use Rattle.js_serve.specs.contracts.call.Reply as Reply
+use Rattle.js_serve.specs.contracts.call.Upgrade as Upgrade
 use Rattle.js_serve.specs.contracts.crowd.Guest as Guest
 use Rattle.js_serve.specs.contracts.crowd.Ticket as Ticket
 use Rattle.js_serve.specs.contracts.driving.Opened as Opened
 use Rattle.js_serve.specs.contracts.driving.Opening as Opening
 use Rattle.js_serve.specs.contracts.job.Job as Job
 use Rattle.js_serve.specs.contracts.job.Parser as Parser
+use Rattle.js_serve.specs.contracts.neighbours.Neighbour as Neighbour
+use Rattle.js_serve.specs.contracts.neighbours.Neighbours as Neighbours
+use Rattle.js_serve.specs.contracts.wakes.Wakes as Wakes
 
 sender_send : (R : RattleType) → IsSend R → IsSend (Sender.the_row R Heap.the_row heap.ghosts)
 sender_send R sent = sender.the_send R Heap.the_row heap.ghosts sent send sync frees
@@ -63,6 +70,27 @@ bell_send = declared_send Bell.the_type (parker_send, tt)
 count_send : IsSend (Arc.the_row AtomicU64.the_row Heap.the_row heap.ghosts)
 count_send = search (crosses, sendable) depth 60 fits 20000
 
+neighbour_send : IsSend Neighbour.the_row
+neighbour_send = declared_send Neighbour.the_type (search (crosses, sendable) depth 60 fits 20000, (waking_send, tt))
+
+rows_send : IsSend (Vec.the_row Neighbour.the_row Heap.the_row heap.ghosts)
+rows_send = Vec-send Neighbour.the_row neighbour_send
+
+locked_send : IsSend (Mutex.the_row (Vec.the_row Neighbour.the_row Heap.the_row heap.ghosts))
+locked_send = search (rows_send, crosses, sendable) depth 60 fits 20000
+
+locked_sync : IsSync (Mutex.the_row (Vec.the_row Neighbour.the_row Heap.the_row heap.ghosts))
+locked_sync = search (rows_send, crosses, sendable) depth 60 fits 20000
+
+shared_send : IsSend (Arc.the_row (Mutex.the_row (Vec.the_row Neighbour.the_row Heap.the_row heap.ghosts)) Heap.the_row heap.ghosts)
+shared_send = Arc-send _ locked_send locked_sync
+
+neighbours_send : IsSend Neighbours.the_row
+neighbours_send = declared_send Neighbours.the_type (shared_send, (count_send, tt))
+
+wakes_send : IsSend Wakes.the_row
+wakes_send = declared_send Wakes.the_type (bell_send, (neighbours_send, tt))
+
 ticket_send : IsSend Ticket.the_row
 ticket_send = declared_send Ticket.the_type (count_send, tt)
 
@@ -70,10 +98,13 @@ guest_send : IsSend Guest.the_row
 guest_send = declared_send Guest.the_type (tcp_send, (ticket_send, tt))
 
 pub place_send : (L S T M : RattleType) (g : language.Ghosts L.Denot S.Denot T.Denot M.Denot) → IsSend (Place.the_row L S T M g)
-place_send L S T M g = declared_send (Place.the_type L S T M g) (lent_send L S T M g, (bell_send, tt))
+place_send L S T M g = declared_send (Place.the_type L S T M g) (lent_send L S T M g, (wakes_send, tt))
+
+upgrade_send : (L S T M : RattleType) (g : language.Ghosts L.Denot S.Denot T.Denot M.Denot) → IsSend (Upgrade.the_row L S T M g)
+upgrade_send L S T M g = declared_send (Upgrade.the_type L S T M g) (place_send L S T M g, (names.the_send, (search (selector_send, crosses, sendable) depth 60 fits 20000, tt)))
 
 reply_send : (L S T M : RattleType) (g : language.Ghosts L.Denot S.Denot T.Denot M.Denot) → IsSend (Reply.the_row L S T M g)
-reply_send L S T M g = variants_send (Reply.enum L S T M g) ((response.the_send, tt), ((about.the_send, (item.the_send, tt)), ((response.the_send, tt), ((response.the_send, (place_send L S T M g, (names.the_send, tt))), (tt, tt)))))
+reply_send L S T M g = variants_send (Reply.enum L S T M g) ((response.the_send, tt), ((about.the_send, (item.the_send, tt)), ((response.the_send, tt), ((response.the_send, (upgrade_send L S T M g, tt)), (tt, tt)))))
 
 call_send : (L S T M : RattleType) (g : language.Ghosts L.Denot S.Denot T.Denot M.Denot) → IsSend (Call.the_row L S T M g)
 call_send L S T M g = variants_send (Call.enum L S T M g) (
@@ -87,7 +118,7 @@ call_send L S T M g = variants_send (Call.enum L S T M g) (
 opened_send : (L S T M : RattleType) (g : language.Ghosts L.Denot S.Denot T.Denot M.Denot) → IsSend (Opened.the_row L S T M g)
 opened_send L S T M g =
     let f = follower_send L S T M g in
-    declared_send (Opened.the_type L S T M g) (home_send L S T M g, (bell_send, (f, (f, tt))))
+    declared_send (Opened.the_type L S T M g) (home_send L S T M g, (wakes_send, (f, (f, tt))))
 
 opening_send : (L S T M : RattleType) (g : language.Ghosts L.Denot S.Denot T.Denot M.Denot) → IsSend (Opening.the_row L S T M g)
 opening_send L S T M g = declared_send (Opening.the_type L S T M g) (sender_send (Opened.the_row L S T M g) (opened_send L S T M g), (flag_send, tt))

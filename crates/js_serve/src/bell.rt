@@ -1,6 +1,7 @@
 //! The rests of threads that look for something to do, and the bells that end them.
-ghost use Rattle.std.specs.Prelude.{◌≡◌, ◌+◌, ◌≤◌, true, false};
+ghost use Rattle.std.specs.Prelude.{◌≡◌, ◌+◌, ◌<◌, ◌≤◌, true, false};
 
+use crate::wakes::Wakes;
 use std::alloc::{AllocError, Global};
 use std::cell::Cell;
 use std::io;
@@ -13,6 +14,17 @@ const SHORT: u64 = 100;
 
 /// For how many microseconds a driver sleeps at least between two times that it wakes its parsers.
 const BETWEEN: u64 = 1_000;
+
+/// A sleep of so many microseconds is that of a thread that has found nothing to do for long. It rests for longer then, since its
+/// bell is rung where there is something.
+const LONG: u64 = 30_000;
+
+const REST: u64 = 1_000_000;
+
+/// In parts of so many microseconds a driver waits for channels that have read something, and so many parts at most.
+const PART: u64 = 200;
+
+const PARTS: u64 = 100;
 
 /// A bell. One thread rests by it, and others ring it.
 #[derive(Drop)]
@@ -43,6 +55,24 @@ impl Bell {
     fn rest<R: Wait>(&self, rt: &R, longest: Duration) {
         self.parker.park_timeout(rt, longest);
     }
+
+    /// Sleeps until it is rung, where a thread asks for a sleep of so many microseconds.
+    fn sleep<R: Wait>(&self, rt: &R, micros: u64) {
+        self.rest(rt, Duration::from_micros(rest_for(micros)));
+    }
+}
+
+/// How many microseconds a thread rests at most that asks for a sleep of so many.
+fn rest_for(micros: u64) -> u64
+    ensures short { micros < 30000 → result ≡ micros }
+    ensures long { 30000 ≤ micros → result ≡ 1000000 }
+{
+    if micros < LONG { micros } else { REST }
+}
+
+/// The microseconds of a sleep.
+fn micros_of(duration: Duration) -> u64 {
+    u64::try_from(duration.as_micros()).unwrap_or(u64::MAX)
 }
 
 /// The handle of a thread whose sleeps end where its bell is rung.
@@ -64,29 +94,35 @@ impl<R: Wait + Clock> Clock for Belled<'_, R> {
     }
 
     fn sleep(&self, duration: Duration) {
-        self.bell.rest(self.rt, duration);
+        self.bell.sleep(self.rt, micros_of(duration));
     }
 }
 
-/// The handle of a driver. Its sleeps end where its bell is rung. A driver that has just done something sleeps shortly; before such
-/// a sleep it rings the bells of its parsers, which may have been given a job.
+/// The handle of a driver. Its sleeps end where its bell is rung, and not while a channel has read something that is not submitted
+/// yet. A driver that has just done something sleeps shortly; before such a sleep it rings the bells of its parsers, which may have
+/// been given a job.
 #[derive(Drop)]
 pub(crate) struct Driving<'b, R> {
     pub(crate) rt: &'b R,
-    pub(crate) bell: &'b Bell,
+    pub(crate) wakes: &'b Wakes,
     pub(crate) parsers: &'b [Bell],
     /// How many microseconds it has slept since it rang.
     pub(crate) slept: Cell<u64>,
 }
 
 impl<R> Driving<'_, R> {
+    /// Rings the bells of all parsers.
+    pub(crate) fn ring_parsers(&self) {
+        for bell in self.parsers {
+            bell.ring();
+        }
+    }
+
     /// Rings the bells of the parsers where that is due before a sleep of so many microseconds.
     fn ring_before(&self, sleep: u64) {
         let slept = self.slept.get();
         if is_due(slept, sleep) {
-            for bell in self.parsers {
-                bell.ring();
-            }
+            self.ring_parsers();
             self.slept.set(0);
         } else {
             self.slept.set(slept.saturating_add(sleep));
@@ -102,6 +138,18 @@ fn is_due(slept: u64, sleep: u64) -> bool
     sleep <= SHORT && slept >= BETWEEN
 }
 
+impl<R: Wait> Driving<'_, R> {
+    /// Waits while a channel has read something that is not submitted yet, for some 20 milliseconds at most.
+    fn wait_for_channels(&self) {
+        for _ in 0..PARTS {
+            if !self.wakes.channels.are_reading() {
+                return;
+            }
+            self.wakes.driver.rest(self.rt, Duration::from_micros(PART));
+        }
+    }
+}
+
 impl<R: Wait> Wait for Driving<'_, R> {}
 
 impl<R: Wait + Clock> Clock for Driving<'_, R> {
@@ -114,8 +162,9 @@ impl<R: Wait + Clock> Clock for Driving<'_, R> {
     }
 
     fn sleep(&self, duration: Duration) {
-        let micros = u64::try_from(duration.as_micros()).unwrap_or(u64::MAX);
+        let micros = micros_of(duration);
         self.ring_before(micros);
-        self.bell.rest(self.rt, duration);
+        self.wakes.driver.sleep(self.rt, micros);
+        self.wait_for_channels();
     }
 }

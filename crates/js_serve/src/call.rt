@@ -1,11 +1,12 @@
 //! What threads tell the desk, and what it answers.
 
-use crate::bell::Bell;
 use crate::crowd::Guest;
+use crate::wakes::Wakes;
 use crossbeam_channel::Sender;
 use jk_language::Language;
 use js_home::Place as Lent;
 use js_http::{Request, Response};
+use js_paced::Selector;
 use js_shelf::Item;
 use js_tables::About;
 use js_ws::Names;
@@ -14,8 +15,17 @@ use js_ws::Names;
 #[derive(Drop)]
 pub struct Place<L: Language> {
     pub lent: Lent<L>,
-    /// What wakes the kernel.
-    pub bell: Bell,
+    /// What wakes the kernel and its channels.
+    pub wakes: Wakes,
+}
+
+/// What a connection is given that switches to a WebSocket.
+#[derive(Drop)]
+pub struct Upgrade<L: Language> {
+    pub place: Place<L>,
+    pub names: Names,
+    /// What the channel's stream rests by. Where there is none, the channel looks for something new by itself.
+    pub selector: Option<Selector>,
 }
 
 /// What the desk answers to a request.
@@ -26,8 +36,8 @@ pub enum Reply<L: Language> {
     Shown(About, Item),
     /// The last response before the server stops. Whoever has written it tells the desk so.
     Last(Response),
-    /// The switch to a WebSocket, and the place of its channel.
-    Channel(Response, Place<L>, Names),
+    /// The switch to a WebSocket, and what its channel is given.
+    Channel(Response, Upgrade<L>),
     /// The page for a browser.
     Page,
 }

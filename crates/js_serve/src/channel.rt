@@ -3,18 +3,18 @@ ghost use Rattle.std.specs.Prelude.{◌≡◌};
 ghost use Rattle.js_home.specs.Served.{HasServed};
 ghost use Rattle.js_serve.specs.Channels.{GoesOn};
 
-use crate::bell::Bell;
 use crate::call::{Call, Place};
 use crate::clock::date_now;
+use crate::signals::Signals;
 use crate::telling::tell;
+use crate::wakes::Wakes;
 use crossbeam_channel::Sender;
 use jk_language::Language;
 use js_home::Free;
 use js_lend::Lease;
-use js_paced::Paced;
+use js_paced::{Paced, Rest, Selector};
 use js_ws::{Channel, Names, Turn, channel_turn};
 use std::alloc::Global;
-use std::cell::Cell;
 use std::io::{Read, Write};
 use std::net::TcpStream;
 use std::sync::Wait;
@@ -24,11 +24,12 @@ use std::time::{Clock, Duration};
 /// How many milliseconds a channel waits where the inbox has no room, or where no date can be had.
 const PAUSE: u64 = 1;
 
-/// The stream of a channel, and for how many milliseconds the other side may take nothing of what is written to it.
-#[derive(Clone, Copy)]
+/// The stream of a channel, for how many milliseconds the other side may take nothing of what is written to it, and what it rests by.
+#[derive(Drop)]
 pub(crate) struct Line<'s> {
     pub(crate) stream: &'s TcpStream,
     pub(crate) patience: u64,
+    pub(crate) selector: Option<Selector>,
 }
 
 /// Serves a channel until it is closed, and then gives its place back and tells the desk so.
@@ -40,11 +41,12 @@ pub(crate) fn serve_channel<L: Language, R: Wait + Clock + Copy + Drop>(
     place: Place<L>,
     names: Names,
 ) {
-    let Place { lent, bell } = place;
+    let Place { lent, wakes } = place;
     let lease = lent.into_lease();
     let Lease { value, back } = lease;
-    let served = serve_at(rt, alloc, line, &bell, value, names);
+    let served = serve_at(rt, alloc, line, &wakes, value, names);
     served.follower.rest();
+    wakes.driver.ring();
     back.give(rt, served);
     let _ = tell(rt, calls, Call::Back);
 }
@@ -54,7 +56,7 @@ fn serve_at<L: Language, R: Wait + Clock + Copy + Drop>(
     rt: &R,
     alloc: Global,
     line: Line<'_>,
-    bell: &Bell,
+    wakes: &Wakes,
     place: Free<L>,
     names: Names,
 ) -> Free<L>
@@ -64,7 +66,7 @@ fn serve_at<L: Language, R: Wait + Clock + Copy + Drop>(
     if !there {
         return passed;
     }
-    make_turns(rt, alloc, line, bell, passed, names)
+    make_turns(rt, alloc, line, wakes, passed, names)
 }
 
 /// Makes turns of a channel until it is closed. The seat and the follower come back.
@@ -72,20 +74,47 @@ fn make_turns<L: Language, R: Wait + Clock + Copy + Drop>(
     rt: &R,
     alloc: Global,
     line: Line<'_>,
-    bell: &Bell,
+    wakes: &Wakes,
     place: Free<L>,
     names: Names,
 ) -> Free<L>
     ensures { HasServed place result }
 {
     let Free { seat, follower } = place;
-    let busy = Cell::new(false);
-    let paced = Paced::new(*rt, line.stream, &busy, line.patience);
+    let Line {
+        stream,
+        patience,
+        selector,
+    } = line;
+    let number = seat.place();
+    let rest = begin_rests(rt, alloc, selector, stream, wakes, number);
+    let signals = Signals::new(wakes, number);
+    let paced = Paced::new(*rt, stream, &signals, rest, patience);
     let channel = Channel::new(alloc, paced, names, seat, follower);
-    let channel = run(rt, alloc, &busy, bell, channel);
+    let channel = run(rt, alloc, &signals, channel);
     let channel = take_leave(channel);
+    signals.wake(rt);
+    wakes.channels.leave(rt, number);
     let (seat, follower) = channel.into_ends();
     Free { seat, follower }
+}
+
+/// How the stream of the channel at a place rests, so that the others wake it. There is nothing where it has no selector, the system
+/// has no descriptor for it, or memory is refused.
+fn begin_rests<R: Wait>(
+    rt: &R,
+    alloc: Global,
+    selector: Option<Selector>,
+    stream: &TcpStream,
+    wakes: &Wakes,
+    place: u8,
+) -> Option<Rest> {
+    let (rest, waking) = Rest::new(alloc, selector?, stream).ok()?;
+    if wakes.channels.enter(rt, place, waking) {
+        Some(rest)
+    } else {
+        None
+    }
 }
 
 /// Tells the frontend that the kernel is gone, where that has closed the channel.
@@ -103,15 +132,14 @@ fn take_leave<L: Language, S: Read + Write + Drop>(channel: Channel<S, L>) -> Ch
 fn run<L: Language, S: Read + Write + Drop, R: Wait + Clock>(
     rt: &R,
     alloc: Global,
-    busy: &Cell<bool>,
-    bell: &Bell,
+    signals: &Signals<'_>,
     channel: Channel<S, L>,
 ) -> Channel<S, L>
     ensures { GoesOn channel result }
 {
     let mut channel = channel;
     for _ in rt.forever() {
-        let (next, open) = make_turn(rt, alloc, busy, bell, channel);
+        let (next, open) = make_turn(rt, alloc, signals, channel);
         channel = next;
         if !open {
             return channel;
@@ -120,13 +148,12 @@ fn run<L: Language, S: Read + Write + Drop, R: Wait + Clock>(
     unreachable!()
 }
 
-/// Makes one turn, and notes whether the kernel is busy. After a turn that may have submitted something it wakes the kernel. It
-/// says whether the channel is still open.
+/// Makes one turn, and notes what it came to, so that the kernel is woken once all is submitted that has come. It says whether the
+/// channel is still open.
 fn make_turn<L: Language, S: Read + Write + Drop, R: Wait + Clock>(
     rt: &R,
     alloc: Global,
-    busy: &Cell<bool>,
-    bell: &Bell,
+    signals: &Signals<'_>,
     channel: Channel<S, L>,
 ) -> (Channel<S, L>, bool)
     ensures { GoesOn channel result.0 }
@@ -136,11 +163,8 @@ fn make_turn<L: Language, S: Read + Write + Drop, R: Wait + Clock>(
         return (channel, true);
     };
     let (next, turn) = channel_turn(rt, date.as_str(), channel);
-    busy.set(next.is_busy());
+    signals.note(rt, turn, next.is_busy(), next.waits());
     let open = !matches!(turn, Turn::Closed(_));
-    if !matches!(turn, Turn::Quiet(_)) {
-        bell.ring();
-    }
     if open && next.waits() {
         thread::sleep(rt, Duration::from_millis(PAUSE));
     }

@@ -1,6 +1,6 @@
 //! One connection: a request and its response, or a channel.
 
-use crate::call::{Call, Reply};
+use crate::call::{Call, Reply, Upgrade};
 use crate::channel::{Line, serve_channel};
 use crate::crowd::{Crowd, Guest, Turned};
 use crate::limits::Limits;
@@ -115,12 +115,18 @@ pub(crate) fn serve_connection<L: Language, R: Wait + Clock + Copy + Drop>(
                 respond(&mut limited, &response);
                 let _ = tell(rt, calls, Call::Written);
             }
-            Some(Reply::Channel(response, place, names)) => {
+            Some(Reply::Channel(response, upgrade)) => {
                 drop(ticket);
                 respond(&mut limited, &response);
+                let Upgrade {
+                    place,
+                    names,
+                    selector,
+                } = upgrade;
                 let line = Line {
                     stream: &stream,
                     patience: limits.write,
+                    selector,
                 };
                 serve_channel(rt, alloc, line, calls, place, names);
                 end_of_answer(*rt, &stream, REST);

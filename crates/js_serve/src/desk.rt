@@ -1,6 +1,6 @@
 //! The desk: the one thread that has the tables, the kernels and the files, and answers requests one after the other.
 
-use crate::call::{Call, Reply};
+use crate::call::{Call, Reply, Upgrade};
 use crate::clock::{date_now, given_now};
 use crate::concern::{Concern, concern_of, id_in, is_within};
 use crate::driving::Opened;
@@ -12,6 +12,7 @@ use crossbeam_channel::{Receiver, Sender, unbounded};
 use jk_language::Language;
 use js_follow::is_due;
 use js_http::{ErrorStatus, Method, Request, Response};
+use js_paced::Selector;
 use js_rest::{Manager, Outcome, Running, prepare};
 use js_shelf::Shelf;
 use js_tables::{Answer, Given, Kernel, Update, find_by_session, find_kernel};
@@ -77,6 +78,8 @@ where
     again: usize,
     /// How far the server has stopped, once it was told to.
     stopping: Option<Stopping>,
+    /// What the stream of the next channel rests by.
+    selector: Option<Selector>,
 }
 
 /// A request that waits, and where its reply goes.
@@ -128,7 +131,19 @@ where
             held: Vec::new(alloc),
             again: 0,
             stopping: None,
+            selector: None,
         })
+    }
+
+    /// Whether the next channel has nothing that its stream rests by.
+    pub fn lacks_selector(&self) -> bool {
+        self.selector.is_none()
+    }
+
+    /// Gives the next channel what its stream rests by. The caller makes it, since it may use the network; there is nothing where the
+    /// system has no descriptor for it.
+    pub fn give_selector(&mut self, selector: Option<Selector>) {
+        self.selector = selector;
     }
 
     /// Does what is to be done next, and answers the job for which a thread is to be started now, if there is one. Where none
@@ -687,7 +702,14 @@ where
                     id: name,
                     protocol: protocol_of(request),
                 };
-                Reply::Channel(response, place, names)
+                Reply::Channel(
+                    response,
+                    Upgrade {
+                        place,
+                        names,
+                        selector: self.selector.take(),
+                    },
+                )
             }
             Ok(None) => refused(ErrorStatus::ServiceUnavailable),
             Err(_) => refused(ErrorStatus::InternalServerError),

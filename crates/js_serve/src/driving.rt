@@ -5,6 +5,7 @@ ghost use Rattle.jk_queues.specs.Ends.{AreAllOf, seat_inbox, taken_by, taker_inb
 
 use crate::bell::{Bell, Driving};
 use crate::job::Parser;
+use crate::wakes::Wakes;
 use crossbeam_channel::Sender;
 use jk_board::{Board, Follower, Followers};
 use jk_core::Kernel;
@@ -40,8 +41,8 @@ pub struct Opening<L: Language> {
 pub struct Opened<L: Language> {
     /// Seat 0, and the places that are lent.
     pub home: Home<L>,
-    /// What wakes the driver.
-    pub bell: Bell,
+    /// What wakes the driver and the channels.
+    pub wakes: Wakes,
     /// The follower of seat 0.
     pub watch: Follower<L>,
     /// The follower for a recorder.
@@ -59,10 +60,10 @@ struct Made<L: Language> {
     bells: Bells,
 }
 
-/// The bell by which a driver rests, and those of its parsers.
+/// What wakes a driver and its channels, and the bells by which its parsers rest.
 #[derive(Drop)]
 struct Bells {
-    driver: Bell,
+    wakes: Wakes,
     parsers: Vec<Bell>,
 }
 
@@ -74,11 +75,11 @@ fn make<L: Language>(alloc: Global, followers: Followers<L>) -> Result<Made<L>, 
     let Inbox { taker, seats } = Inbox::new(alloc)?;
     let (pool, workers) = Pool::<ParsedCell<L>>::new(alloc, WORKERS)?;
     let kernel = Kernel::<L>::new(alloc)?;
-    let driver = Bell::new(alloc)?;
-    let opened = ends_of(alloc, seats, followers, driver.another()?)?;
-    let (parsers, theirs) = parsers_of(alloc, workers, &driver)?;
+    let wakes = Wakes::new(alloc)?;
+    let opened = ends_of(alloc, seats, followers, wakes.another()?)?;
+    let (parsers, theirs) = parsers_of(alloc, workers, &wakes.driver)?;
     let bells = Bells {
-        driver,
+        wakes,
         parsers: theirs,
     };
     Ok(Made {
@@ -113,7 +114,7 @@ fn ends_of<L: Language>(
     alloc: Global,
     seats: Seats,
     followers: Followers<L>,
-    bell: Bell,
+    wakes: Wakes,
 ) -> Result<Opened<L>, AllocError>
     requires { AreAllOf (seat_inbox seats.zero) seats }
     ensures { IfOk result (λ opened. opened.home.zero ≡ seats.zero) }
@@ -133,7 +134,7 @@ fn ends_of<L: Language>(
     let home = Home::new(alloc, seats, places)?;
     Ok(Opened {
         home,
-        bell,
+        wakes,
         watch,
         recorder,
     })
@@ -214,11 +215,12 @@ fn run<L: Language, R: Wait + Clock>(
     drop(opened);
     let driving = Driving {
         rt,
-        bell: &bells.driver,
+        wakes: &bells.wakes,
         parsers: bells.parsers.as_slice(),
         slept: Cell::new(0),
     };
     let driver = drive(&driving, driver);
+    driving.ring_parsers();
     wait_until(rt, &left);
     finish(rt, driver);
 }

@@ -6,10 +6,10 @@ ghost use Rattle.js_serve.specs.Told.{asked};
 ghost use Rattle.js_serve.specs.Told as commands;
 ghost use Rattle.js_serve.specs.Hosting as spec;
 
-use crate::bell::Bell;
 use crate::call::Place;
 use crate::driving::{Opened, Opening};
 use crate::recording::Scribe;
+use crate::wakes::{SERVER, Wakes};
 use crate::watch::Watch;
 use crossbeam_channel::{Receiver, bounded};
 use jk_board::Follower;
@@ -43,8 +43,8 @@ const SHUTDOWN: &str =
 pub(crate) struct Ends<L: Language> {
     /// Seat 0 and the places, once the kernel's thread has handed them out.
     home: Option<Home<L>>,
-    /// What wakes the kernel.
-    bell: Option<Bell>,
+    /// What wakes the kernel and its channels.
+    wakes: Option<Wakes>,
     watch: Option<Watch<L>>,
     /// Whether the watch found something since the table of kernels was told.
     found: bool,
@@ -162,7 +162,7 @@ impl<L: Language> Ends<L> {
     {
         Ends {
             home: None,
-            bell: None,
+            wakes: None,
             watch: None,
             found: false,
             recorder: None,
@@ -177,21 +177,21 @@ impl<L: Language> Ends<L> {
     {
         let Opened {
             home,
-            bell,
+            wakes,
             watch,
             recorder,
         } = opened;
         self.home = Some(home);
-        self.bell = Some(bell);
+        self.wakes = Some(wakes);
         let (watch, _) = watch.pass();
         self.watch = Some(Watch::new(watch));
         self.recorder = Some(recorder);
     }
 
-    /// Wakes the kernel.
-    fn ring(&self) {
-        if let Some(bell) = &self.bell {
-            bell.ring();
+    /// Wakes the kernel and its channels.
+    fn wake<R: Wait>(&self, rt: &R) {
+        if let Some(wakes) = &self.wakes {
+            wakes.wake_all(rt, SERVER);
         }
     }
 
@@ -204,7 +204,7 @@ impl<L: Language> Ends<L> {
         };
         let (home, sent) = home.tell(rt, what);
         self.home = Some(home);
-        self.ring();
+        self.wake(rt);
         sent.is_ok()
     }
 
@@ -311,17 +311,17 @@ impl<L: Language> Ends<L> {
         if self.has_ended() {
             return Ok(None);
         }
-        let Some(bell) = &self.bell else {
+        let Some(wakes) = &self.wakes else {
             return Ok(None);
         };
-        let bell = bell.another()?;
+        let wakes = wakes.another()?;
         let Some(mut home) = self.home.take() else {
             return Ok(None);
         };
         let lent = home.lend(rt, alloc);
         self.home = Some(home);
         match lent {
-            Ok(lent) => Ok(Some(Place { lent, bell })),
+            Ok(lent) => Ok(Some(Place { lent, wakes })),
             Err(NoPlace::Lent) => Ok(None),
             Err(NoPlace::Memory) => Err(AllocError),
         }

@@ -2,6 +2,7 @@
 
 use js_files::FileShelf;
 use js_page::page;
+use js_paced::Selector;
 use js_serve::{Desk, Job, Limits, Parser, drive_kernel, parse, work};
 use ob_language::Oberon;
 use std::alloc::Global;
@@ -155,6 +156,9 @@ where
         return Err(Unserved::Device);
     }
     for _ in rt.forever() {
+        if desk.lacks_selector() {
+            desk.give_selector(Selector::new(&rt).ok());
+        }
         if let Some(job) = desk.next() {
             let _ = start(rt, alloc, job);
         }
