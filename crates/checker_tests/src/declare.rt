@@ -6,7 +6,7 @@ use ob_parse::parse_text;
 use ob_scope::rejected::Rejected;
 use ob_scope::{Entry, Imports, Scope, Standing};
 use ob_tree::tree::{Cell, Module, Procedure};
-use ob_types::Interface;
+use ob_types::{Interface, interface_text};
 use std::alloc::{AllocError, Global};
 use std::test::Fail;
 
@@ -119,7 +119,10 @@ fn interface(alloc: Global, module: &Module) -> Result<Interface, Refused> {
 
 fn has_key(alloc: Global, text: &str, key: &str) -> Result<bool, Refused> {
     match parse_text(alloc, text)? {
-        Cell::Module(module) => Ok(interface(alloc, &module)?.key() == key),
+        Cell::Module(module) => {
+            let text = interface_text(alloc, &interface(alloc, &module)?)?;
+            Ok(text.as_str() == key)
+        }
         Cell::Commands(_) => Ok(false),
     }
 }

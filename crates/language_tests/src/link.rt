@@ -3,7 +3,7 @@
 use ob_base::{Items, Text};
 use ob_link::{CommandName, KeyedImport, LinkFault, Looked, Modules, Ready, SessionModule};
 use ob_mean::TypedModule;
-use ob_types::{Basic, Exported, Formal, FormalKind, Interface, ObType, Object, Signature};
+use ob_types::{Basic, Exported, Formal, FormalKind, Interface, Key, ObType, Object, Signature};
 use std::alloc::{AllocError, Global};
 use std::test::Fail;
 
@@ -28,14 +28,32 @@ fn module(
     Ok(SessionModule::new(interface, tree, imports))
 }
 
-// An import with this key.
-fn import(alloc: Global, name: &[u8], key: &[u8]) -> Result<KeyedImport, AllocError> {
-    Ok(KeyedImport::new(text(alloc, name)?, text(alloc, key)?))
+// What a module shows to others.
+#[derive(Clone, Copy)]
+enum Shown {
+    Nothing,
+    /// A variable x, an INTEGER.
+    Variable,
 }
 
-fn imports(alloc: Global, name: &[u8], key: &[u8]) -> Result<Items<KeyedImport>, AllocError> {
+// The key of a module of this name that shows this.
+fn key(alloc: Global, name: &[u8], shown: Shown) -> Result<Key, AllocError> {
+    let mut exports = Items::new(alloc);
+    match shown {
+        Shown::Nothing => {}
+        Shown::Variable => {
+            let variable = Object::Variable(ObType::Basic(Basic::Integer));
+            add(alloc, &mut exports, b"x", variable)?;
+        }
+    }
+    let interface = Interface::new(alloc, text(alloc, name)?, exports)?;
+    Key::new(&interface)
+}
+
+// An import of a module that showed this.
+fn imports(alloc: Global, name: &[u8], shown: Shown) -> Result<Items<KeyedImport>, AllocError> {
     let mut so_far = Items::new(alloc);
-    so_far.push(import(alloc, name, key)?)?;
+    so_far.push(KeyedImport::new(text(alloc, name)?, key(alloc, name, shown)?))?;
     Ok(so_far)
 }
 
@@ -51,7 +69,7 @@ fn is_named(fault: &Option<Text>, name: &[u8]) -> bool {
 fn two(alloc: Global) -> Result<Modules, AllocError> {
     let mut modules = Modules::new(alloc);
     modules.install(module(alloc, b"A", Items::new(alloc))?)?;
-    modules.install(module(alloc, b"B", imports(alloc, b"A", b"module A\n")?)?)?;
+    modules.install(module(alloc, b"B", imports(alloc, b"A", Shown::Nothing)?)?)?;
     Ok(modules)
 }
 
@@ -86,21 +104,21 @@ fn modules_are_found(rt: HostRuntime) -> Result<(), Fail> {
     Ok(())
 }
 
-// Whether one import with this key links.
-fn links(alloc: Global, modules: &Modules, name: &[u8], key: &[u8]) -> Result<bool, AllocError> {
-    let imports = imports(alloc, name, key)?;
+// Whether an import of a module that showed nothing links.
+fn links(alloc: Global, modules: &Modules, name: &[u8]) -> Result<bool, AllocError> {
+    let imports = imports(alloc, name, Shown::Nothing)?;
     Ok(modules.link_fault(imports.as_slice())?.is_none())
 }
 
-// Whether this module is why one import with this key does not link.
+// Whether this module is why an import of a module that showed this does not link.
 fn is_fault(
     alloc: Global,
     modules: &Modules,
     name: &[u8],
-    key: &[u8],
+    shown: Shown,
     fault: &[u8],
 ) -> Result<bool, AllocError> {
-    let imports = imports(alloc, name, key)?;
+    let imports = imports(alloc, name, shown)?;
     Ok(is_named(&modules.link_fault(imports.as_slice())?, fault))
 }
 
@@ -108,12 +126,12 @@ fn is_fault(
 #[test]
 fn keys_link(rt: HostRuntime) -> Result<(), Fail> {
     let modules = two(rt.alloc())?;
-    assert!(rt; links(rt.alloc(), &modules, b"B", b"module B\n")?);
-    for (name, key) in [
-        (b"B".as_slice(), b"module B\nconst c I 1\n".as_slice()),
-        (b"C".as_slice(), b"module C\n".as_slice()),
+    assert!(rt; links(rt.alloc(), &modules, b"B")?);
+    for (name, shown) in [
+        (b"B".as_slice(), Shown::Variable),
+        (b"C".as_slice(), Shown::Nothing),
     ] {
-        assert!(rt; is_fault(rt.alloc(), &modules, name, key, name)?);
+        assert!(rt; is_fault(rt.alloc(), &modules, name, shown, name)?);
     }
     Ok(())
 }
@@ -121,7 +139,7 @@ fn keys_link(rt: HostRuntime) -> Result<(), Fail> {
 // A, and B over another A.
 fn two_apart(alloc: Global) -> Result<Modules, AllocError> {
     let mut modules = two(alloc)?;
-    modules.install(module(alloc, b"B", imports(alloc, b"A", b"module A\nvar x I\n")?)?)?;
+    modules.install(module(alloc, b"B", imports(alloc, b"A", Shown::Variable)?)?)?;
     Ok(modules)
 }
 
@@ -130,7 +148,7 @@ fn two_apart(alloc: Global) -> Result<Modules, AllocError> {
 fn keys_link_behind_an_import(rt: HostRuntime) -> Result<(), Fail> {
     let modules = two_apart(rt.alloc())?;
     assert_eq!(rt; modules.as_slice().len(), 2);
-    assert!(rt; is_fault(rt.alloc(), &modules, b"B", b"module B\n", b"A")?);
+    assert!(rt; is_fault(rt.alloc(), &modules, b"B", Shown::Nothing, b"A")?);
     Ok(())
 }
 
@@ -152,7 +170,7 @@ fn has_fault(faults: &[Option<Text>], number: usize, name: &[u8]) -> bool {
 fn modules_may_run(rt: HostRuntime) -> Result<(), Fail> {
     let alloc = rt.alloc();
     let mut modules = two_apart(alloc)?;
-    modules.install(module(alloc, b"C", imports(alloc, b"B", b"module B\n")?)?)?;
+    modules.install(module(alloc, b"C", imports(alloc, b"B", Shown::Nothing)?)?)?;
     let (may_run, reaching) = flags(&modules, &text(alloc, b"A")?)?;
     assert!(rt; may_run.as_slice() == [true, false, false].as_slice());
     assert!(rt; reaching.as_slice() == [false, true, true].as_slice());
@@ -211,8 +229,8 @@ fn exported(alloc: Global) -> Result<Items<usize>, AllocError> {
     Ok(exported)
 }
 
-// A module with these exports, over A with this key.
-fn over(alloc: Global, name: &[u8], key: &[u8]) -> Result<SessionModule, AllocError> {
+// A module with these exports, over an A that showed this.
+fn over(alloc: Global, name: &[u8], shown: Shown) -> Result<SessionModule, AllocError> {
     let interface = Interface::new(alloc, text(alloc, name)?, exports(alloc)?)?;
     let tree = TypedModule {
         name: text(alloc, name)?,
@@ -221,15 +239,15 @@ fn over(alloc: Global, name: &[u8], key: &[u8]) -> Result<SessionModule, AllocEr
         exported: exported(alloc)?,
         body: Items::new(alloc),
     };
-    Ok(SessionModule::new(interface, tree, imports(alloc, b"A", key)?))
+    Ok(SessionModule::new(interface, tree, imports(alloc, b"A", shown)?))
 }
 
 // A, M over it, and N over another A.
 fn three(alloc: Global) -> Result<Modules, AllocError> {
     let mut modules = Modules::new(alloc);
     modules.install(module(alloc, b"A", Items::new(alloc))?)?;
-    modules.install(over(alloc, b"M", b"module A\n")?)?;
-    modules.install(over(alloc, b"N", b"module A\nvar x I\n")?)?;
+    modules.install(over(alloc, b"M", Shown::Nothing)?)?;
+    modules.install(over(alloc, b"N", Shown::Variable)?)?;
     Ok(modules)
 }
 

@@ -116,7 +116,7 @@ fn small_exports(alloc: Global) -> Result<Items<Exported>, AllocError> {
     Ok(exports)
 }
 
-// Whether the key and the text of a module with these exports are this.
+// Whether the text of a module with these exports is this.
 fn has_text(
     alloc: Global,
     name: &[u8],
@@ -125,7 +125,7 @@ fn has_text(
 ) -> Result<bool, AllocError> {
     let interface = Interface::new(alloc, text(alloc, name)?, exports)?;
     let written = interface_text(alloc, &interface)?;
-    Ok(interface.key() == wanted && written.as_str() == wanted)
+    Ok(written.as_str() == wanted)
 }
 
 // The same of a module M with one export.

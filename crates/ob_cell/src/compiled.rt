@@ -26,7 +26,7 @@ pub fn keyed_imports(alloc: Global, imports: &[Imported]) -> Result<Items<KeyedI
     let mut keyed = Items::new(alloc);
     for import in imports {
         let name = import.name.copy(alloc)?;
-        let key = import.key.copy(alloc)?;
+        let key = import.key.another()?;
         keyed.push(KeyedImport::new(name, key))?;
     }
     Ok(keyed)

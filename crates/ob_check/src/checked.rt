@@ -4,14 +4,14 @@ ghost use Rattle.std.specs.Prelude.{◌≡◌};
 
 use ob_base::{Items, Text};
 use ob_mean::TypedModule;
-use ob_types::Interface;
+use ob_types::{Interface, Key};
 use std::marker::Model;
 
-/// A module that is imported: its name, and its key as the bytes of its interface's text.
+/// A module that is imported: its name, and the key that it has.
 #[derive(Drop)]
 pub struct Imported {
     pub name: Text,
-    pub key: Text,
+    pub key: Key,
 }
 
 /// A module that was checked: its typed tree, what it shows to others, and the modules that it imports, but for In and Out, in

@@ -12,7 +12,7 @@ use crate::checked::{Checked, Imported};
 use crate::made::Made;
 use crate::procedure::procedures;
 use crate::shapes::shape_of;
-use ob_base::{Items, Refused, Text};
+use ob_base::{Items, Refused};
 use ob_declare::{MAX_NESTING, declared_by, exported_procedures, interface_of};
 use ob_mean::{TypedModule, TypedProcedure, TypedStatement};
 use ob_scope::rejected::{Rejected, told};
@@ -20,6 +20,7 @@ use ob_scope::{Declared, Entry, Imports, LoadedModule, Scope, Site, Standing};
 use ob_statement::statement::optional;
 use ob_strings::Variables;
 use ob_tree::tree::Module;
+use ob_types::Key;
 use std::alloc::{AllocError, Global};
 
 fn exported_variable(
@@ -111,7 +112,7 @@ fn with_key(
         Some(loaded) => {
             let interface = loaded.interface();
             let name = interface.name().copy(alloc)?;
-            let key = Text::from_slice(alloc, interface.key().as_bytes())?;
+            let key = Key::new(interface)?;
             so_far.push(Imported { name, key })?;
             Ok(so_far)
         }

@@ -1,10 +1,12 @@
 -- What imports that link name links too, and so it may run.
-use Rattle.std.proofs.Common.{◌≡◌, ℕ, zero, suc, Bool, false, List, [], ◌∷◌, map, Option, Some, None, is_none, slice_get, refl, sym, ◌∙◌, ap, subst}
-use Rattle.ob_session.specs.Session.{Import, Module, find_module, link_fault}
+use Rattle.std.proofs.Common.{◌≡◌, ℕ, zero, suc, Bool, true, false, List, [], ◌∷◌, length, map, Option, Some, None, is_none, slice_get, refl, sym, ◌∙◌, ap, subst}
+use Rattle.std.specs.Prelude.{slice_index_or}
+use Rattle.ob_session.specs.Session.{Import, Module, find_module, place_of, link_fault}
 use Rattle.ob_session.specs.Links.{Reached, First, Behind, Through}
 use Rattle.ob_session.proofs.Links.{each_links}
+use Rattle.ob_link.specs.Faults.{fault_row, all_none}
 use Rattle.ob_link.specs.Runs.{EachImportRuns, EachRunsLinked}
-use Rattle.ob_link.proofs.Faults.{no_fault}
+use Rattle.ob_link.proofs.Faults.{all_link, no_fault}
 use Rattle.ob_link.proofs.Rows.{at_number, at_place, found_at}
 
 some_import : (j i : Import) → Some j ≡ Some i → j ≡ i
@@ -45,3 +47,12 @@ each_runs_linked modules number m e =
 pub flags_of : (F : Module → Option (List ℕ)) (ms : List Module) → map (λ (f : Option (List ℕ)). is_none f) (map F ms) ≡ map (λ (m : Module). is_none (F m)) ms
 flags_of F [] = refl
 flags_of F (m ∷ ms) = ap (λ (flags : List Bool). is_none (F m) ∷ flags) (flags_of F ms)
+
+-- where all modules link, so do the imports of each
+pub found_links : (ms : List Module) (q : List ℕ) (m : Module) → all_none (fault_row ms (length ms)) ≡ true → find_module ms q ≡ Some m → None ≡ link_fault ms m.imports
+found_links ms q m none found =
+    let flag : is_none (link_fault ms m.imports) ≡ true =
+    sym (at_place (λ (n : Module). is_none (link_fault ms n.imports)) false ms q m found)
+    ∙ ap (λ row. slice_index_or row (place_of ms q) false) (all_link ms none)
+    ∙ at_place (λ (n : Module). true) false ms q m found in
+    sym (no_fault (link_fault ms m.imports) flag)

@@ -85,7 +85,7 @@ impl Table {
     {
         match self.find(import.name()) {
             Some(found) => {
-                if found.interface().key().as_bytes() == import.key().as_slice() {
+                if import.key().is_of(self.alloc(), found.interface())? {
                     self.fault_behind(behind, import.name())
                 } else {
                     Ok(Some(import.name().copy(self.alloc())?))

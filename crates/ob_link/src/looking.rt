@@ -8,6 +8,7 @@ ghost use Rattle.ob_session.specs.Session as session;
 ghost use Rattle.ob_link.specs.Looking.{fault_seen, looked_seen, ready_seen, in_store, storeless};
 
 use crate::command::{Command, CommandName, LinkFault, Looked, Ready};
+use crate::linking::no_fault;
 use crate::module::SessionModule;
 use crate::modules::Modules;
 use ob_base::Text;
@@ -113,6 +114,17 @@ impl Modules {
         Ok(Looked::Missing(LinkFault::NotLoaded(home.copy(self.alloc())?)))
     }
 
+    // The fault of the imports of this module. Where all modules link, it is seen without a look at a key.
+    fn fault_inside(&self, found: &SessionModule, home: &Text) -> Result<Option<Text>, AllocError>
+        requires { session.find_module self.now home.now ≡ Some found.now }
+        ensures { IfOk result (λ f. f ≡ session.link_fault self.now found.now.imports) }
+    {
+        if no_fault(self.faults.as_slice()) {
+            return Ok(None);
+        }
+        self.link_fault(found.imports())
+    }
+
     // What a command of this module comes to.
     fn looked_inside(
         &self,
@@ -126,7 +138,7 @@ impl Modules {
         match command_place(found.interface().exports(), name) {
             Some(place) => {
                 let number = self.place_of(home);
-                let fault = self.link_fault(found.imports())?;
+                let fault = self.fault_inside(found, home)?;
                 let command = Command::new(number, procedure_at(found.tree(), place));
                 Ok(linked(fault, command))
             }

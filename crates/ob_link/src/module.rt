@@ -4,15 +4,14 @@ ghost use Rattle.std.specs.Prelude.{◌≡◌};
 
 use ob_base::{Items, Text};
 use ob_mean::TypedModule;
-use ob_types::Interface;
+use ob_types::{Interface, Key};
 use std::marker::Model;
 
-/// An import: the name of the module, and the key that it had when its client was checked, as the bytes of its interface's
-/// text. In and Out are no imports.
+/// An import: the name of the module, and the key that it had when its client was checked. In and Out are no imports.
 #[derive(Drop)]
 pub struct KeyedImport {
     name: Text,
-    key: Text,
+    key: Key,
 }
 
 impl Model for KeyedImport {
@@ -25,7 +24,7 @@ impl Model for KeyedImport {
 
 impl KeyedImport {
     /// An import of this name, with this key.
-    pub fn new(name: Text, key: Text) -> KeyedImport
+    pub fn new(name: Text, key: Key) -> KeyedImport
         ensures { result ≡ record { name = name; key = key } }
     {
         KeyedImport { name, key }
@@ -39,7 +38,7 @@ impl KeyedImport {
     }
 
     /// The recorded key.
-    pub fn key(&self) -> &Text
+    pub fn key(&self) -> &Key
         ensures { result.now ≡ self.now.key }
     {
         &self.key

@@ -76,9 +76,10 @@ pub(crate) fn string<'a>(alloc: Global, place: Place, text: &'a [u8]) -> Result<
         rest = after;
     }
     if begins_quote(rest) {
+        let chars = Text::shared(alloc, chars)?;
         let behind = behind_one(rest);
         return Ok(Found {
-            kind: Kind::Text(Text::from_vec(chars)),
+            kind: Kind::Text(chars),
             rest: behind,
         });
     }

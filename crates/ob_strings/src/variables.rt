@@ -1,20 +1,72 @@
 //! The variables of a module so far.
 
-ghost use Rattle.std.specs.Prelude.{◌≡◌, [], ◌∷◌, ◌++◌, length, None, IfOk, OnOk, OnErr};
+ghost use Rattle.std.specs.Prelude.{◌≡◌, [], ◌∷◌, ◌++◌, ◌&&◌, ◌==◌, length, None, IfOk, OnOk, OnErr};
+ghost use Rattle.std.specs.Cmp.Rules.{comparing};
+ghost use Rattle.std.specs.Str.{bytes_eq};
+ghost use Rattle.std.proofs.Common.{rules};
 ghost use Rattle.ob_mean.specs.declared.module.ModuleVariable.TheVariants as variable;
+ghost use Rattle.ob_strings.specs.Numbered as numbered;
 ghost use Rattle.ob_strings.specs.Strings as spec;
 
 use ob_base::{Items, Text};
 use ob_mean::{ModuleVariable, Shape};
 use std::alloc::{AllocError, Global};
 use std::collections::HashMap;
+use std::hash::{Hash, Hasher};
 use std::marker::Model;
 
 // A string, and in how many elements it stands.
-#[derive(PartialEq, Eq, Hash, Drop)]
+#[derive(Drop)]
 struct Written {
-    characters: Vec<u8>,
+    characters: Text,
     elements: u32,
+}
+
+impl PartialEq for Written {
+    ghost eq = { λ v w. bytes_eq v.characters w.characters && (v.elements == w.elements) };
+
+    ghost laws = { Prim.search (comparing, rules) };
+
+    fn eq(&self, other: &Written) -> bool {
+        self.characters.same(&other.characters) && self.elements == other.elements
+    }
+}
+
+impl Eq for Written {
+    ghost laws = { Prim.search (comparing, rules) };
+}
+
+// Of a long string so many characters at each end are hashed, and not those between.
+const HASHED: usize = 64;
+
+// The ends of a string, which are the whole where it is short.
+fn ends(characters: &[u8]) -> (&[u8], &[u8])
+    ensures first { result.0.now ≡ numbered.first_of characters.now }
+    ensures last { result.1.now ≡ numbered.last_of characters.now }
+{
+    let most = characters.len().min(HASHED);
+    (&characters[..most], &characters[characters.len() - most..])
+}
+
+impl Hash for Written {
+    ghost use Rattle.std.specs.Prelude.{◌++◌, length};
+    ghost use Rattle.std.specs.Hash as fed;
+    ghost use Rattle.std.specs.Cmp.Rules.{hashing};
+    ghost use Rattle.std.proofs.Common.{rules};
+    ghost use Rattle.ob_strings.specs.Numbered.{first_of, last_of};
+
+    ghost hash_input = { λ w. fed.slice fed.u8 (first_of w.characters) ++ fed.slice fed.u8 (last_of w.characters) ++ fed.usize (length w.characters) ++ fed.u32 w.elements };
+
+    ghost respects_eq = { Prim.search (hashing, rules) };
+
+    fn hash<H: Hasher>(&self, state: &mut H) {
+        let characters = self.characters.as_slice();
+        let (first, last) = ends(characters);
+        first.hash(state);
+        last.hash(state);
+        state.write_usize(characters.len());
+        state.write_u32(self.elements);
+    }
 }
 
 /// The variables of a module so far: the declared ones, and after them the strings that it passes and compares. A string has its
@@ -70,7 +122,7 @@ impl Variables {
         ensures variables { IfOk result (λ p. p.1 ≡ spec.with_string self text elements) }
     {
         let written = Written {
-            characters: Vec::from_slice(self.alloc, text.as_slice())?,
+            characters: text.copy(self.alloc)?,
             elements,
         };
         match self.numbers.get(&written) {
@@ -81,7 +133,7 @@ impl Variables {
 
     // One string more, which is not there.
     fn with_new(self, written: Written, text: Text) -> Result<(usize, Variables), AllocError>
-        requires same { written.characters.items ≡ text }
+        requires same { written.characters ≡ text }
         requires new { spec.string_at self text written.elements ≡ None }
         ensures number { IfOk result (λ p. p.0 ≡ length self) }
         ensures variables { IfOk result (λ p. p.1 ≡ self ++ variable.Text text written.elements ∷ []) }

@@ -1,13 +1,12 @@
 -- What the text of a type says of each form of type.
-use Rattle.std.proofs.Common.{◌≡◌, ℕ, List, [], ◌∷◌, ◌++◌, refl, ap, sym, ◌∙◌, append_assoc}
+use Rattle.std.proofs.Common.{◌≡◌, ℕ, ◌++◌, refl, ap, sym, ◌∙◌}
 use Rattle.std.specs.Prelude.{codes}
 use Rattle.std.specs.Fmt.{decimal}
-use Rattle.ob_types.specs.declared.structure.Field.{Field}
 use Rattle.ob_types.specs.declared.structure.ObType.{ObType}
 use Rattle.ob_types.specs.declared.structure.ObType.TheBlock.{Row_of-Field, end_of-Field, more_of-Field, items-the_row-Field, items_shown-the_row-Field-1}
-use Rattle.ob_types.specs.declared.structure.ObType.TheVariants.{Array, Open, Record}
+use Rattle.ob_types.specs.declared.structure.ObType.TheVariants.{Array, Open}
 use Rattle.ob_types.specs.declared.structure.RecordType.{RecordType, RecordType', out-RecordType}
-use Rattle.ob_types.specs.InterfaceText.{label_text, type_text, fields_text, field_text, all_fields_text, record_text, record_name_text}
+use Rattle.ob_types.specs.InterfaceText.{label_text, type_text, fields_text, all_fields_text, record_text, record_name_text}
 
 pub array_text : (n : ℕ) (e : ObType) → type_text (Array n e) ≡ codes "A" ++ decimal n ++ codes " " ++ type_text e
 unfolding Rattle.ob_types.specs.declared.structure.ObType.TheBlock.hidden-the_row-ObType-0 denote.Hole.Carrier.hidden

@@ -126,7 +126,8 @@ fn put_object(output: &mut String, name: &Text, object: &Object) -> Result<(), A
     }
 }
 
-fn put_exports(output: &mut String, exports: &[Exported]) -> Result<(), AllocError>
+/// Appends the lines of these.
+pub fn put_exports(output: &mut String, exports: &[Exported]) -> Result<(), AllocError>
     ensures { OnOk result (string_bytes output.new ≡ string_bytes output.old ++ spec.exports_text exports.now) }
 {
     for exported in exports {

@@ -1,71 +1,27 @@
-//! The interface of a module, with its key.
+//! The interface of a module.
 
-ghost use Rattle.std.specs.Prelude.{◌≡◌, string_bytes, IfOk};
+ghost use Rattle.std.specs.Prelude.{◌≡◌, ◌≤◌, string_bytes, length, take, IfOk};
 ghost use Rattle.ob_types.specs.InterfaceText as spec;
 
 use crate::exports::Exported;
 use crate::interface_writing::put_interface;
+use crate::numbered::NumberedExports;
 use ob_base::{Items, Shared, Text};
 use std::alloc::{AllocError, Global};
 use std::marker::Model;
 
-// The parts of an interface, with the key that they have.
+// The parts of an interface.
 #[derive(Drop)]
-struct Keyed {
+struct Parts {
     name: Text,
-    exports: Items<Exported>,
-    key: String,
+    exports: NumberedExports,
 }
 
-impl Model for Keyed {
-    ghost use Rattle.std.specs.Prelude.{◌≡◌, string_bytes};
-    ghost use Rattle.ob_types.specs.InterfaceTree.{InterfaceTree};
-    ghost use Rattle.ob_types.specs.contracts.structure.ObType as structure;
-    ghost use Rattle.ob_types.specs.InterfaceText.{interface_text};
-    ghost use Rattle.std.specs.Coded.{codes};
-
-    ghost Value = { InterfaceTree };
-
-    ghost coded = { Prim.hlevel (codes, structure.the_row.coded) };
-
-    ghost view = { λ i. record { name = i.name; exports = i.exports } };
-
-    ghost invariant = { λ i. string_bytes i.key ≡ interface_text (record { name = i.name; exports = i.exports }) };
-}
-
-impl Keyed {
-    fn new(alloc: Global, name: Text, exports: Items<Exported>) -> Result<Keyed, AllocError>
-        ensures { IfOk result (λ i. i ≡ record { name = name; exports = exports }) }
-    {
-        let mut key = String::new(alloc);
-        put_interface(&mut key, &name, exports.as_slice())?;
-        Ok(Keyed { name, exports, key })
-    }
-
-    fn name(&self) -> &Text
-        ensures { result.now ≡ self.now.name }
-    {
-        &self.name
-    }
-
-    fn exports(&self) -> &[Exported]
-        ensures { result.now ≡ self.now.exports }
-    {
-        self.exports.as_slice()
-    }
-
-    fn key(&self) -> &str
-        ensures { result.now ≡ spec.interface_text self.now }
-    {
-        self.key.as_str()
-    }
-}
-
-/// What a module shows to others: its name, and what it exports, in order of declaration. Its key, which is its text, is made
-/// with it. It is there once, however many own it.
+/// What a module shows to others: its name, and what it exports, in order of declaration. Its key is its text, which is written
+/// out where somebody asks for it alone. It is there once, however many own it.
 #[derive(Drop)]
 pub struct Interface {
-    parts: Shared<Keyed>,
+    parts: Shared<Parts>,
 }
 
 impl Model for Interface {
@@ -77,7 +33,7 @@ impl Model for Interface {
 
     ghost coded = { Prim.hlevel (codes, structure.the_row.coded) };
 
-    ghost view = { λ i. i.parts };
+    ghost view = { λ i. record { name = i.parts.name; exports = i.parts.exports } };
 }
 
 impl Interface {
@@ -85,8 +41,8 @@ impl Interface {
     pub fn new(alloc: Global, name: Text, exports: Items<Exported>) -> Result<Interface, AllocError>
         ensures { IfOk result (λ i. i ≡ record { name = name; exports = exports }) }
     {
-        let keyed = Keyed::new(alloc, name, exports)?;
-        let parts = Shared::new(alloc, keyed)?;
+        let exports = NumberedExports::new(alloc, exports)?;
+        let parts = Shared::new(alloc, Parts { name, exports })?;
         Ok(Interface { parts })
     }
 
@@ -103,21 +59,26 @@ impl Interface {
     pub fn name(&self) -> &Text
         ensures { result.now ≡ self.now.name }
     {
-        self.parts.get().name()
+        &self.parts.get().name
     }
 
     /// What the module exports, in order of declaration.
     pub fn exports(&self) -> &[Exported]
         ensures { result.now ≡ self.now.exports }
     {
-        self.parts.get().exports()
+        self.parts.get().exports.as_slice()
     }
 
-    /// The key: the text of the interface. It takes no memory.
-    pub fn key(&self) -> &str
-        ensures { result.now ≡ spec.interface_text self.now }
+    /// So many exported names from the first are the same in both. A type is compared once for all names in which it stands.
+    pub(crate) fn same_before(&self, other: &Interface) -> usize
+        ensures same { take result self.now.exports ≡ take result other.now.exports }
+        ensures left { result ≤ length self.now.exports }
+        ensures right { result ≤ length other.now.exports }
     {
-        self.parts.get().key()
+        self.parts
+            .get()
+            .exports
+            .same_before(&other.parts.get().exports)
     }
 }
 
@@ -126,5 +87,7 @@ impl Interface {
 pub fn interface_text(alloc: Global, interface: &Interface) -> Result<String, AllocError>
     ensures { IfOk result (λ t. string_bytes t ≡ spec.interface_text interface.now) }
 {
-    String::from_str(alloc, interface.key())
+    let mut text = String::new(alloc);
+    put_interface(&mut text, interface.name(), interface.exports())?;
+    Ok(text)
 }

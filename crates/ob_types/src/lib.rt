@@ -1,18 +1,22 @@
 //! The types of Oberon-07, and the interfaces of modules.
 #![tactic(auto)]
 
+mod alike;
 mod compatible;
 mod copies;
 mod exports;
 mod interface_writing;
+mod key;
 mod keyed;
 mod laws;
+mod numbered;
 mod size;
 mod structure;
 mod type_writing;
 
 pub use compatible::{assignable, base_of, extends, same, string_assignable};
 pub use exports::{Constant, Exported, Formal, FormalKind, Object, Signature};
+pub use key::Key;
 pub use keyed::{Interface, interface_text};
 pub use laws::same_type_law;
 pub use size::{MAX_CELLS, MAX_LEVELS, is_admitted, levels, zero_size};

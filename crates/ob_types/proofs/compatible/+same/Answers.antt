@@ -1,6 +1,6 @@
-use Rattle.std.proofs.Common.{◌≡◌, Bool, true, false, ◌&&◌, nat_eq, refl, sym, ap, ◌∙◌}
+use Rattle.std.proofs.Common.{◌&&◌, sym, ap, ◌∙◌}
 use Rattle.std.specs.Cmp.Lexicographic.{pointwise}
-use Rattle.ob_types.specs.Types.{same, same_field, same_record}
+use Rattle.ob_types.specs.Types.{same, same_field}
 use Rattle.ob_types.specs.declared.structure.ObType.TheVariants.{Array, Open, Record}
 use Rattle.ob_types.specs.declared.structure.RecordType.{out-RecordType}
 use Rattle.ob_types.proofs.Equations.{same_array, same_open, same_records, equal, unequal, apart_array, apart_open}

@@ -1,4 +1,4 @@
-use Rattle.std.proofs.Common.{◌≡◌, ◌&&◌, nat_lt, sym, ap, ◌∙◌}
+use Rattle.std.proofs.Common.{◌&&◌, nat_lt, sym, ap, ◌∙◌}
 use Rattle.ob_types.specs.Types.{is_char, string_assignable}
 use Rattle.ob_types.proofs.Equations.{string_array, string_open}
 use Rattle.ob_types.proofs.compatible.string_assignable.Goals as goal

@@ -1,4 +1,4 @@
-use Rattle.std.proofs.Common.{◌≡◌, ◌+◌, ap, ◌∙◌, sym, arith}
+use Rattle.std.proofs.Common.{◌≡◌, ◌+◌, ap, ◌∙◌, arith}
 use Rattle.ob_types.specs.Types.{levels}
 use Rattle.ob_types.proofs.Equations.{levels_array}
 use Rattle.ob_types.proofs.size.+levels.Goals as goal

@@ -1,4 +1,4 @@
-use Rattle.std.proofs.Common.{◌≡◌, ◌*◌, min, refl, ap, ◌∙◌, sym, arith}
+use Rattle.std.proofs.Common.{◌≡◌, ◌*◌, min, ap, ◌∙◌, sym}
 use Rattle.ob_types.specs.Types.{cells}
 use Rattle.ob_types.proofs.Equations.{cells_array, cells_open}
 use Rattle.ob_types.proofs.Numbers.{product_most}

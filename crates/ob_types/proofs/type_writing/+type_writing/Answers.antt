@@ -1,6 +1,6 @@
 use Rattle.std.proofs.Common.{rules, ◌≡◌, ℕ, List, ◌++◌, ap, ◌∙◌, sym, subst, append_assoc, string_bytes, OnOk}
 use Rattle.std.proofs.lemmas.Result.{IfOk-equal}
-use Rattle.ob_types.specs.InterfaceText.{type_text, record_text}
+use Rattle.ob_types.specs.InterfaceText.{type_text}
 use Rattle.ob_types.proofs.TextEquations.{array_text, open_text, text_of_record}
 use Rattle.ob_types.proofs.type_writing.+type_writing.Goals as goal
 

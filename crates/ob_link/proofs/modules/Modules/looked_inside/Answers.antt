@@ -1,5 +1,4 @@
-use Rattle.std.proofs.Common.{rules, ◌≡◌, List, Some, slice_index, ap, ◌∙◌}
-use Rattle.ob_session.specs.Session.{Import, link_fault}
+use Rattle.std.proofs.Common.{rules, ◌≡◌, Some, slice_index, ◌∙◌}
 use Rattle.ob_session.specs.Cells as cells
 use Rattle.ob_link.proofs.LookedUp.{looked_there}
 use Rattle.ob_link.proofs.modules.Modules.looked_inside.Goals as goal
@@ -11,4 +10,4 @@ returns-in_ok-fault-in-Some c =
     let numbered : c.procedure_at.result ≡ slice_index found.tree.exported c.in-Some.place = search rules in
     c.linked.ensures
     ∙ looked_there c.args.self.now (record { home = c.args.home.now; name = c.args.name.now }) found c.in-Some.place c.place_of-number.result c.procedure_at.result c.in_ok-fault-in-Some.fault c.new-command.result
-    placed c.place_of-number.ensures numbered (c.in_ok-fault-in-Some.ensures ∙ ap (λ (is : List Import). link_fault c.args.self.now is) c.imports.ensures) c.new-command.ensures
+    placed c.place_of-number.ensures numbered c.in_ok-fault-in-Some.ensures c.new-command.ensures

@@ -8,5 +8,5 @@ pub invariant_of-self-2 : goal.invariant_of-self-2
 invariant_of-self-2 c = λ q.
     let pushed : c.push.new.self ≡ c.self.inside.all ++ variable.Declared c.args.shape ∷ [] = search rules in
     c.self.invariant q
-    ∙ sym (declared_more c.self.inside.all c.args.shape q.characters.items q.elements)
-    ∙ ap (λ vs. spec.string_at vs q.characters.items q.elements) (sym pushed)
+    ∙ sym (declared_more c.self.inside.all c.args.shape q.characters q.elements)
+    ∙ ap (λ vs. spec.string_at vs q.characters q.elements) (sym pushed)

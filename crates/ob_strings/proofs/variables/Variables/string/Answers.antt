@@ -7,18 +7,18 @@ use Rattle.ob_strings.proofs.variables.Variables.string.Goals as goal
 
 pub with_new-requires-clause-new : goal.with_new-requires-clause-new
 with_new-requires-clause-new c =
-    let key : Written = record { characters = c.in_ok-from_slice.field-0; elements = c.args.elements } in
+    let key : Written = record { characters = c.in_ok-copy.field-0; elements = c.args.elements } in
     let none : option_copied c.get.result ≡ None = search rules in
-    let text : c.in_ok-from_slice.field-0.items ≡ c.args.text = search rules in
+    let text : c.in_ok-copy.field-0 ≡ c.args.text = search rules in
     sym (ap (λ vs. spec.string_at vs c.args.text c.args.elements) c.self.view_is)
     ∙ ap (λ l. spec.string_at c.self.inside.all l c.args.elements) (sym text)
     ∙ sym (c.self.invariant key) ∙ sym c.get.ensures.value ∙ none
 
 pub returns-in-Some-clause-number : goal.returns-in-Some-clause-number
 returns-in-Some-clause-number c =
-    let key : Written = record { characters = c.in_ok-from_slice.field-0; elements = c.args.elements } in
+    let key : Written = record { characters = c.in_ok-copy.field-0; elements = c.args.elements } in
     let some : option_copied c.get.result ≡ Some c.in-Some.number.now = search rules in
-    let text : c.in_ok-from_slice.field-0.items ≡ c.args.text = search rules in
+    let text : c.in_ok-copy.field-0 ≡ c.args.text = search rules in
     old_number c.args.self c.args.text c.args.elements c.in-Some.number.now
     (sym (ap (λ vs. spec.string_at vs c.args.text c.args.elements) c.self.view_is)
     ∙ ap (λ l. spec.string_at c.self.inside.all l c.args.elements) (sym text)
@@ -26,9 +26,9 @@ returns-in-Some-clause-number c =
 
 pub returns-in-Some-clause-variables : goal.returns-in-Some-clause-variables
 returns-in-Some-clause-variables c =
-    let key : Written = record { characters = c.in_ok-from_slice.field-0; elements = c.args.elements } in
+    let key : Written = record { characters = c.in_ok-copy.field-0; elements = c.args.elements } in
     let some : option_copied c.get.result ≡ Some c.in-Some.number.now = search rules in
-    let text : c.in_ok-from_slice.field-0.items ≡ c.args.text = search rules in
+    let text : c.in_ok-copy.field-0 ≡ c.args.text = search rules in
     old_variables c.args.self c.args.text c.args.elements c.in-Some.number.now
     (sym (ap (λ vs. spec.string_at vs c.args.text c.args.elements) c.self.view_is)
     ∙ ap (λ l. spec.string_at c.self.inside.all l c.args.elements) (sym text)
@@ -36,9 +36,9 @@ returns-in-Some-clause-variables c =
 
 pub returns-in-None-clause-number : goal.returns-in-None-clause-number
 returns-in-None-clause-number c =
-    let key : Written = record { characters = c.in_ok-from_slice.field-0; elements = c.args.elements } in
+    let key : Written = record { characters = c.in_ok-copy.field-0; elements = c.args.elements } in
     let none : option_copied c.get.result ≡ None = search rules in
-    let text : c.in_ok-from_slice.field-0.items ≡ c.args.text = search rules in
+    let text : c.in_ok-copy.field-0 ≡ c.args.text = search rules in
     let absent : spec.string_at c.args.self c.args.text c.args.elements ≡ None =
     sym (ap (λ vs. spec.string_at vs c.args.text c.args.elements) c.self.view_is)
     ∙ ap (λ l. spec.string_at c.self.inside.all l c.args.elements) (sym text)
@@ -47,9 +47,9 @@ returns-in-None-clause-number c =
 
 pub returns-in-None-clause-variables : goal.returns-in-None-clause-variables
 returns-in-None-clause-variables c =
-    let key : Written = record { characters = c.in_ok-from_slice.field-0; elements = c.args.elements } in
+    let key : Written = record { characters = c.in_ok-copy.field-0; elements = c.args.elements } in
     let none : option_copied c.get.result ≡ None = search rules in
-    let text : c.in_ok-from_slice.field-0.items ≡ c.args.text = search rules in
+    let text : c.in_ok-copy.field-0 ≡ c.args.text = search rules in
     let absent : spec.string_at c.args.self c.args.text c.args.elements ≡ None =
     sym (ap (λ vs. spec.string_at vs c.args.text c.args.elements) c.self.view_is)
     ∙ ap (λ l. spec.string_at c.self.inside.all l c.args.elements) (sym text)
