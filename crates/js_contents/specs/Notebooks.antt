@@ -18,6 +18,7 @@ use Rattle.js_shelf.specs.Shelves.{Contents, Same}
 use Rattle.js_tables.specs.declared.refusal.Refusal.{Refusal}
 use Rattle.js_tables.specs.declared.refusal.Refusal.TheVariants.{Status, Failed}
 use Rattle.js_tables.specs.Plans.{◌>>=◌, Gives}
+use Rattle.js_contents.specs.declared.notebook.First.{First}
 use Rattle.js_contents.specs.Looks.{present_item_at}
 
 -- what is no notebook is a bad request
@@ -43,13 +44,19 @@ unfoldable pub notebook_file : Notebook → Item
 notebook_file n = File (notebook_text n)
 
 -- what a recorder begins with, by what stands at its path
-abbrev pub begun : Option Item → Result Notebook ErrorStatus
-begun None = Ok empty_notebook
-begun (Some Folder) = Err BadRequest
-begun (Some (File bytes)) = notebook_in bytes
+abbrev pub read_of : List ℕ → Notebook → Result First ErrorStatus
+read_of bytes n = Ok (record { notebook = n; known = Some bytes })
 
-abbrev pub first_notebook : Contents → List ℕ → Result Notebook ErrorStatus
+abbrev pub begun_file : List ℕ → Result First ErrorStatus
+begun_file bytes = notebook_in bytes >>= read_of bytes
+
+abbrev pub begun : Option Item → Result First ErrorStatus
+begun None = Ok (record { notebook = empty_notebook; known = None })
+begun (Some Folder) = Err BadRequest
+begun (Some (File bytes)) = begun_file bytes
+
+abbrev pub first_notebook : Contents → List ℕ → Result First ErrorStatus
 first_notebook m path = present_item_at m path >>= begun
 
-abbrev pub Begins : List ℕ → Result Notebook Refusal → Contents → Contents → Type 0
+abbrev pub Begins : List ℕ → Result First Refusal → Contents → Contents → Type 0
 Begins path result m n = Same m n × Gives result (first_notebook m path)

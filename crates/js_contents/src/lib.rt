@@ -13,7 +13,7 @@ mod store;
 
 pub use kind::{about_at, is_notebook_name};
 pub use look::{has_folder, names_in};
-pub use notebook::notebook_for;
+pub use notebook::{First, notebook_for};
 pub use place::{Place, below, if_path, named_place, place_of};
 pub use put::{PutBody, Putting, Ready, fitted, read_put};
 pub use read::{Aim, Seen, bare_value, item_plan, planned, read_aim};

@@ -55,24 +55,46 @@ pub(crate) fn notebook_file(alloc: Global, notebook: &Notebook) -> Result<Item, 
     Ok(Item::File(Bytes::from(write_notebook(alloc, notebook)?)))
 }
 
-fn begun(alloc: Global, item: Option<Item>) -> Result<Notebook, Refusal>
+/// What a recorder begins with: a notebook, and the bytes of the file that it was read of, if there is one.
+#[derive(Drop)]
+pub struct First {
+    pub notebook: Notebook,
+    pub known: Option<Bytes>,
+}
+
+fn begun_file(alloc: Global, bytes: Bytes) -> Result<First, Refusal>
+    ensures exact { Gives result (spec.begun_file bytes) }
+    ensures document { IfOk result (λ f. IsDocument f.notebook) }
+    ensures shallow { IfOk result (λ f. depth (notebook_form f.notebook) ≤ max_depth) }
+{
+    let notebook = notebook_in(alloc, bytes.as_slice())?;
+    Ok(First {
+        notebook,
+        known: Some(bytes),
+    })
+}
+
+fn begun(alloc: Global, item: Option<Item>) -> Result<First, Refusal>
     ensures exact { Gives result (spec.begun item) }
-    ensures document { IfOk result IsDocument }
-    ensures shallow { IfOk result (λ n. depth (notebook_form n) ≤ max_depth) }
+    ensures document { IfOk result (λ f. IsDocument f.notebook) }
+    ensures shallow { IfOk result (λ f. depth (notebook_form f.notebook) ≤ max_depth) }
 {
     match item {
-        None => Ok(Notebook::empty(alloc)),
+        None => Ok(First {
+            notebook: Notebook::empty(alloc),
+            known: None,
+        }),
         Some(Item::Folder) => Err(Refusal::Status(ErrorStatus::BadRequest)),
-        Some(Item::File(bytes)) => notebook_in(alloc, bytes.as_slice()),
+        Some(Item::File(bytes)) => begun_file(alloc, bytes),
     }
 }
 
-/// The notebook that a recorder of a path begins with: an empty one where nothing stands there. A folder and an
-/// unreadable file are a bad request.
-pub fn notebook_for<S: Shelf>(alloc: Global, shelf: &mut S, path: &str) -> Result<Notebook, Refusal>
+/// What a recorder of a path begins with: an empty notebook where nothing stands there. A folder and an unreadable file are a bad
+/// request.
+pub fn notebook_for<S: Shelf>(alloc: Global, shelf: &mut S, path: &str) -> Result<First, Refusal>
     ensures exact { Tells (S.contents shelf.old) (S.contents shelf.new) (spec.Begins path.now result) }
-    ensures document { IfOk result IsDocument }
-    ensures shallow { IfOk result (λ n. depth (notebook_form n) ≤ max_depth) }
+    ensures document { IfOk result (λ f. IsDocument f.notebook) }
+    ensures shallow { IfOk result (λ f. depth (notebook_form f.notebook) ≤ max_depth) }
 {
     let item = present_item(shelf, path)?;
     begun(alloc, item)

@@ -5,12 +5,15 @@ use Rattle.std.specs.List.{list_any}
 use Rattle.std.specs.Str.{bytes_eq}
 use Rattle.jk_log.specs.declared.entry.Entry.{Entry}
 use Rattle.js_shelf.specs.declared.item.ShelfRefusal.{ShelfRefusal}
+use Rattle.js_shelf.specs.declared.item.ShelfRefusal.TheVariants.{Device}
 use Rattle.js_shelf.specs.Shelves.{Contents, Tells, HasCause}
+use Rattle.nb_doc.specs.Writing.{notebook_text}
 use Rattle.nb_record.specs.State.{AreTold, Saves, ends_stored}
 use Rattle.js_tables.specs.declared.tables.Kernel.{Kernel}
 use Rattle.js_tables.specs.declared.tables.Recording.{Recording}
 use Rattle.js_tables.specs.declared.tables.Session.{Session}
 use Rattle.js_tables.specs.Tables.{Rows, find_kernel, set_date}
+use Rattle.js_follow.specs.Changing.{Looks}
 
 -- where the recorder of a kernel stands
 abbrev pub place_of : List ℕ → Rows → Option ℕ
@@ -47,12 +50,18 @@ pub record HasTold (told : List Entry) (old new : Recording) : Type 0 where
   pub path : new.recorder.path ≡ old.recorder.path
   pub pages : AreTold told old.recorder.pages new.recorder.pages
   pub due : new.due ≡ (old.due || list_any ends_stored told)
+  pub known : new.known ≡ old.known
+  pub tried : new.tried ≡ old.tried
 
 -- ---- saving
 
--- a refused save is due still
+abbrev pub text_of : Recording → List ℕ
+text_of c = notebook_text c.recorder.pages.notebook
+
+-- After a save the recorder knows what its file holds. A refused one is due still; where the device failed, the file may hold it.
 abbrev pub saved : Result Unit ShelfRefusal → Recording → Recording
-saved (Ok done) c = record c { due = false }
+saved (Ok done) c = record c { due = false; known = Some (text_of c); tried = None }
+saved (Err Device) c = record c { tried = Some (text_of c) }
 saved (Err e) c = c
 
 -- after a save the file has this date
@@ -70,18 +79,30 @@ module _ (c d : Option Contents) (f g : ℕ) where
   SavesTo path result x y =
       (y ≡ saved result (moved path x)) × Tells c d (Saves (moved path x).recorder result) × HasCause f g result
 
-  -- the recorder at a place saves at the path of its session
+  -- the save of a recorder that has looked at its file, unless that was refused
+  abbrev pub SavesAfter : Result Unit ShelfRefusal → List ℕ → Result Unit ShelfRefusal → Recording → Recording → Type 0
+  SavesAfter (Err refusal) path result y z = (result ≡ Err refusal) × (z ≡ y) × Stays
+  SavesAfter (Ok done) path result y z = SavesTo path result y z
+
+module _ (c d : Option Contents) (f g : ℕ) where
+  -- a recorder looks at the file at this path, and saves there
+  unfoldable pub LooksAndSaves : List ℕ → List ℕ → Result Unit ShelfRefusal → Recording → Recording → Type 0
+  LooksAndSaves path date result x z =
+      (looked : Result Unit ShelfRefusal) × (y : Recording) × (e : Option Contents) × (h : ℕ)
+      × Looks c e f h path date looked x y × SavesAfter e d h g looked path result y z
+
+  -- the recorder at a place does so at the path of its session
   abbrev pub SavesAt : List ℕ → ℕ → Recording → Rows → Rows → Type 0
   SavesAt date place x r s =
-      (result : Result Unit ShelfRefusal) × (y : Recording) × SavesTo (path_of r.kernels x) result x y
-      × (s ≡ dated result (path_of r.kernels x) date (with_recording place y r))
+      (result : Result Unit ShelfRefusal) × (z : Recording) × LooksAndSaves (path_of r.kernels x) date result x z
+      × (s ≡ dated result (path_of r.kernels x) date (with_recording place z r))
 
   -- a save is tried; or there was no memory, and it is due still
   abbrev pub SavesDue : List ℕ → ℕ → Recording → Rows → Rows → Type 0
-  SavesDue date place x r s = ((s ≡ r) × Stays) ⊎ SavesAt date place x r s
+  SavesDue date place x r s = ((s ≡ r) × Stays c d f g) ⊎ SavesAt date place x r s
 
   abbrev pub SavesIf : Bool → List ℕ → ℕ → Recording → Rows → Rows → Type 0
-  SavesIf false date place x r s = (s ≡ r) × Stays
+  SavesIf false date place x r s = (s ≡ r) × Stays c d f g
   SavesIf true date place x r s = SavesDue date place x r s
 
   -- the entries that were told and those that were not are all that were shown, in order
@@ -93,7 +114,7 @@ module _ (c d : Option Contents) (f g : ℕ) where
 
   -- where the kernel has no recorder nothing changes
   abbrev pub FollowsBy : Option ℕ → List ℕ → List Entry → Option (List Entry) → Rows → Rows → Type 0
-  FollowsBy None date entries result r s = (result ≡ None) × (s ≡ r) × Stays
+  FollowsBy None date entries result r s = (result ≡ None) × (s ≡ r) × Stays c d f g
   FollowsBy (Some place) date entries result r s =
       (rest : List Entry) × (result ≡ Some rest) × FollowsAt place date entries rest r s
 

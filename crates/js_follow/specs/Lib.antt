@@ -1,2 +1,4 @@
+pub mod Joining
+pub mod Changing
 pub mod Following
 pub mod Putting

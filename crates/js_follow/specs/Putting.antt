@@ -1,18 +1,19 @@
 -- To be believed.
 -- A notebook that is put: where the recorder of a session keeps its own, the recorder is given it, and saves.
-use Rattle.std.specs.Prelude.{◌≡◌, ◌⊎◌, ℕ, true, List, Option, Some, None, Result, Err, slice_get}
+use Rattle.std.specs.Prelude.{◌≡◌, ◌⊎◌, ℕ, Bool, true, false, List, Option, Some, None, Result, Ok, Err, slice_get}
 use Rattle.nb_doc.specs.declared.notebook.Notebook.{Notebook}
 use Rattle.nb_doc.specs.Writing.{notebook_text}
 use Rattle.nb_record.specs.Book.{Put}
 use Rattle.nb_record.specs.State.{IsTold, Saves}
 use Rattle.js_shelf.specs.declared.item.Item.TheVariants.{File}
 use Rattle.js_shelf.specs.declared.item.ShelfRefusal.{ShelfRefusal}
-use Rattle.js_shelf.specs.declared.item.ShelfRefusal.TheVariants.{Memory}
+use Rattle.js_shelf.specs.declared.item.ShelfRefusal.TheVariants.{Exists, Memory}
 use Rattle.js_shelf.specs.Shelves.{Contents, Tells, HasCause, Puts}
 use Rattle.js_tables.specs.declared.tables.Kernel.{Kernel}
 use Rattle.js_tables.specs.declared.tables.Recording.{Recording}
 use Rattle.js_tables.specs.Sessions.{find_by_path}
 use Rattle.js_tables.specs.Tables.{Rows}
+use Rattle.js_follow.specs.Changing.{Compares}
 use Rattle.js_follow.specs.Following.{place_of, moved, saved, with_recording, Stays}
 
 abbrev pub kernel_recorder : Option Kernel → Rows → Option ℕ
@@ -29,6 +30,8 @@ pub record HasPut (n : Notebook) (old new : Recording) : Type 0 where
   pub path : new.recorder.path ≡ old.recorder.path
   pub pages : IsTold (Put n) old.recorder.pages new.recorder.pages
   pub due : new.due ≡ true
+  pub known : new.known ≡ old.known
+  pub tried : new.tried ≡ old.tried
 
 -- of a shelf: what it tells and how often its device failed, before and after
 module _ (c d : Option Contents) (f g : ℕ) where
@@ -42,11 +45,25 @@ module _ (c d : Option Contents) (f g : ℕ) where
       (y : Recording) × HasPut n (moved path x) y × (z ≡ saved result y) × Tells c d (Saves y.recorder result) × HasCause f g result
 
   -- or there was no memory for the notebook, and nothing has changed
-  abbrev pub GivesTo : List ℕ → Notebook → Result Unit ShelfRefusal → Recording → Recording → Type 0
-  GivesTo path n result x z = ((result ≡ Err Memory) × (z ≡ x) × Stays c d f g) ⊎ SavesPut path n result x z
+  abbrev pub TakesPut : List ℕ → Notebook → Result Unit ShelfRefusal → Recording → Recording → Type 0
+  TakesPut path n result x z = ((result ≡ Err Memory) × (z ≡ x) × Stays c d f g) ⊎ SavesPut path n result x z
+
+  -- Where somebody else changed the file, the put is refused, and a save is due, which takes their change. Where that could not be
+  -- told, nothing has changed.
+  abbrev pub GivesAfter : Result Bool ShelfRefusal → List ℕ → Notebook → Result Unit ShelfRefusal → Recording → Recording → Type 0
+  GivesAfter (Ok true) path n result x z = TakesPut path n result x z
+  GivesAfter (Ok false) path n result x z = (result ≡ Err Exists) × (z ≡ record x { due = true }) × Stays c d f g
+  GivesAfter (Err refusal) path n result x z = (result ≡ Err refusal) × (z ≡ x) × Stays c d f g
+
+module _ (c d : Option Contents) (f g : ℕ) where
+  -- a recorder compares the file at this path with what it knows, and is given the notebook
+  unfoldable pub GivesTo : List ℕ → Notebook → Result Unit ShelfRefusal → Recording → Recording → Type 0
+  GivesTo path n result x z =
+      (unchanged : Result Bool ShelfRefusal) × (e : Option Contents) × (h : ℕ)
+      × Compares c e f h path unchanged x × GivesAfter e d h g unchanged path n result x z
 
   abbrev pub PutsBookBy : Option ℕ → List ℕ → Notebook → Result Unit ShelfRefusal → Rows → Rows → Type 0
-  PutsBookBy None path n result r s = (s ≡ r) × PutsFile path n result
+  PutsBookBy None path n result r s = (s ≡ r) × PutsFile c d f g path n result
   PutsBookBy (Some place) path n result r s =
       (x : Recording) × (z : Recording) × (slice_get r.recordings place ≡ Some x) × GivesTo path n result x z
       × (s ≡ with_recording place z r)

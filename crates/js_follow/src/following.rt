@@ -2,17 +2,19 @@
 ghost use Rattle.std.specs.Prelude.{◌≡◌, ◌≤◌, ◌<◌, take, drop, length, position, slice_get, Some, IfOk};
 ghost use Rattle.std.specs.List.{list_any};
 ghost use Rattle.std.specs.Str.{bytes_eq};
-ghost use Rattle.nb_record.specs.State.{ends_stored as is_ending};
+ghost use Rattle.js_shelf.specs.Shelves.{Tells, HasCause};
+ghost use Rattle.nb_record.specs.State.{Saves, ends_stored as is_ending};
 ghost use Rattle.js_follow.specs.Following as spec;
 ghost use Rattle.js_tables.specs.Tables.{rows};
 
+use crate::changing::look;
 use jk_log::Entry;
-use js_shelf::{Shelf, ShelfRefusal};
+use js_shelf::{Bytes, Item, Shelf, ShelfRefusal};
 use js_tables::{Kernel, Recording, Tables, Update, find_kernel};
 use json_form::Text;
-use nb_doc::Listed;
+use nb_doc::{Listed, write_notebook};
 use nb_record::ends_stored;
-use std::alloc::AllocError;
+use std::alloc::{AllocError, Global};
 
 pub(crate) fn place_of(recordings: &[Recording], kernel: &str) -> Option<usize>
     ensures { result ≡ position (λ c. bytes_eq c.kernel kernel.now) recordings.now }
@@ -67,8 +69,37 @@ fn path_of(kernels: &[Kernel], recording: &Recording) -> Result<Text, AllocError
     }
 }
 
+// Saves a recorder that has gone to its path. A refused save is due still.
+fn save<S: Shelf>(
+    alloc: Global,
+    recording: &mut Recording,
+    shelf: &mut S,
+) -> Result<(), ShelfRefusal>
+    ensures recorder { recording.new ≡ spec.saved result recording.old }
+    ensures shelf { Tells (S.contents shelf.old) (S.contents shelf.new) (Saves recording.old.recorder result) }
+    ensures cause { HasCause (S.faults shelf.old) (S.faults shelf.new) result }
+{
+    let text = write_notebook(alloc, recording.recorder.notebook())?;
+    let copy = Bytes::from(text.clone()?);
+    let saved = shelf.put(
+        recording.recorder.path().as_str(),
+        Item::File(Bytes::from(text)),
+    );
+    match saved {
+        Ok(()) => {
+            recording.due = false;
+            recording.known = Some(copy);
+            recording.tried = None;
+        }
+        Err(ShelfRefusal::Device) => recording.tried = Some(copy),
+        Err(_) => (),
+    }
+    saved
+}
+
 // Saves a recorder that goes to a path. It says whether that is saved; a refused save is due still.
 pub(crate) fn save_to<S: Shelf>(
+    alloc: Global,
     recording: &mut Recording,
     shelf: &mut S,
     path: Text,
@@ -76,9 +107,22 @@ pub(crate) fn save_to<S: Shelf>(
     ensures { spec.SavesTo (S.contents shelf.old) (S.contents shelf.new) (S.faults shelf.old) (S.faults shelf.new) path result recording.old recording.new }
 {
     recording.recorder.moved(path);
-    recording.recorder.save(shelf)?;
-    recording.due = false;
-    Ok(())
+    save(alloc, recording, shelf)
+}
+
+// Looks at a recorder's file, and saves it there. It says whether that is saved.
+#[tactic(auto, unfolding(crate::specs::Following::LooksAndSaves))]
+fn look_and_save<S: Shelf>(
+    alloc: Global,
+    recording: &mut Recording,
+    shelf: &mut S,
+    path: Text,
+    date: &Text,
+) -> Result<(), ShelfRefusal>
+    ensures { spec.LooksAndSaves (S.contents shelf.old) (S.contents shelf.new) (S.faults shelf.old) (S.faults shelf.new) path date.now result recording.old recording.new }
+{
+    look(alloc, recording, shelf, path.as_str(), date)?;
+    save_to(alloc, recording, shelf, path)
 }
 
 // The path of a recorder's file and a copy of it.
@@ -91,7 +135,7 @@ fn two_paths(kernels: &[Kernel], recording: &Recording) -> Result<(Text, Text), 
 }
 
 // Saves the recorder at a place. Where there is no memory, that is due still.
-fn save_at<S: Shelf>(tables: &mut Tables, shelf: &mut S, date: &Text, place: usize)
+fn save_at<S: Shelf>(alloc: Global, tables: &mut Tables, shelf: &mut S, date: &Text, place: usize)
     requires { place < length (rows tables.old).recordings }
     ensures { (x : Recording) → slice_get (rows tables.old).recordings place ≡ Some x
         → spec.SavesDue (S.contents shelf.old) (S.contents shelf.new) (S.faults shelf.old) (S.faults shelf.new) date.now place x (rows tables.old) (rows tables.new) }
@@ -102,27 +146,34 @@ fn save_at<S: Shelf>(tables: &mut Tables, shelf: &mut S, date: &Text, place: usi
     let Ok((path, file)) = two_paths(&tables.kernels, &tables.recordings[place]) else {
         return;
     };
-    let Ok(date) = date.copy() else {
+    let Ok(saved) = date.copy() else {
         return;
     };
-    if save_to(&mut tables.recordings[place], shelf, path).is_ok() {
-        tables.update(Update::SetDate(file, date));
+    if look_and_save(alloc, &mut tables.recordings[place], shelf, path, date).is_ok() {
+        tables.update(Update::SetDate(file, saved));
     }
 }
 
 // Saves the recorder at a place where that is due. Where there is no memory, it is due still.
-fn save_if_due<S: Shelf>(tables: &mut Tables, shelf: &mut S, date: &Text, place: usize)
+fn save_if_due<S: Shelf>(
+    alloc: Global,
+    tables: &mut Tables,
+    shelf: &mut S,
+    date: &Text,
+    place: usize,
+)
     requires { place < length (rows tables.old).recordings }
     ensures { (x : Recording) → slice_get (rows tables.old).recordings place ≡ Some x
         → spec.SavesIf (S.contents shelf.old) (S.contents shelf.new) (S.faults shelf.old) (S.faults shelf.new) x.due date.now place x (rows tables.old) (rows tables.new) }
 {
     if tables.recordings[place].due {
-        save_at(tables, shelf, date, place);
+        save_at(alloc, tables, shelf, date, place);
     }
 }
 
 // Tells the recorder at a place entries, and saves it where that is due. It answers the entries that were not told.
 fn follow_at<S: Shelf>(
+    alloc: Global,
     tables: &mut Tables,
     shelf: &mut S,
     date: &Text,
@@ -133,16 +184,19 @@ fn follow_at<S: Shelf>(
     ensures { spec.FollowsAt (S.contents shelf.old) (S.contents shelf.new) (S.faults shelf.old) (S.faults shelf.new) place date.now entries.items result (rows tables.old) (rows tables.new) }
 {
     let count = tell(&mut tables.recordings[place], entries.as_slice());
-    save_if_due(tables, shelf, date, place);
+    save_if_due(alloc, tables, shelf, date, place);
     rest_of(entries, count)
 }
 
 /// Tells the recorder of a kernel what the kernel showed, in order, and saves it where a stored cell has ended or a save was
 /// refused before. After a save the file has this date.
 ///
+/// Before a save the file is looked at. What somebody else made of it is taken, or kept beside it under the date.
+///
 /// It answers the last of the entries, which the recorder was not told since memory was refused. There is no answer where the
 /// kernel has no recorder.
 pub fn follow<S: Shelf>(
+    alloc: Global,
     tables: &mut Tables,
     shelf: &mut S,
     date: &Text,
@@ -153,7 +207,7 @@ pub fn follow<S: Shelf>(
 {
     match place_of(&tables.recordings, kernel) {
         None => None,
-        Some(place) => Some(follow_at(tables, shelf, date, place, entries)),
+        Some(place) => Some(follow_at(alloc, tables, shelf, date, place, entries)),
     }
 }
 

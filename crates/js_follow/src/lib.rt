@@ -1,7 +1,9 @@
 //! The recorders of sessions: what kernels show goes into the notebooks of their sessions.
 #![tactic(auto)]
 
+mod changing;
 mod following;
+mod joining;
 mod putting;
 
 pub use following::{follow, is_due};

@@ -7,6 +7,7 @@ ghost use Rattle.nb_doc.specs.Writing.{notebook_form};
 ghost use Rattle.js_follow.specs.Putting as spec;
 ghost use Rattle.js_tables.specs.Tables.{rows, HasRoom};
 
+use crate::changing::is_unchanged;
 use crate::following::{place_of, save_to};
 use js_shelf::{Bytes, Item, Shelf, ShelfRefusal};
 use js_tables::{ReadNotebook, Recording, Tables, find_by_path};
@@ -27,7 +28,28 @@ fn recorder_at(tables: &Tables, path: &str) -> Option<usize>
 
 // Gives a recorder a notebook, and saves it at a path, once. A refused save is due. Where there is no memory for the notebook,
 // nothing has changed.
+fn take_put<S: Shelf>(
+    alloc: Global,
+    recording: &mut Recording,
+    shelf: &mut S,
+    path: Text,
+    notebook: Notebook,
+) -> Result<(), ShelfRefusal>
+    requires document { IsDocument notebook }
+    requires shallow { depth (notebook_form notebook) ≤ max_depth }
+    ensures { spec.TakesPut (S.contents shelf.old) (S.contents shelf.new) (S.faults shelf.old) (S.faults shelf.new) path notebook result recording.old recording.new }
+{
+    if recording.recorder.put(notebook).is_err() {
+        return Err(ShelfRefusal::Memory);
+    }
+    recording.due = true;
+    save_to(alloc, recording, shelf, path)
+}
+
+// The same, unless somebody else changed the file at the path. That is refused, and a save is due, which takes their change.
+#[tactic(auto, unfolding(crate::specs::Putting::GivesTo))]
 fn give<S: Shelf>(
+    alloc: Global,
     recording: &mut Recording,
     shelf: &mut S,
     path: Text,
@@ -37,11 +59,11 @@ fn give<S: Shelf>(
     requires shallow { depth (notebook_form notebook) ≤ max_depth }
     ensures { spec.GivesTo (S.contents shelf.old) (S.contents shelf.new) (S.faults shelf.old) (S.faults shelf.new) path notebook result recording.old recording.new }
 {
-    if recording.recorder.put(notebook).is_err() {
-        return Err(ShelfRefusal::Memory);
+    if !is_unchanged(recording, shelf, path.as_str())? {
+        recording.due = true;
+        return Err(ShelfRefusal::Exists);
     }
-    recording.due = true;
-    save_to(recording, shelf, path)
+    take_put(alloc, recording, shelf, path, notebook)
 }
 
 // Puts the file of a notebook.
@@ -61,7 +83,8 @@ fn put_file<S: Shelf>(
 /// due. Where there is none, the file of the notebook is put.
 ///
 /// # Errors
-/// What the shelf refuses, and want of memory.
+/// What the shelf refuses, and want of memory. `Exists` where somebody else changed the recorder's file: a save is due then, which
+/// takes their change, and a later put takes the place of both.
 pub fn put_book<S: Shelf>(
     alloc: Global,
     tables: &mut Tables,
@@ -76,6 +99,7 @@ pub fn put_book<S: Shelf>(
     match recorder_at(tables, path.as_str()) {
         None => put_file(alloc, shelf, &path, book),
         Some(place) => give(
+            alloc,
             &mut tables.recordings[place],
             shelf,
             path,

@@ -10,6 +10,7 @@ use Rattle.nb_record.specs.State.{RecorderState}
 use Rattle.js_http.specs.declared.response.ErrorStatus.{ErrorStatus}
 use Rattle.js_http.specs.declared.response.ErrorStatus.TheVariants.{NotFound, Conflict}
 use Rattle.js_http.specs.declared.response.Response.TheVariants.{Created}
+use Rattle.js_contents.specs.declared.notebook.First.{First}
 use Rattle.js_contents.specs.Kinds.{is_notebook_name}
 use Rattle.js_contents.specs.Notebooks.{first_notebook}
 use Rattle.js_shelf.specs.Shelves.{Contents, Same}
@@ -78,10 +79,10 @@ abbrev pub again : Kernel → Result Plan ErrorStatus
 again k = again_by k k.session
 
 -- what a recorder begins with, where the path is a notebook's
-abbrev pub as_first : Notebook → Result (Option Notebook) ErrorStatus
-as_first n = Ok (Some n)
+abbrev pub as_first : First → Result (Option First) ErrorStatus
+as_first f = Ok (Some f)
 
-abbrev pub first_of : Contents → List ℕ → Result (Option Notebook) ErrorStatus
+abbrev pub first_of : Contents → List ℕ → Result (Option First) ErrorStatus
 first_of m path = if is_notebook_name path then (first_notebook m path >>= as_first) else Ok None
 
 -- the pages of a notebook that were told nothing
@@ -91,15 +92,16 @@ fresh n = record { notebook = book n []; executed = []; current = None; lasts = 
 abbrev pub recorder_of : List ℕ → Notebook → RecorderState
 recorder_of path n = record { path = path; pages = fresh n }
 
-abbrev pub recording_of : List ℕ → List ℕ → Option Notebook → Option Recording
+abbrev pub recording_of : List ℕ → List ℕ → Option First → Option Recording
 recording_of kernel path None = None
-recording_of kernel path (Some n) = Some (record { kernel = kernel; recorder = recorder_of path n; due = false })
+recording_of kernel path (Some f) =
+    Some (record { kernel = kernel; recorder = recorder_of path f.notebook; due = false; known = f.known; tried = None })
 
 abbrev pub new_session : Given → Fields → Session
 new_session given f = record { id = second_id given; path = f.path; name = f.name; kind = f.kind }
 
 -- the session of a kernel that is there
-abbrev pub joining : Rows → Kernel → Session → Option Notebook → Plan
+abbrev pub joining : Rows → Kernel → Session → Option First → Plan
 joining r k s first = record {
   change = change.Nothing;
   update = update.SetKernels (map (changed_kernel k.id s) r.kernels) (recording_of k.id s.path first);
@@ -107,7 +109,7 @@ joining r k s first = record {
 }
 
 -- the session of a kernel that is made now
-abbrev pub beginning : Kernel → Session → Option Notebook → Plan
+abbrev pub beginning : Kernel → Session → Option First → Plan
 beginning k s first = record {
   change = change.Begin k.id;
   update = update.AddKernel (record k { session = Some s }) (recording_of k.id s.path first);
@@ -149,7 +151,7 @@ open_plan m r given body = asked body >>= asked_plan m r given
 
 -- ---- what the functions find
 
-abbrev pub FindsFirst : List ℕ → Result (Option Notebook) Refusal → Contents → Contents → Type 0
+abbrev pub FindsFirst : List ℕ → Result (Option First) Refusal → Contents → Contents → Type 0
 FindsFirst path result m n = Same m n × Gives result (first_of m path)
 
 abbrev pub OpensOn : Rows → Given → Fields → Kernel → Result Plan Refusal → Contents → Contents → Type 0

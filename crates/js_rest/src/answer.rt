@@ -271,6 +271,7 @@ fn tables_plan(
         Route::Interrupt => interrupt(tables, request.method, id),
         Route::Restart => restart(alloc, tables, request.method, id),
         Route::Channels => channels(tables, request.method, id),
+        // `route_aim` asks for neither sessions nor contents.
         Route::Sessions => Err(Refusal::Status(ErrorStatus::MethodNotAllowed)),
         Route::Session => one_session(alloc, tables, request, id),
         Route::Contents => Err(Refusal::Status(ErrorStatus::MethodNotAllowed)),
@@ -362,7 +363,7 @@ fn find_aim<S: Shelf>(
 }
 
 impl<L: Running> Manager<L> {
-    /// No kernels, at the moment of the server's start, in microseconds since 1970.
+    /// No kernels. `start` is the date of the server's start, as the answers show it.
     ///
     /// # Errors
     /// Where there is no memory.

@@ -11,7 +11,7 @@ ghost use Rattle.nb_doc.specs.Writing.{notebook_form};
 
 use crate::kernels::{check_room, new_kernel};
 use crate::sessions::check_path;
-use js_contents::{is_notebook_name, notebook_for};
+use js_contents::{First, is_notebook_name, notebook_for};
 use js_http::{ErrorStatus, Response};
 use js_shelf::Shelf;
 use js_tables::{
@@ -108,11 +108,11 @@ fn again(alloc: Global, kernel: &Kernel) -> Result<Plan, Refusal>
 
 // ---- the recorder of a notebook
 
-// The notebook that the recorder of a path begins with; none where the path is no notebook's.
-fn first_of<S: Shelf>(alloc: Global, shelf: &mut S, path: &str) -> Result<Option<Notebook>, Refusal>
+// What the recorder of a path begins with; nothing where the path is no notebook's.
+fn first_of<S: Shelf>(alloc: Global, shelf: &mut S, path: &str) -> Result<Option<First>, Refusal>
     ensures exact { Tells (S.contents shelf.old) (S.contents shelf.new) (spec.FindsFirst path.now result) }
-    ensures document { IfOk result (λ first. IfSome first IsDocument) }
-    ensures shallow { IfOk result (λ first. IfSome first (λ n. depth (notebook_form n) ≤ max_depth)) }
+    ensures document { IfOk result (λ first. IfSome first (λ f. IsDocument f.notebook)) }
+    ensures shallow { IfOk result (λ first. IfSome first (λ f. depth (notebook_form f.notebook) ≤ max_depth)) }
 {
     if !is_notebook_name(path) {
         return Ok(None);
@@ -132,21 +132,23 @@ fn recording_of(
     alloc: Global,
     kernel: &str,
     path: &str,
-    first: Option<Notebook>,
+    first: Option<First>,
 ) -> Result<Option<Recording>, AllocError>
-    requires document { IfSome first IsDocument }
-    requires shallow { IfSome first (λ n. depth (notebook_form n) ≤ max_depth) }
+    requires document { IfSome first (λ f. IsDocument f.notebook) }
+    requires shallow { IfSome first (λ f. depth (notebook_form f.notebook) ≤ max_depth) }
     ensures { IfOk result (λ recording. recording ≡ spec.recording_of kernel.now path.now first) }
 {
     match first {
         None => Ok(None),
-        Some(notebook) => {
+        Some(First { notebook, known }) => {
             let kernel = Text::from_str(alloc, kernel)?;
             let path = Text::from_str(alloc, path)?;
             Ok(Some(Recording {
                 kernel,
                 recorder: recorder_of(alloc, path, notebook),
                 due: false,
+                known,
+                tried: None,
             }))
         }
     }
@@ -171,10 +173,10 @@ fn joining(
     tables: &Tables,
     kernel: &Kernel,
     session: &Session,
-    first: Option<Notebook>,
+    first: Option<First>,
 ) -> Result<Plan, AllocError>
-    requires document { IfSome first IsDocument }
-    requires shallow { IfSome first (λ n. depth (notebook_form n) ≤ max_depth) }
+    requires document { IfSome first (λ f. IsDocument f.notebook) }
+    requires shallow { IfSome first (λ f. depth (notebook_form f.notebook) ≤ max_depth) }
     ensures { IfOk result (λ plan. plan ≡ spec.joining (rows tables.now) kernel.now session.now first) }
 {
     let answer = answered(alloc, kernel, session)?;
@@ -192,10 +194,10 @@ fn beginning(
     alloc: Global,
     kernel: Kernel,
     session: Session,
-    first: Option<Notebook>,
+    first: Option<First>,
 ) -> Result<Plan, AllocError>
-    requires document { IfSome first IsDocument }
-    requires shallow { IfSome first (λ n. depth (notebook_form n) ≤ max_depth) }
+    requires document { IfSome first (λ f. IsDocument f.notebook) }
+    requires shallow { IfSome first (λ f. depth (notebook_form f.notebook) ≤ max_depth) }
     ensures { IfOk result (λ plan. plan ≡ spec.beginning kernel session first) }
 {
     let answer = answered(alloc, &kernel, &session)?;

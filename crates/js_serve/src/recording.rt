@@ -145,7 +145,7 @@ impl<L: Language> Scribe<L> {
             over,
             full,
         } = self;
-        let held = match follow(tables, shelf, date, kernel, held) {
+        let held = match follow(alloc, tables, shelf, date, kernel, held) {
             Some(rest) => rest.into_vec(),
             None => Vec::new(alloc),
         };

@@ -1,17 +1,24 @@
 -- To be believed.
--- The bodies of requests: empty or JSON. A field that is `null` counts as missing.
+-- The bodies of requests: empty or an object of JSON. A field that is `null` counts as missing.
 use Rattle.std.specs.Prelude.{ℕ, List, [], ◌∷◌, Option, Some, None, Result, Ok, Err, if◌then◌else◌, codes}
 use Rattle.std.specs.Str.{bytes_eq, is_utf8}
 use Rattle.serde_json.specs.Data.{Data}
 use Rattle.serde_json.specs.Find.{as_str}
-use Rattle.json_form.specs.Forms.{empty_object, whole_json, needed, optional, given}
+use Rattle.json_form.specs.Forms.{empty_object, object_of, whole_json, needed, optional, given}
 use Rattle.js_http.specs.declared.response.ErrorStatus.{ErrorStatus}
 use Rattle.js_http.specs.declared.response.ErrorStatus.TheVariants.{BadRequest}
 use Rattle.js_tables.specs.Plans.{◌>>=◌, or_bad}
 
 -- the JSON of a text
+abbrev pub text_json : List ℕ → Result Data ErrorStatus
+text_json text = or_bad (whole_json text)
+
+-- an object, and no other value
+abbrev pub only_object : Data → Result Data ErrorStatus
+only_object d = or_bad (needed object_of (Some d))
+
 abbrev pub text_body : List ℕ → Result Data ErrorStatus
-text_body text = or_bad (whole_json text)
+text_body text = text_json text >>= only_object
 
 -- the JSON of a body
 abbrev pub body_of : List ℕ → Result Data ErrorStatus

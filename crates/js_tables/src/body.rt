@@ -7,12 +7,12 @@ ghost use Rattle.js_tables.specs.Plans.{Gives};
 
 use crate::refusal::Refusal;
 use js_http::ErrorStatus;
-use json_form::{Json, Text, given_part, needed_text, optional_text};
+use json_form::{Json, Text, given_part, needed_object, needed_text, optional_text};
 use std::alloc::Global;
 
 #[tactic(auto, using(crate::proofs::Giving::gives_ok, crate::proofs::Giving::gives_err))]
 fn read_text(alloc: Global, text: &str) -> Result<Json, Refusal>
-    ensures exact { Gives result (spec.text_body text.now) }
+    ensures exact { Gives result (spec.text_json text.now) }
     ensures shallow { IfOk result (λ json. depth json ≤ max_depth) }
 {
     match Json::read(alloc, text) {
@@ -21,7 +21,26 @@ fn read_text(alloc: Global, text: &str) -> Result<Json, Refusal>
     }
 }
 
-/// The JSON of a body, which is `{}` where the body is empty. What is no JSON is a bad request.
+// An object, and no other value.
+fn only_object(json: Json) -> Result<Json, Refusal>
+    requires { depth json ≤ max_depth }
+    ensures exact { Gives result (spec.only_object json) }
+    ensures shallow { IfOk result (λ object. depth object ≤ max_depth) }
+{
+    match needed_object(Some(json.value())) {
+        Ok(_) => Ok(json),
+        Err(fault) => Err(Refusal::from(fault)),
+    }
+}
+
+fn read_object(alloc: Global, text: &str) -> Result<Json, Refusal>
+    ensures exact { Gives result (spec.text_body text.now) }
+    ensures shallow { IfOk result (λ json. depth json ≤ max_depth) }
+{
+    only_object(read_text(alloc, text)?)
+}
+
+/// The JSON of a body, which is `{}` where the body is empty. What is no JSON, or no object, is a bad request.
 #[tactic(auto, using(crate::proofs::Giving::is_text, crate::proofs::Giving::is_no_text, crate::proofs::Depths::object_shallow))]
 pub fn read_body(alloc: Global, bytes: &[u8]) -> Result<Json, Refusal>
     ensures exact { Gives result (spec.body_of bytes.now) }
@@ -32,7 +51,7 @@ pub fn read_body(alloc: Global, bytes: &[u8]) -> Result<Json, Refusal>
         return Ok(Json::empty(alloc));
     }
     match std::str::from_utf8(bytes) {
-        Ok(text) => read_text(alloc, text),
+        Ok(text) => read_object(alloc, text),
         Err(_) => Err(Refusal::Status(ErrorStatus::BadRequest)),
     }
 }

@@ -8,6 +8,7 @@ ghost use Rattle.js_tables.specs.Plans as plans;
 
 use crate::plan::Update;
 use crate::sessions::find_by_path;
+use js_shelf::Bytes;
 use json_form::Text;
 use nb_record::Recorder;
 use std::alloc::{AllocError, Global};
@@ -74,6 +75,10 @@ pub struct Recording {
     pub recorder: Recorder,
     /// Whether it has to be saved: a stored cell has ended, or a notebook was put, since it was saved last.
     pub due: bool,
+    /// What its file held when the recorder last read it or saved there; none where nothing stood there.
+    pub known: Option<Bytes>,
+    /// What it tried to save since then, where the device failed. The file may hold that.
+    pub tried: Option<Bytes>,
 }
 
 impl Drop for Recording {
@@ -82,6 +87,8 @@ impl Drop for Recording {
             kernel: _,
             recorder: _,
             due: _,
+            known: _,
+            tried: _,
         } = self;
     }
 }

@@ -31,6 +31,7 @@ pub(crate) fn raise_cells(
     ensures cells { IfOk result (λ cells. cells ≡ raise drafts) }
     ensures few { IfOk result (λ cells. length cells < 2 ^ 64) }
 {
+    // So that clauses know that there are fewer than 2^64.
     let _known = ids.len();
     let mut namer = Namer {
         taken: ids,
@@ -120,6 +121,7 @@ pub fn free_name(alloc: Global, cells: &[Cell]) -> Result<Text, AllocError>
     ensures { IfOk result (λ t. t ≡ name_of (least_free (ids cells.now))) }
 {
     let taken = ids_of(alloc, cells)?;
+    // So that clauses know that there are fewer than 2^64.
     let _known = taken.len();
     let (_namer, name) = next_name(alloc, Namer { taken, last: 0 })?;
     Ok(name)

@@ -9,14 +9,14 @@ const SESSION: &str = r#"POST /api/sessions {"path":"n.ipynb","type":"notebook"}
 const PUT: &str =
     r#"PUT /api/contents/n.ipynb {"type":"notebook","content":{"cells":[{"cell_type":"raw","id":"c","metadata":{},"source":"x"}],"metadata":{},"nbformat":4,"nbformat_minor":5}}"#;
 
-// A put of a recorder's notebook is one look and one put, whose refusal is the answer. The recorder has the notebook then, and its
+// A put of a recorder's notebook is two looks and one put, whose refusal is the answer. The recorder has the notebook then, and its
 // save is due until one succeeds.
 #[test]
 fn a_put_is_the_recorders(rt: HostRuntime) -> Result<(), Fail> {
     let alloc = rt.alloc();
     let mut server = start(alloc)?;
     let _ = asked(&rt, alloc, &mut server, SESSION)?;
-    server.shelf.fail_at(2);
+    server.shelf.fail_at(3);
     let refused = asked(&rt, alloc, &mut server, PUT)?;
     assert_eq!(rt; refused.as_str(), "500 Internal Server Error\n");
     let kept = server
@@ -27,7 +27,7 @@ fn a_put_is_the_recorders(rt: HostRuntime) -> Result<(), Fail> {
         .ok_or("a recorder")?;
     assert_eq!(rt; kept.recorder.notebook().cells.as_slice().len(), 1);
     assert_eq!(rt; kept.due, true);
-    server.shelf.fail_at(3);
+    server.shelf.fail_at(4);
     let put = asked(&rt, alloc, &mut server, PUT)?;
     assert_eq!(rt; put.as_str().starts_with("201 Created "), true);
     let kept = server

@@ -157,10 +157,51 @@ const BODIES_OF_NEW_KERNELS: &str = r#"> POST /api/kernels {"name":"python"}
 * interrupt 00000000-0000-4007-a222-222222222222
 "#;
 
-// A body is empty or JSON of whole numbers, and its name is oberon where there is one.
+// A body is empty or an object of JSON whose numbers are whole, and its name is oberon where there is one.
 #[test]
 fn bodies_of_new_kernels(rt: HostRuntime) -> Result<(), Fail> {
     assert_play(&rt, BODIES_OF_NEW_KERNELS)
+}
+
+const BODIES_THAT_ARE_NO_OBJECTS: &str = r#"> POST /api/kernels []
+400 Bad Request
+> POST /api/kernels [{"name":"oberon"}]
+400 Bad Request
+> POST /api/kernels "oberon"
+400 Bad Request
+> POST /api/kernels null
+400 Bad Request
+> POST /api/kernels 1
+400 Bad Request
+> POST /api/kernels true
+400 Bad Request
+> POST /api/sessions []
+400 Bad Request
+> POST /api/contents []
+400 Bad Request
+> POST /api/contents null
+400 Bad Request
+> PUT /api/contents/a "x"
+400 Bad Request
+> PATCH /api/contents/a []
+400 Bad Request
+> POST /api/sessions {"path":"a","type":"file"}
+201 Created {"id":"00000000-0000-400a-8444-444444444444","kernel":{"connections":0,"execution_state":"idle","id":"00000000-0000-400a-a222-222222222222","last_activity":"2001-09-09T01:46:40.123456Z","name":"oberon"},"name":"","path":"a","type":"file"}
+* begin 00000000-0000-400a-a222-222222222222
+> PATCH /api/sessions/00000000-0000-400a-8444-444444444444 []
+400 Bad Request
+> PATCH /api/sessions/00000000-0000-400a-8444-444444444444 null
+400 Bad Request
+-- A route that reads no body judges none.
+> POST /api/kernels/00000000-0000-400a-a222-222222222222/interrupt []
+204 No Content
+* interrupt 00000000-0000-400a-a222-222222222222
+"#;
+
+// JSON that is no object is 400 on each route that reads a body.
+#[test]
+fn bodies_that_are_no_objects(rt: HostRuntime) -> Result<(), Fail> {
+    assert_play(&rt, BODIES_THAT_ARE_NO_OBJECTS)
 }
 
 const FULL_INBOXES: &str = r#"> POST /api/sessions {"path":"a","type":"file"}

@@ -8,6 +8,7 @@ mod books;
 #[cfg(test)]
 mod contents;
 #[cfg(test)]
+mod edited;
 #[cfg(test)]
 mod failures;
 #[cfg(test)]
