@@ -4,12 +4,12 @@ use crate::call::{Call, Reply, Upgrade};
 use crate::clock::{date_now, given_now};
 use crate::concern::{Concern, concern_of, id_in, is_within};
 use crate::driving::Opened;
-use crate::ending::Endings;
 use crate::job::Job;
 use crate::kernels::{Kernels, Unopened};
 use crate::pulse::{Found, QUICK, Rhythm, Round};
 use crossbeam_channel::{Receiver, Sender, unbounded};
 use jk_language::Language;
+use js_desk::{Endings, Held};
 use js_follow::is_due;
 use js_http::{ErrorStatus, Method, Request, Response};
 use js_paced::Selector;
@@ -73,9 +73,8 @@ where
     round: Option<Round>,
     /// The kernels that are ending, and the replies that wait for their ends.
     endings: Endings<Sender<Reply<L>>>,
-    /// Requests that wait for kernels that are ending, in their order, and how many of the first are to be looked at again.
-    held: Vec<Held<L>>,
-    again: usize,
+    /// Requests that wait for kernels that are ending.
+    held: Held<Asked<L>>,
     /// How far the server has stopped, once it was told to.
     stopping: Option<Stopping>,
     /// What the stream of the next channel rests by.
@@ -84,7 +83,7 @@ where
 
 /// A request that waits, and where its reply goes.
 #[derive(Drop)]
-struct Held<L: Language> {
+struct Asked<L: Language> {
     request: Request,
     reply: Sender<Reply<L>>,
 }
@@ -128,8 +127,7 @@ where
             rhythm: Rhythm::new(),
             round: None,
             endings: Endings::new(alloc),
-            held: Vec::new(alloc),
-            again: 0,
+            held: Held::new(alloc),
             stopping: None,
             selector: None,
         })
@@ -159,8 +157,8 @@ where
         if self.stopping.is_some() {
             return self.stop_on();
         }
-        if let Some(held) = self.next_held() {
-            return self.reply_to(held.request, held.reply);
+        if let Some(asked) = self.held.next() {
+            return self.reply_to(asked.request, asked.reply);
         }
         if let Some(round) = self.round.take() {
             return self.go_on(round);
@@ -377,7 +375,8 @@ where
             if self.manager.running.is_read(kernel.as_str()) {
                 self.end_at(place, kernel);
             } else if self.endings.is_late(&self.rt, place) {
-                self.tell_waiters(place);
+                let late = self.endings.let_go(self.alloc, place);
+                self.tell_waiters(late);
             }
         }
     }
@@ -393,21 +392,20 @@ where
         if !self.drop_row(kernel) {
             return;
         }
-        self.tell_waiters(place);
-        self.endings.end(place);
-        self.again = self.held.len();
+        let waiters = self.endings.end(place);
+        self.tell_waiters(waiters);
+        self.held.look_again();
         self.manager.running.follow();
         self.manager.running.drop_left();
     }
 
-    /// Answers those who wait for the end of the kernel in a row.
-    fn tell_waiters(&mut self, place: usize) {
-        let rt = self.rt;
-        for _ in rt.forever() {
-            match self.endings.take(place) {
-                Some(reply) => self.send(reply, Reply::Response(Response::NoContent)),
-                None => return,
-            }
+    /// Answers those who waited for a kernel's end.
+    fn tell_waiters(&self, waiters: Option<Vec<Sender<Reply<L>>>>) {
+        let Some(waiters) = waiters else {
+            return;
+        };
+        for reply in waiters {
+            self.send(reply, Reply::Response(Response::NoContent));
         }
     }
 
@@ -486,20 +484,9 @@ where
 
     /// Lets a request wait for a kernel that is ending.
     fn hold(&mut self, request: Request, reply: Sender<Reply<L>>) {
-        if self.held.reserve(1).is_err() {
-            self.send(reply, refused(ErrorStatus::InternalServerError));
-            return;
+        if let Some(asked) = self.held.hold(Asked { request, reply }) {
+            self.send(asked.reply, refused(ErrorStatus::InternalServerError));
         }
-        self.held.push_reserved(Held { request, reply });
-    }
-
-    /// The next of the requests that have waited, where one is to be looked at again.
-    fn next_held(&mut self) -> Option<Held<L>> {
-        if self.again == 0 || self.held.is_empty() {
-            return None;
-        }
-        self.again = self.again.saturating_sub(1);
-        Some(self.held.remove(0))
     }
 
     // ---- requests

@@ -4,12 +4,12 @@ ghost use Rattle.std.specs.Prelude.{◌≡◌, ◌&&◌, ◌||◌};
 use super::{Desk, refused};
 use crate::call::Reply;
 use crate::clock::date_now;
-use crate::ending::is_over;
 use crate::job::Job;
 use crate::kernels::Kernels;
 use crate::pulse::QUICK;
 use crossbeam_channel::Sender;
 use jk_language::Language;
+use js_desk::is_over;
 use js_http::{Bytes, ErrorStatus, Request, Response};
 use js_rest::Running;
 use js_shelf::Shelf;
@@ -78,10 +78,8 @@ where
             answered: false,
             done: false,
         });
-        for _ in 0..self.held.len() {
-            if let Some(held) = self.held.pop() {
-                self.send(held.reply, refused(ErrorStatus::ServiceUnavailable));
-            }
+        for asked in self.held.take_all(self.alloc) {
+            self.send(asked.reply, refused(ErrorStatus::ServiceUnavailable));
         }
     }
 
