@@ -7,6 +7,7 @@ ghost use Rattle.jp_msg.specs.Reading.{message_at};
 use crate::deserialize::deserialize_message;
 use crate::protocol::Protocol;
 use jk_log::What;
+use jk_queues::Spare;
 use jp_msg::{Bad, Channel, Message as Said, read_message};
 use json_form::Shared;
 use std::alloc::{AllocError, Global};
@@ -105,7 +106,7 @@ fn heard_in_binary(alloc: Global, bytes: &[u8]) -> Heard
 }
 
 /// What the answer of a socket's read comes to.
-pub(crate) fn heard_of(alloc: Global, protocol: Protocol, read: &Result<Message, Error>) -> Heard
+fn heard_of(alloc: Global, protocol: Protocol, read: &Result<Message, Error>) -> Heard
     ensures { Hears protocol read.now result }
 {
     match (protocol, read) {
@@ -120,4 +121,20 @@ pub(crate) fn heard_of(alloc: Global, protocol: Protocol, read: &Result<Message,
             }
         }
     }
+}
+
+/// What the answer of a socket's read comes to. Where memory is refused to it, it lets the spare block go and tries once more.
+pub(crate) fn heard_with(
+    alloc: Global,
+    protocol: Protocol,
+    read: &Result<Message, Error>,
+    spare: &mut Spare,
+) -> Heard
+    ensures { Hears protocol read.now result }
+{
+    let heard = heard_of(alloc, protocol, read);
+    if read.is_ok() && heard.is_fault() && spare.let_go() {
+        return heard_of(alloc, protocol, read);
+    }
+    heard
 }

@@ -4,7 +4,7 @@ ghost use Rattle.websocket.specs.declared.protocol.config.Role.TheVariants.{Serv
 ghost use Rattle.websocket.specs.Connection.{close_step};
 ghost use Rattle.js_ws.specs.Closing.{gone};
 
-use crate::hearing::{Heard, heard_of};
+use crate::hearing::{Heard, heard_with};
 use crate::names::Names;
 use crate::payload::{Naming, Payload, write_entry};
 use jk_log::Entry;
@@ -78,12 +78,7 @@ impl<S: Read + Write + Drop> Wire<S> {
         ensures same { (self.new.names ≡ self.old.names) × (self.new.sent ≡ self.old.sent) }
     {
         let read = self.socket.read();
-        let first = heard_of(alloc, self.names.protocol, &read);
-        let heard = if read.is_ok() && first.is_fault() && self.spare.let_go() {
-            heard_of(alloc, self.names.protocol, &read)
-        } else {
-            first
-        };
+        let heard = heard_with(alloc, self.names.protocol, &read, &mut self.spare);
         self.failed = heard.is_fault();
         heard
     }
@@ -229,12 +224,17 @@ impl<S: Read + Write + Drop> Wire<S> {
             return 0;
         }
         let count = self.send_all(alloc, date, held.as_slice());
-        if count == held.len() {
-            self.spare.keep(alloc);
-        } else {
-            self.spare.let_go();
-        }
+        mind(&mut self.spare, alloc, count == held.len());
         drop(held.drain(..count));
         count
+    }
+}
+
+/// Takes a spare block again where all was sent, and else lets it go.
+fn mind(spare: &mut Spare, alloc: Global, all: bool) {
+    if all {
+        spare.keep(alloc);
+    } else {
+        spare.let_go();
     }
 }
