@@ -113,8 +113,8 @@ fn go_round<L: Language, R: Wait>(rt: &R, turns: u64, driver: Driver<L>) -> (Dri
     let (taker, arrival) = take_arrivals(rt, &mut kernel, taker, arrival, &mut spare);
     let (job, gave) = give_jobs(rt, &mut kernel, &mut pool, job);
     hand_results(rt, &mut kernel, &mut pool);
-    let kept = spare.keep(alloc);
-    let room = kernel.ended() || (kept && publisher.unread() <= UNREAD);
+    spare.keep(alloc);
+    let room = kernel.ended() || publisher.unread() <= UNREAD;
     let before = kernel.pending_marks();
     let work = work_slice(&mut kernel, turns, room);
     let marks = kernel.pending_marks().saturating_sub(before);
