@@ -18,11 +18,12 @@ impl Spare {
         Spare { block: None }
     }
 
-    /// Takes a block, where none is there and there is memory.
-    pub fn keep(&mut self, alloc: Global) {
+    /// Takes a block, where none is there and there is memory. It says whether one is there then.
+    pub fn keep(&mut self, alloc: Global) -> bool {
         if self.block.is_none() {
             self.block = Vec::with_capacity(alloc, ROOM).ok();
         }
+        self.block.is_some()
     }
 
     /// Lets the block go. It says whether one was there.
