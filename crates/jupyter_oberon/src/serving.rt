@@ -1,8 +1,8 @@
 //! The program as a server.
 
 use js_files::FileShelf;
-use js_page::page;
 use js_paced::Selector;
+use js_page::page;
 use js_serve::{Desk, Job, Limits, Parser, drive_kernel, parse, work};
 use ob_language::Oberon;
 use std::alloc::Global;
