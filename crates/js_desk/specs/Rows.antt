@@ -1,3 +1,4 @@
+-- To be believed.
 -- A kernel that is ending, as clauses see it: its identifier, and who waits for its end.
 use Rattle.std.specs.Prelude.{ℕ, List}
 

@@ -110,13 +110,16 @@ impl<S: Read + Write + Drop, L: Language> Channel<S, L> {
         ensures ends { (result.0.outbox ≡ self.outbox) × (result.0.feed ≡ self.feed) }
         ensures failed { self.wire.failed ≡ true → result.1 ≡ false }
     {
+        if self.wire.has_failed() {
+            return (self, false);
+        }
         let Channel {
             alloc,
             mut wire,
             outbox,
             feed,
         } = self;
-        let closed = !wire.has_failed() && wire.close();
+        let closed = wire.close();
         let channel = Channel {
             alloc,
             wire,
