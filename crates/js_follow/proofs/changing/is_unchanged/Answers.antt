@@ -14,8 +14,8 @@ returns-in-Ok-File g c =
       c.kind.ensures.answer,
       c.kind.ensures.cause,
       subst
-      (λ (r : Result ItemKind ShelfRefusal). ComparesKind (g.S.Shelf.contents c.kind.new.self) (g.S.Shelf.contents c.compare_count.new.shelf) (g.S.Shelf.faults c.kind.new.self) (g.S.Shelf.faults c.compare_count.new.shelf) r c.args.path.now c.compare_count.result c.args.recording.now)
-      (sym found) c.compare_count.ensures,
+          (λ (r : Result ItemKind ShelfRefusal). ComparesKind (g.S.Shelf.contents c.kind.new.self) (g.S.Shelf.contents c.compare_count.new.shelf) (g.S.Shelf.faults c.kind.new.self) (g.S.Shelf.faults c.compare_count.new.shelf) r c.args.path.now c.compare_count.result c.args.recording.now)
+          (sym found) c.compare_count.ensures,
     )
 
 pub returns-in-Ok-Folder : goal.returns-in-Ok-Folder
@@ -27,8 +27,8 @@ returns-in-Ok-Folder g c =
       c.kind.ensures.answer,
       c.kind.ensures.cause,
       subst
-      (λ (r : Result ItemKind ShelfRefusal). ComparesKind (g.S.Shelf.contents c.kind.new.self) (g.S.Shelf.contents c.kind.new.self) (g.S.Shelf.faults c.kind.new.self) (g.S.Shelf.faults c.kind.new.self) r c.args.path.now (Ok true) c.args.recording.now)
-      (sym found) (refl, refl, refl),
+          (λ (r : Result ItemKind ShelfRefusal). ComparesKind (g.S.Shelf.contents c.kind.new.self) (g.S.Shelf.contents c.kind.new.self) (g.S.Shelf.faults c.kind.new.self) (g.S.Shelf.faults c.kind.new.self) r c.args.path.now (Ok true) c.args.recording.now)
+          (sym found) (refl, refl, refl),
     )
 
 pub returns-in-Err : goal.returns-in-Err
@@ -40,6 +40,6 @@ returns-in-Err g c =
       c.kind.ensures.answer,
       c.kind.ensures.cause,
       subst
-      (λ (r : Result ItemKind ShelfRefusal). ComparesKind (g.S.Shelf.contents c.kind.new.self) (g.S.Shelf.contents c.kind.new.self) (g.S.Shelf.faults c.kind.new.self) (g.S.Shelf.faults c.kind.new.self) r c.args.path.now c.or_free.result c.args.recording.now)
-      (sym found) (c.or_free.ensures, refl, refl),
+          (λ (r : Result ItemKind ShelfRefusal). ComparesKind (g.S.Shelf.contents c.kind.new.self) (g.S.Shelf.contents c.kind.new.self) (g.S.Shelf.faults c.kind.new.self) (g.S.Shelf.faults c.kind.new.self) r c.args.path.now c.or_free.result c.args.recording.now)
+          (sym found) (c.or_free.ensures, refl, refl),
     )

@@ -14,8 +14,8 @@ returns-in-Ok-File g c =
       c.kind.ensures.answer,
       c.kind.ensures.cause,
       subst
-      (λ (r : Result ItemKind ShelfRefusal). MeetsKind (g.S.Shelf.contents c.kind.new.self) (g.S.Shelf.contents c.meet_count.new.shelf) (g.S.Shelf.faults c.kind.new.self) (g.S.Shelf.faults c.meet_count.new.shelf) r c.args.path.now c.args.date.now c.meet_count.result c.args.recording.now c.meet_count.new.recording)
-      (sym found) c.meet_count.ensures,
+          (λ (r : Result ItemKind ShelfRefusal). MeetsKind (g.S.Shelf.contents c.kind.new.self) (g.S.Shelf.contents c.meet_count.new.shelf) (g.S.Shelf.faults c.kind.new.self) (g.S.Shelf.faults c.meet_count.new.shelf) r c.args.path.now c.args.date.now c.meet_count.result c.args.recording.now c.meet_count.new.recording)
+          (sym found) c.meet_count.ensures,
     )
 
 pub returns-in-Ok-Folder : goal.returns-in-Ok-Folder
@@ -27,8 +27,8 @@ returns-in-Ok-Folder g c =
       c.kind.ensures.answer,
       c.kind.ensures.cause,
       subst
-      (λ (r : Result ItemKind ShelfRefusal). MeetsKind (g.S.Shelf.contents c.kind.new.self) (g.S.Shelf.contents c.kind.new.self) (g.S.Shelf.faults c.kind.new.self) (g.S.Shelf.faults c.kind.new.self) r c.args.path.now c.args.date.now (Ok tt) c.args.recording.now c.args.recording.now)
-      (sym found) (refl, refl, refl, refl),
+          (λ (r : Result ItemKind ShelfRefusal). MeetsKind (g.S.Shelf.contents c.kind.new.self) (g.S.Shelf.contents c.kind.new.self) (g.S.Shelf.faults c.kind.new.self) (g.S.Shelf.faults c.kind.new.self) r c.args.path.now c.args.date.now (Ok tt) c.args.recording.now c.args.recording.now)
+          (sym found) (refl, refl, refl, refl),
     )
 
 pub returns-in-Err : goal.returns-in-Err
@@ -40,6 +40,6 @@ returns-in-Err g c =
       c.kind.ensures.answer,
       c.kind.ensures.cause,
       subst
-      (λ (r : Result ItemKind ShelfRefusal). MeetsKind (g.S.Shelf.contents c.kind.new.self) (g.S.Shelf.contents c.kind.new.self) (g.S.Shelf.faults c.kind.new.self) (g.S.Shelf.faults c.kind.new.self) r c.args.path.now c.args.date.now c.unless_missing.result c.args.recording.now c.args.recording.now)
-      (sym found) (c.unless_missing.ensures, refl, refl, refl),
+          (λ (r : Result ItemKind ShelfRefusal). MeetsKind (g.S.Shelf.contents c.kind.new.self) (g.S.Shelf.contents c.kind.new.self) (g.S.Shelf.faults c.kind.new.self) (g.S.Shelf.faults c.kind.new.self) r c.args.path.now c.args.date.now c.unless_missing.result c.args.recording.now c.args.recording.now)
+          (sym found) (c.unless_missing.ensures, refl, refl, refl),
     )

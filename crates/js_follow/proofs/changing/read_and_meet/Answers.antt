@@ -14,8 +14,8 @@ returns-in-Ok-File g c =
       c.get.ensures.answer,
       c.get.ensures.cause,
       subst
-      (λ (r : Result Item ShelfRefusal). Meets (g.S.Shelf.contents c.get.new.self) (g.S.Shelf.contents c.meet_file.new.shelf) (g.S.Shelf.faults c.get.new.self) (g.S.Shelf.faults c.meet_file.new.shelf) r c.args.path.now c.args.date.now c.meet_file.result c.args.recording.now c.meet_file.new.recording)
-      (sym found) c.meet_file.ensures,
+          (λ (r : Result Item ShelfRefusal). Meets (g.S.Shelf.contents c.get.new.self) (g.S.Shelf.contents c.meet_file.new.shelf) (g.S.Shelf.faults c.get.new.self) (g.S.Shelf.faults c.meet_file.new.shelf) r c.args.path.now c.args.date.now c.meet_file.result c.args.recording.now c.meet_file.new.recording)
+          (sym found) c.meet_file.ensures,
     )
 
 pub returns-in-Ok-Folder : goal.returns-in-Ok-Folder
@@ -27,8 +27,8 @@ returns-in-Ok-Folder g c =
       c.get.ensures.answer,
       c.get.ensures.cause,
       subst
-      (λ (r : Result Item ShelfRefusal). Meets (g.S.Shelf.contents c.get.new.self) (g.S.Shelf.contents c.get.new.self) (g.S.Shelf.faults c.get.new.self) (g.S.Shelf.faults c.get.new.self) r c.args.path.now c.args.date.now (Ok tt) c.args.recording.now c.args.recording.now)
-      (sym found) (refl, refl, refl, refl),
+          (λ (r : Result Item ShelfRefusal). Meets (g.S.Shelf.contents c.get.new.self) (g.S.Shelf.contents c.get.new.self) (g.S.Shelf.faults c.get.new.self) (g.S.Shelf.faults c.get.new.self) r c.args.path.now c.args.date.now (Ok tt) c.args.recording.now c.args.recording.now)
+          (sym found) (refl, refl, refl, refl),
     )
 
 pub returns-in-Err : goal.returns-in-Err
@@ -40,6 +40,6 @@ returns-in-Err g c =
       c.get.ensures.answer,
       c.get.ensures.cause,
       subst
-      (λ (r : Result Item ShelfRefusal). Meets (g.S.Shelf.contents c.get.new.self) (g.S.Shelf.contents c.get.new.self) (g.S.Shelf.faults c.get.new.self) (g.S.Shelf.faults c.get.new.self) r c.args.path.now c.args.date.now c.unless_missing.result c.args.recording.now c.args.recording.now)
-      (sym found) (c.unless_missing.ensures, refl, refl, refl),
+          (λ (r : Result Item ShelfRefusal). Meets (g.S.Shelf.contents c.get.new.self) (g.S.Shelf.contents c.get.new.self) (g.S.Shelf.faults c.get.new.self) (g.S.Shelf.faults c.get.new.self) r c.args.path.now c.args.date.now c.unless_missing.result c.args.recording.now c.args.recording.now)
+          (sym found) (c.unless_missing.ensures, refl, refl, refl),
     )
