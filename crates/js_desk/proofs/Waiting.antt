@@ -31,7 +31,7 @@ module _ {W : Type 0} where
   over us vs ws zs h =
       IsPermutation-trans (us ++ vs) (us ++ (ws ++ zs)) (ws ++ (us ++ zs)) (IsPermutation-append_right us vs (ws ++ zs) h)
       (subst (λ l. IsPermutation l (ws ++ (us ++ zs))) (append_assoc us ws zs)
-          (subst (λ l. IsPermutation ((us ++ ws) ++ zs) l) (append_assoc ws us zs) (IsPermutation-append_left zs (us ++ ws) (ws ++ us) (IsPermutation-append_comm us ws))))
+      (subst (λ l. IsPermutation ((us ++ ws) ++ zs) l) (append_assoc ws us zs) (IsPermutation-append_left zs (us ++ ws) (ws ++ us) (IsPermutation-append_comm us ws))))
 
   -- those of one row first
   apart : (rows : List (Row W)) (place : ℕ) (e : Row W) → place < length rows → e ≡ slice_index_or rows place e
@@ -63,8 +63,8 @@ module _ {W : Type 0} where
       (subst (λ l. IsPermutation (l ++ rest) (w ∷ waiting old)) (sym more)
       (subst (λ l. IsPermutation l (w ∷ waiting old)) (sym (append_assoc e.waiters (w ∷ []) rest))
       (IsPermutation-trans (e.waiters ++ w ∷ rest) (w ∷ (e.waiters ++ rest)) (w ∷ waiting old)
-          (IsPermutation-middle e.waiters w rest)
-          (IsPermutation-sym (w ∷ waiting old) (w ∷ (e.waiters ++ rest)) (IsPermutation-cons w (waiting old) (e.waiters ++ rest) (apart old place e low is)))))))
+      (IsPermutation-middle e.waiters w rest)
+      (IsPermutation-sym (w ∷ waiting old) (w ∷ (e.waiters ++ rest)) (IsPermutation-cons w (waiting old) (e.waiters ++ rest) (apart old place e low is)))))))
 
   let_go_waiting : (place : ℕ) (ws : List W) (old new : List (Row W)) → LetsGo place ws old new → IsPermutation (ws ++ waiting new) (waiting old)
   let_go_waiting place ws old new (e, f, low, is, (these, (same, none)), now) =
@@ -87,16 +87,16 @@ module _ {W : Type 0} where
   give ws gone late before joined_then mid out rest =
       subst (λ l. IsPermutation l (before ++ joined_then)) (sym (append_assoc ws gone late))
       (IsPermutation-trans (ws ++ (gone ++ late)) (ws ++ (mid ++ joined_then)) (before ++ joined_then)
-          (IsPermutation-append_right ws (gone ++ late) (mid ++ joined_then) rest)
-          (subst (λ l. IsPermutation l (before ++ joined_then)) (append_assoc ws mid joined_then) (IsPermutation-append_left joined_then (ws ++ mid) before out)))
+      (IsPermutation-append_right ws (gone ++ late) (mid ++ joined_then) rest)
+      (subst (λ l. IsPermutation l (before ++ joined_then)) (append_assoc ws mid joined_then) (IsPermutation-append_left joined_then (ws ++ mid) before out)))
 
   take_in : (w : W) (all before joined_then mid : List W) → IsPermutation mid (w ∷ before) → IsPermutation all (mid ++ joined_then)
       → IsPermutation all (before ++ w ∷ joined_then)
   take_in w all before joined_then mid more rest =
       IsPermutation-trans all (mid ++ joined_then) (before ++ w ∷ joined_then) rest
       (IsPermutation-trans (mid ++ joined_then) (w ∷ (before ++ joined_then)) (before ++ w ∷ joined_then)
-          (IsPermutation-append_left joined_then mid (w ∷ before) more)
-          (IsPermutation-sym (before ++ w ∷ joined_then) (w ∷ (before ++ joined_then)) (IsPermutation-middle before w joined_then)))
+      (IsPermutation-append_left joined_then mid (w ∷ before) more)
+      (IsPermutation-sym (before ++ w ∷ joined_then) (w ∷ (before ++ joined_then)) (IsPermutation-middle before w joined_then)))
 
   pub once : (old : List (Row W)) (acts : List (Act W)) (new : List (Row W)) → Run old acts new
       → IsPermutation (given_back acts ++ waiting new) (waiting old ++ joined acts)

@@ -17,5 +17,5 @@ returns c =
     (Then (through (spec.import_rule c.args.modules.now) (opening m.name.name) m.imports) (λ s. spec.declarations_rule c.args.modules.now spec.max_nesting s m.declarations))
     c.declare_all.result other
     (judged_then (through (spec.import_rule c.args.modules.now) (opening m.name.name) m.imports) (λ s. spec.declarations_rule c.args.modules.now spec.max_nesting s m.declarations)
-        c.in_ok-scope.scope c.declare_all.result (search rules)
-        (subst (λ (d : Declarations). Judges (spec.declarations_rule c.args.modules.now spec.max_nesting c.in_ok-scope.scope d) c.declare_all.result) c.get.ensures c.declare_all.ensures))
+    c.in_ok-scope.scope c.declare_all.result (search rules)
+    (subst (λ (d : Declarations). Judges (spec.declarations_rule c.args.modules.now spec.max_nesting c.in_ok-scope.scope d) c.declare_all.result) c.get.ensures c.declare_all.ensures))
