@@ -296,7 +296,8 @@ fn a_put_over_half_a_notebook(rt: HostRuntime) -> Result<(), Fail> {
     let alloc = rt.alloc();
     let mut server = opened(&rt, FRESH)?;
     let known = book(alloc, FRESH)?;
-    let mut half = String::from_str(alloc, &known.as_str()[1..])?;
+    let rest_of = known.as_str().strip_prefix("{").unwrap_or("");
+    let mut half = String::from_str(alloc, rest_of)?;
     half.push_str(" ")?;
     write(&rt, alloc, &mut server, half.as_str())?;
     let refused = put(&rt, alloc, &mut server, BARE)?;
