@@ -1,6 +1,5 @@
 //! The server over the small language.
 
-use js_paced::Selector;
 use js_serve::{Desk, Job, Limits, Parser, drive_kernel, parse, work};
 use js_shelf::MemoryShelf;
 use std::alloc::Global;
@@ -72,39 +71,15 @@ where
     thread::spawn(&rt, move || do_job(rt, alloc, limits, parses, job)).is_ok()
 }
 
-/// How many channels of a server have something that their streams rest by. Those that come later look for something new by themselves.
-const SELECTORS: usize = 4;
-
-/// What the streams of the first channels rest by.
-fn selectors<R: Net>(rt: &R, alloc: Global) -> Vec<Selector> {
-    let mut made = Vec::new(alloc);
-    for _ in 0..SELECTORS {
-        if let Ok(selector) = Selector::new(rt) {
-            let _ = made.push(selector);
-        }
-    }
-    made
-}
-
 /// Serves the connections of a listener, with no files at first, until the server has stopped. The answer are the files that
 /// it leaves. There are none where it could not begin.
-fn serve<R>(
-    rt: R,
-    alloc: Global,
-    manner: Manner,
-    listener: TcpListener,
-    selectors: Vec<Selector>,
-) -> Option<MemoryShelf>
+fn serve<R>(rt: R, alloc: Global, manner: Manner, listener: TcpListener) -> Option<MemoryShelf>
 where
     R: Threads + Wait + Clock + RandomSource + Copy + Drop + Send + 'static,
 {
     let shelf = MemoryShelf::new(alloc).ok()?;
     let mut desk = Desk::<TestLanguage, R, MemoryShelf>::new(rt, alloc, listener, shelf)?;
-    let mut selectors = selectors;
     for _ in rt.forever() {
-        if desk.lacks_selector() {
-            desk.give_selector(selectors.pop());
-        }
         if let Some(job) = desk.next() {
             let _ = start(rt, alloc, manner, job);
         }
@@ -131,8 +106,7 @@ where
 {
     let listener = TcpListener::bind(&rt, "127.0.0.1:0")?;
     let address = listener.local_addr()?;
-    let selectors = selectors(&rt, alloc);
-    match thread::spawn(&rt, move || serve(rt, alloc, manner, listener, selectors)) {
+    match thread::spawn(&rt, move || serve(rt, alloc, manner, listener)) {
         Ok(thread) => Ok(Server { address, thread }),
         Err(_) => Err(ErrorKind::OutOfMemory.into()),
     }
