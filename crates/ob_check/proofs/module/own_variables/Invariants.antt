@@ -1,6 +1,0 @@
-use Rattle.std.proofs.Common.{◌≡◌, ◌++◌, drop}
-use Rattle.ob_check.specs.Modules as spec
-use Rattle.ob_check.proofs.module.own_variables.Given as goal
-
-abbrev pub invariant-loop-d : goal.invariant-loop-d
-invariant-loop-d l = l.so_far ++ spec.own_variables (drop l.d-index l.declared) ≡ l.fn.first ++ spec.own_variables l.declared

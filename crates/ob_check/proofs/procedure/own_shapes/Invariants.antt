@@ -1,6 +1,0 @@
-use Rattle.std.proofs.Common.{◌≡◌, ◌++◌, drop}
-use Rattle.ob_check.specs.Procedures as spec
-use Rattle.ob_check.proofs.procedure.own_shapes.Given as goal
-
-abbrev pub invariant-loop-d : goal.invariant-loop-d
-invariant-loop-d l = l.so_far ++ spec.own_shapes l.parameters (drop l.d-index l.declared) ≡ spec.own_shapes l.parameters l.declared

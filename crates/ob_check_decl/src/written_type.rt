@@ -1,0 +1,536 @@
+//! Types as they are written.
+
+ghost use Rattle.std.specs.Prelude.{◌≡◌, ◌<◌, ◌++◌, [], length, map, reverse, option_copied, IfOk};
+ghost use Rattle.ob_check_scope.specs.Rule.{Judges, through};
+ghost use Rattle.ob_check_scope.specs.Scope.{in_heading};
+ghost use Rattle.ob_check_decl.specs.WrittenTypes as spec;
+ghost use Rattle.ob_types.specs.declared.structure.ObType.{out-ObType};
+ghost use Rattle.ob_types.specs.Types.{chain};
+
+use ob_base::{Items, Shared, SharedItems, Text};
+use ob_check_const::constant::constant;
+use ob_check_scope::block::{Block, Entry};
+use ob_check_scope::imports::Imports;
+use ob_check_scope::names::Names;
+use ob_check_scope::predeclared::{
+    Predeclared, absent, input_named, is_input, is_output, output_named,
+};
+use ob_check_scope::rejected::{Rejected, broken, open};
+use ob_check_scope::rule::RuleCode;
+use ob_check_scope::scope::Scope;
+use ob_check_scope::site::Site;
+use ob_scan::Span;
+use ob_tree::tree::{Expr, Ident, IdentDef, Qualident, TypeExpr, TypedNames};
+use ob_types::{
+    Constant, Field, MAX_CELLS, MAX_LEVELS, ObType, Object, RecordName, RecordType, base_of,
+    is_admitted, levels, zero_size,
+};
+use std::alloc::{AllocError, Global};
+
+/// A type that was written, and how many words RECORD stand up to its end in its declaration.
+#[derive(Drop)]
+pub struct Written {
+    pub of: ObType,
+    pub records: u32,
+}
+
+/// The fields of a record so far: their names, how many cells they take, and how many words RECORD stand up to here.
+#[derive(Drop)]
+pub struct Fields {
+    pub names: Names,
+    pub fields: Items<Field>,
+    pub cells: u32,
+    pub records: u32,
+}
+
+/// The type that a name is which nothing declares.
+#[tactic(auto, unfolding(crate::specs::WrittenTypes::predeclared_type))]
+fn predeclared_type(predeclared: Predeclared, span: Span) -> Result<ObType, Rejected>
+    ensures { Judges (spec.predeclared_type predeclared) result }
+{
+    match predeclared {
+        Predeclared::Basic(basic) => Ok(ObType::Basic(basic)),
+        _ => Err(Rejected::Rule(broken(absent(predeclared), span))),
+    }
+}
+
+/// The type that a name alone stands for.
+#[tactic(auto, unfolding(crate::specs::WrittenTypes::own_type))]
+fn own_type(entry: Option<&Entry>, predeclared: Predeclared, span: Span) -> Result<ObType, Rejected>
+    ensures { Judges (spec.own_type (option_copied entry.entry) predeclared) result }
+{
+    match entry {
+        Some(Entry::TypeName(of)) => Ok(of.another()?),
+        Some(_) => Err(Rejected::Rule(broken(RuleCode::Types, span))),
+        None => predeclared_type(predeclared, span),
+    }
+}
+
+fn object_type(object: &Object, span: Span) -> Result<ObType, Rejected>
+    ensures { Judges (spec.object_type object.now) result }
+{
+    match object {
+        Object::TypeName(of) => Ok(of.another()?),
+        _ => Err(Rejected::Rule(broken(RuleCode::Types, span))),
+    }
+}
+
+/// What is broken where a name of In or Out has to stand for a type.
+fn no_type(exported: bool) -> RuleCode
+    ensures { result ≡ spec.no_type exported }
+{
+    if exported {
+        RuleCode::Types
+    } else {
+        RuleCode::NotExported
+    }
+}
+
+/// The type that a name of another module stands for.
+#[tactic(auto, unfolding(crate::specs::WrittenTypes::other_type))]
+fn other_type(
+    modules: &Imports,
+    entry: Option<&Entry>,
+    predeclared: Predeclared,
+    first: Span,
+    name: &Ident,
+) -> Result<ObType, Rejected>
+    ensures { Judges (spec.other_type modules.now (option_copied entry.entry) predeclared name.now.name) result }
+{
+    match entry {
+        Some(Entry::Module(_, place)) => match modules.exported_at(*place, &name.name) {
+            Some(object) => object_type(object, name.span),
+            None => Err(Rejected::Rule(broken(RuleCode::NotExported, name.span))),
+        },
+        Some(Entry::In) => {
+            let code = no_type(is_input(input_named(&name.name)));
+            Err(Rejected::Rule(broken(code, name.span)))
+        }
+        Some(Entry::Out) => {
+            let code = no_type(is_output(output_named(&name.name)));
+            Err(Rejected::Rule(broken(code, name.span)))
+        }
+        Some(_) => Err(Rejected::Rule(broken(RuleCode::Types, first))),
+        None => Err(Rejected::Rule(broken(absent(predeclared), first))),
+    }
+}
+
+/// The type that a name stands for, by what its first part stands for.
+#[tactic(auto, unfolding(crate::specs::WrittenTypes::qualified))]
+fn qualified(
+    modules: &Imports,
+    entry: Option<&Entry>,
+    predeclared: Predeclared,
+    name: &Qualident,
+) -> Result<ObType, Rejected>
+    ensures { Judges (spec.qualified modules.now (option_copied entry.entry) predeclared name.now.second) result }
+{
+    let first = name.first.span;
+    match &name.second {
+        None => own_type(entry, predeclared, first),
+        Some(second) => other_type(modules, entry, predeclared, first, second),
+    }
+}
+
+/// The type that a name stands for. 10 and 21 where nothing declares it, 12 where it is no type's, 18 where its module doesn't
+/// export it.
+#[tactic(auto, unfolding(crate::specs::WrittenTypes::type_named))]
+fn type_named(modules: &Imports, scope: &Scope, name: &Qualident) -> Result<ObType, Rejected>
+    ensures { Judges (spec.type_named modules.now scope.now name.now) result }
+{
+    let first = &name.first.name;
+    qualified(modules, scope.seen(first), scope.outer(first), name)
+}
+
+/// The type that a name stands for in a heading, after these parameters. The codes are those of any name of a type.
+#[tactic(auto, unfolding(crate::specs::WrittenTypes::type_named))]
+pub(crate) fn type_in_heading(
+    modules: &Imports,
+    scope: &Scope,
+    parameters: &Block,
+    name: &Qualident,
+) -> Result<ObType, Rejected>
+    ensures { Judges (spec.type_named modules.now (in_heading scope.now parameters.now) name.now) result }
+{
+    let first = &name.first.name;
+    qualified(
+        modules,
+        scope.seen_in_heading(parameters, first),
+        scope.outer_in_heading(parameters, first),
+        name,
+    )
+}
+
+/// The length that a constant is.
+#[tactic(auto, unfolding(crate::specs::WrittenTypes::length_of))]
+fn length_of(constant: &Constant, span: Span) -> Result<u32, Rejected>
+    ensures { Judges (spec.length_of constant.now) result }
+{
+    match constant {
+        Constant::Integer(number) => {
+            let number = *number;
+            if number < 1 {
+                return Err(Rejected::Rule(broken(RuleCode::Size, span)));
+            }
+            if number > MAX_CELLS as i32 {
+                return Err(Rejected::Rule(broken(RuleCode::Size, span)));
+            }
+            Ok(number as u32)
+        }
+        _ => Err(Rejected::Rule(broken(RuleCode::Types, span))),
+    }
+}
+
+#[tactic(auto, unfolding(crate::specs::WrittenTypes::inner_constant))]
+fn inner_constant(site: Site<'_>, e: &Expr) -> Result<Constant, Rejected>
+    ensures { Judges (spec.inner_constant site.entry.imports.now site.entry.scope.now site.entry.levels e.now) result }
+{
+    let inside = open(site.levels, e.first_token())?;
+    constant(
+        Site {
+            levels: inside,
+            ..site
+        },
+        e,
+    )
+}
+
+/// One length more.
+#[tactic(auto, unfolding(crate::specs::WrittenTypes::next_length))]
+fn next_length(site: Site<'_>, so_far: Items<u32>, e: &Expr) -> Result<Items<u32>, Rejected>
+    ensures { Judges (spec.next_length (spec.inner_constant site.entry.imports.now site.entry.scope.now site.entry.levels) so_far e.now) result }
+{
+    let mut so_far = so_far;
+    let value = inner_constant(site, e)?;
+    let length = length_of(&value, e.first_token())?;
+    so_far.push(length)?;
+    Ok(so_far)
+}
+
+fn lengths_of(site: Site<'_>, list: &[Expr]) -> Result<Items<u32>, Rejected>
+    ensures { Judges (through (spec.next_length (spec.inner_constant site.entry.imports.now site.entry.scope.now site.entry.levels)) [] list.now) result }
+{
+    let mut so_far = Items::new(site.alloc);
+    for e in list {
+        so_far = next_length(site, so_far, e)?;
+    }
+    Ok(so_far)
+}
+
+/// An array of so many of these.
+#[tactic(auto, unfolding(crate::specs::WrittenTypes::array_of))]
+fn array_of(alloc: Global, element: ObType, length: u32, span: Span) -> Result<ObType, Rejected>
+    ensures { Judges (spec.array_of element length) result }
+{
+    let of = ObType::Array(length, Shared::new(alloc, element)?);
+    if !is_admitted(&of) {
+        return Err(Rejected::Rule(broken(RuleCode::Size, span)));
+    }
+    Ok(of)
+}
+
+/// Arrays of arrays, the last length innermost.
+fn arrays_of(
+    alloc: Global,
+    element: ObType,
+    lengths: &[u32],
+    span: Span,
+) -> Result<ObType, Rejected>
+    ensures { Judges (through spec.array_of element (reverse lengths.now)) result }
+{
+    let mut so_far = element;
+    let mut i = lengths.len();
+    while i > 0 {
+        i -= 1;
+        so_far = array_of(alloc, so_far, lengths[i], span)?;
+    }
+    Ok(so_far)
+}
+
+fn numbered(alloc: Global, naming: &RecordName, before: u32) -> Result<RecordName, AllocError>
+    ensures { IfOk result (λ n. n ≡ spec.numbered naming.now before) }
+{
+    let mut name = naming.copy(alloc)?;
+    name.before = before;
+    Ok(name)
+}
+
+/// One name of a field more.
+#[tactic(auto, unfolding(crate::specs::WrittenTypes::field_name))]
+fn field_name(alloc: Global, so_far: Names, name: &IdentDef) -> Result<Names, Rejected>
+    ensures { Judges (spec.field_name so_far name.now) result }
+{
+    let mut so_far = so_far;
+    if so_far.contains(&name.name.name) {
+        return Err(Rejected::Rule(broken(RuleCode::DeclaredTwice, name.name.span)));
+    }
+    so_far.push(alloc, &name.name.name)?;
+    Ok(so_far)
+}
+
+fn field_names(alloc: Global, first: Names, names: &[IdentDef]) -> Result<Names, Rejected>
+    ensures { Judges (through spec.field_name first names.now) result }
+{
+    let mut so_far = first;
+    for name in names {
+        so_far = field_name(alloc, so_far, name)?;
+    }
+    Ok(so_far)
+}
+
+fn push_fields(
+    alloc: Global,
+    first: Items<Field>,
+    names: &[IdentDef],
+    of: &ObType,
+) -> Result<Items<Field>, AllocError>
+    ensures { IfOk result (λ fs. fs ≡ first ++ map (spec.field_of of.now) names.now) }
+{
+    let mut so_far = first;
+    for name in names {
+        let field = Field {
+            name: name.name.name.copy(alloc)?,
+            exported: name.mark.is_some(),
+            of: of.another()?,
+        };
+        so_far.push(field)?;
+    }
+    Ok(so_far)
+}
+
+/// The cells of a record with so many more fields of a type, if they fit.
+fn cells_with(taken: u32, count: usize, of: &ObType) -> Option<u32>
+    ensures { result ≡ spec.cells_with taken count of.now }
+{
+    if levels(of) >= MAX_LEVELS {
+        return None;
+    }
+    let more = count.checked_mul(zero_size(of) as usize)?;
+    let total = more.checked_add(taken as usize)?;
+    if total > MAX_CELLS as usize {
+        return None;
+    }
+    Some(total as u32)
+}
+
+fn is_record(of: &ObType) -> bool
+    ensures { result ≡ spec.is_record of.now }
+{
+    match of {
+        ObType::Record(_) => true,
+        ObType::Basic(_) | ObType::Array(_, _) | ObType::Open(_) => false,
+    }
+}
+
+fn push_names(alloc: Global, first: Names, fields: &[Field]) -> Result<Names, AllocError>
+    ensures { IfOk result (λ names. names ≡ first ++ spec.names_of fields.now) }
+{
+    let mut so_far = first;
+    for field in fields {
+        so_far.push(alloc, &field.name)?;
+    }
+    Ok(so_far)
+}
+
+fn own_names(alloc: Global, first: Names, of: &ObType) -> Result<Names, AllocError>
+    ensures { IfOk result (λ names. names ≡ first ++ spec.names_layer (out-ObType of.now)) }
+{
+    match of {
+        ObType::Record(record) => push_names(alloc, first, record.fields.as_slice()),
+        ObType::Basic(_) | ObType::Array(_, _) | ObType::Open(_) => Ok(first),
+    }
+}
+
+/// The names of a record's fields, and of those of its bases.
+#[tactic(auto, using(ob_types::proofs::Equations::base_lower))]
+fn inherited(alloc: Global, first: Names, of: &ObType) -> Result<Names, AllocError>
+    ensures { IfOk result (λ names. names ≡ first ++ spec.names_along (chain of.now)) }
+{
+    let so_far = own_names(alloc, first, of)?;
+    match base_of(of) {
+        Some(base) => inherited(alloc, so_far, base),
+        None => Ok(so_far),
+    }
+}
+
+/// The beginning of an extension of this type: its base, whose fields it has.
+#[tactic(auto, unfolding(crate::specs::WrittenTypes::extended))]
+fn extended(
+    alloc: Global,
+    records: u32,
+    of: ObType,
+    span: Span,
+    at: Span,
+) -> Result<Fields, Rejected>
+    ensures { Judges (spec.extended records of) result }
+{
+    if !is_record(&of) {
+        return Err(Rejected::Rule(broken(RuleCode::Types, at)));
+    }
+    match cells_with(0, 1, &of) {
+        None => Err(Rejected::Rule(broken(RuleCode::Size, span))),
+        Some(cells) => {
+            let names = inherited(alloc, Names::new(alloc), &of)?;
+            let mut fields = Items::new(alloc);
+            fields.push(Field {
+                name: Text::from_vec(Vec::new(alloc)),
+                exported: false,
+                of,
+            })?;
+            Ok(Fields {
+                names,
+                fields,
+                cells,
+                records,
+            })
+        }
+    }
+}
+
+/// The beginning of a record, which may be an extension.
+#[tactic(auto, unfolding(crate::specs::WrittenTypes::begun))]
+fn begun(
+    site: Site<'_>,
+    records: u32,
+    span: Span,
+    base: &Option<Qualident>,
+) -> Result<Fields, Rejected>
+    ensures { Judges (spec.begun site.entry.imports.now site.entry.scope.now records base.now) result }
+{
+    match base {
+        None => Ok(Fields {
+            names: Names::new(site.alloc),
+            fields: Items::new(site.alloc),
+            cells: 0,
+            records,
+        }),
+        Some(name) => {
+            let of = type_named(site.imports, site.scope, name)?;
+            extended(site.alloc, records, of, span, name.first.span)
+        }
+    }
+}
+
+/// A type as it is written, after so many words RECORD of its declaration.
+#[cycle(written)]
+#[tactic(auto, unfolding(crate::specs::WrittenTypes::type_at, crate::specs::WrittenTypes::type_rule))]
+pub fn written_type(
+    site: Site<'_>,
+    naming: &RecordName,
+    records: u32,
+    t: &TypeExpr,
+) -> Result<Written, Rejected>
+    ensures { Judges (spec.type_at site.entry.imports.now site.entry.scope.now naming.now site.entry.levels records t.now) result }
+{
+    match t {
+        TypeExpr::Named(name) => {
+            let of = type_named(site.imports, site.scope, name)?;
+            Ok(Written { of, records })
+        }
+        TypeExpr::Array(span, lengths, element) => {
+            let lengths = lengths_of(site, lengths.as_slice())?;
+            let element = inner_type(site, naming, records, *span, element.get())?;
+            let of = arrays_of(site.alloc, element.of, lengths.as_slice(), *span)?;
+            Ok(Written {
+                of,
+                records: element.records,
+            })
+        }
+        TypeExpr::Record(span, base, fields) => {
+            if records == u32::MAX {
+                return Err(Rejected::Rule(broken(RuleCode::Size, *span)));
+            }
+            record_type(site, naming, records, *span, base, fields.as_slice())
+        }
+    }
+}
+
+/// A record, after so many words RECORD.
+#[cycle(written)]
+#[tactic(auto, unfolding(crate::specs::WrittenTypes::record_rule))]
+fn record_type(
+    site: Site<'_>,
+    naming: &RecordName,
+    records: u32,
+    span: Span,
+    base: &Option<Qualident>,
+    list: &[TypedNames],
+) -> Result<Written, Rejected>
+    requires { records < 4294967295 }
+    ensures { Judges (spec.record_rule site.entry.imports.now site.entry.scope.now (spec.inner_type site.entry.imports.now site.entry.scope.now naming.now site.entry.levels) naming.now records base.now list.now) result }
+{
+    let first = begun(site, records + 1, span, base)?;
+    let all = all_fields(site, naming, first, span, list)?;
+    let name = Shared::new(site.alloc, numbered(site.alloc, naming, records)?)?;
+    let fields = SharedItems::new(site.alloc, all.fields)?;
+    Ok(Written {
+        of: ObType::Record(RecordType { name, fields }),
+        records: all.records,
+    })
+}
+
+#[cycle(written)]
+fn all_fields(
+    site: Site<'_>,
+    naming: &RecordName,
+    first: Fields,
+    span: Span,
+    list: &[TypedNames],
+) -> Result<Fields, Rejected>
+    ensures { Judges (through (spec.next_fields (spec.inner_type site.entry.imports.now site.entry.scope.now naming.now site.entry.levels)) first list.now) result }
+{
+    let mut so_far = first;
+    for x in list {
+        so_far = next_fields(site, naming, so_far, x, span)?;
+    }
+    Ok(so_far)
+}
+
+/// Fields of one type.
+#[cycle(written)]
+#[tactic(auto, unfolding(crate::specs::WrittenTypes::next_fields))]
+fn next_fields(
+    site: Site<'_>,
+    naming: &RecordName,
+    so_far: Fields,
+    x: &TypedNames,
+    span: Span,
+) -> Result<Fields, Rejected>
+    ensures { Judges (spec.next_fields (spec.inner_type site.entry.imports.now site.entry.scope.now naming.now site.entry.levels) so_far x.now) result }
+{
+    let list = x.names.as_slice();
+    let names = field_names(site.alloc, so_far.names, list)?;
+    let written = inner_type(site, naming, so_far.records, span, x.of.get())?;
+    match cells_with(so_far.cells, list.len(), &written.of) {
+        Some(cells) => {
+            let fields = push_fields(site.alloc, so_far.fields, list, &written.of)?;
+            Ok(Fields {
+                names,
+                fields,
+                cells,
+                records: written.records,
+            })
+        }
+        None => Err(Rejected::Rule(broken(RuleCode::Size, span))),
+    }
+}
+
+/// A type inside one construct more.
+#[cycle(written)]
+#[tactic(auto, unfolding(crate::specs::WrittenTypes::inner_type, crate::specs::WrittenTypes::type_at))]
+fn inner_type(
+    site: Site<'_>,
+    naming: &RecordName,
+    records: u32,
+    span: Span,
+    t: &TypeExpr,
+) -> Result<Written, Rejected>
+    ensures { Judges (spec.inner_type site.entry.imports.now site.entry.scope.now naming.now site.entry.levels records t.now) result }
+{
+    let inside = open(site.levels, span)?;
+    let inside = Site {
+        levels: inside,
+        ..site
+    };
+    written_type(inside, naming, records, t)
+}

@@ -1,0 +1,123 @@
+//! What statements take: variables that they write, values, and actual parameters.
+
+ghost use Rattle.std.specs.Prelude.{◌≡◌};
+ghost use Rattle.ob_check_scope.specs.Rule.{Judges};
+ghost use Rattle.ob_check_expr.specs.Expressions as spec;
+
+use crate::expression::{all_passed, expr, target_part};
+use ob_base::Items;
+use ob_check_operand::operand::{Operand, fitting, number_of, truth_of, value_for};
+use ob_check_scope::Site;
+use ob_check_scope::rejected::Rejected;
+use ob_check_scope::rule::RuleCode;
+use ob_check_strings::Variables;
+use ob_mean::{Argument, Designator, TypedExpr};
+use ob_scan::Span;
+use ob_tree::tree::{Designator as Written, Expr};
+use ob_types::{Basic, Formal, ObType};
+
+/// A variable that may be written, or a part of one, with its type.
+pub fn target(
+    site: Site<'_>,
+    variables: Variables,
+    d: &Written,
+) -> Result<(ObType, Designator, Variables), Rejected>
+    ensures { Judges (spec.target_at site.entry.imports.now site.entry.scope.now site.entry.levels variables d.now) result }
+{
+    let (of, place, variables) = target_part(site, variables, d)?;
+    Ok((of.another()?, place, variables))
+}
+
+/// The actual parameters of a call, as many as there are formal ones. The called name stands at `span`.
+#[tactic(auto, unfolding(crate::specs::Expressions::actuals_at))]
+pub fn actuals(
+    site: Site<'_>,
+    formals: &[Formal],
+    span: Span,
+    variables: Variables,
+    es: &[Expr],
+) -> Result<(Items<Argument>, Variables), Rejected>
+    ensures { Judges (spec.actuals_at site.entry.imports.now site.entry.scope.now site.entry.levels formals.now variables es.now) result }
+{
+    all_passed(site, formals, span, variables, es)
+}
+
+fn is_value(operand: Operand) -> Option<(Basic, TypedExpr)>
+    ensures { result ≡ spec.is_value operand }
+{
+    match operand {
+        Operand::Value(basic, value) => Some((basic, value)),
+        Operand::Text(_) | Operand::Place(_, _) => None,
+    }
+}
+
+/// A value of basic type.
+#[tactic(auto, unfolding(crate::specs::Expressions::value_at))]
+pub fn basic_value(
+    site: Site<'_>,
+    variables: Variables,
+    e: &Expr,
+) -> Result<(Basic, TypedExpr, Variables), Rejected>
+    ensures { Judges (spec.value_at site.entry.imports.now site.entry.scope.now site.entry.levels variables e.now) result }
+{
+    let (operand, variables) = expr(site, variables, e)?;
+    let (basic, value) = fitting(is_value(operand), RuleCode::Types, e.first_token())?;
+    Ok((basic, value, variables))
+}
+
+/// A value for a variable of a basic type.
+#[tactic(auto, unfolding(crate::specs::Expressions::value_for_at))]
+pub fn assigned_value(
+    site: Site<'_>,
+    basic: Basic,
+    variables: Variables,
+    e: &Expr,
+) -> Result<(TypedExpr, Variables), Rejected>
+    ensures { Judges (spec.value_for_at site.entry.imports.now site.entry.scope.now site.entry.levels basic variables e.now) result }
+{
+    let (operand, variables) = expr(site, variables, e)?;
+    let value = value_for(site.alloc, basic, operand, e.first_token())?;
+    Ok((value, variables))
+}
+
+/// A truth value on which a statement depends.
+#[tactic(auto, unfolding(crate::specs::Expressions::guard_at))]
+pub fn guard(
+    site: Site<'_>,
+    variables: Variables,
+    e: &Expr,
+) -> Result<(TypedExpr, Variables), Rejected>
+    ensures { Judges (spec.guard_at site.entry.imports.now site.entry.scope.now site.entry.levels variables e.now) result }
+{
+    let (operand, variables) = expr(site, variables, e)?;
+    let value = fitting(truth_of(operand), RuleCode::Types, e.first_token())?;
+    Ok((value, variables))
+}
+
+/// A number that a predeclared procedure takes.
+#[tactic(auto, unfolding(crate::specs::Expressions::number_at))]
+pub fn number(
+    site: Site<'_>,
+    variables: Variables,
+    e: &Expr,
+) -> Result<(TypedExpr, Variables), Rejected>
+    ensures { Judges (spec.number_at site.entry.imports.now site.entry.scope.now site.entry.levels variables e.now) result }
+{
+    let (operand, variables) = expr(site, variables, e)?;
+    let value = fitting(number_of(operand), RuleCode::Parameters, e.first_token())?;
+    Ok((value, variables))
+}
+
+/// A truth value that a predeclared procedure takes.
+#[tactic(auto, unfolding(crate::specs::Expressions::truth_at))]
+pub fn truth(
+    site: Site<'_>,
+    variables: Variables,
+    e: &Expr,
+) -> Result<(TypedExpr, Variables), Rejected>
+    ensures { Judges (spec.truth_at site.entry.imports.now site.entry.scope.now site.entry.levels variables e.now) result }
+{
+    let (operand, variables) = expr(site, variables, e)?;
+    let value = fitting(truth_of(operand), RuleCode::Parameters, e.first_token())?;
+    Ok((value, variables))
+}

@@ -1,0 +1,299 @@
+-- Types as they are written have cells, where those that they name do.
+use Rattle.std.proofs.Common.{◌≡◌, ◌⊎◌, inl, inr, ◌<◌, ℕ, zero, suc, ◌+◌, pos, negsuc, nat_le, ◌&&◌, ◌++◌, map, reverse, Bool, true, false, cond, List, [], ◌∷◌, Option, Some, None, slice_get, refl, sym, ap, ◌∙◌, subst, arith}
+use Rattle.std.proofs.lemmas.Bool.Decides.{nat_tests}
+use Rattle.std.proofs.lemmas.List.{reverse-append}
+use Rattle.std.specs.Str.{bytes_eq}
+use Rattle.ob_check_scope.specs.declared.rule.RuleCode.TheVariants as code
+use Rattle.ob_tree.specs.declared.tree.Expr.{Expr}
+use Rattle.ob_tree.specs.declared.tree.FormalType.{FormalType, out-FormalType}
+use Rattle.ob_tree.specs.declared.tree.FormalType.TheOpen.{FormalType-F}
+use Rattle.ob_tree.specs.declared.tree.Ident.{Ident}
+use Rattle.ob_tree.specs.declared.tree.IdentDef.{IdentDef}
+use Rattle.ob_tree.specs.declared.tree.Qualident.{Qualident}
+use Rattle.ob_tree.specs.declared.tree.TypeExpr.{TypeExpr, out-TypeExpr}
+use Rattle.ob_tree.specs.declared.tree.TypedNames.{TypedNames, out-TypedNames}
+use Rattle.ob_tree.specs.declared.tree.TypeExpr.TheOpen.{TypeExpr-F}
+use Rattle.ob_types.specs.declared.exports.Constant.{Constant}
+use Rattle.ob_types.specs.declared.exports.Constant.TheVariants as constant
+use Rattle.ob_types.specs.declared.exports.Exported.{Exported}
+use Rattle.ob_types.specs.declared.exports.Object.{Object}
+use Rattle.ob_types.specs.declared.exports.Object.TheVariants as object
+use Rattle.ob_types.specs.declared.structure.Field.{Field}
+use Rattle.ob_types.specs.declared.structure.ObType.{ObType, end_of-ObType, more_of-ObType, out-ObType}
+use Rattle.ob_types.specs.declared.structure.ObType.TheVariants.{Basic as OfBasic, Array', Open', Array, Open, Record}
+use Rattle.ob_types.specs.declared.structure.ObType.TheBlock as block
+use Rattle.ob_types.specs.declared.structure.ObType.TheBlock.{Row_of-Field, end_of-Field, more_of-Field, items-the_row-Field, items_shown-the_row-Field-1}
+use Rattle.ob_types.specs.declared.structure.RecordName.{RecordName}
+use Rattle.ob_types.specs.declared.structure.RecordType.{RecordType, RecordType', out-RecordType, roll-RecordType, out-roll-RecordType}
+use Rattle.ob_mean.specs.declared.shape.Shape.{Shape}
+use Rattle.ob_mean.specs.Shapes.{zero_of, zeros, at_least_one}
+use Rattle.ob_mean.proofs.Zeros.{array_zero, record_zero}
+use Rattle.ob_mean.specs.Values.{Value, size, row}
+use Rattle.ob_check_scope.specs.declared.block.Entry.{Entry}
+use Rattle.ob_check_scope.specs.declared.block.Entry.TheVariants as entry
+use Rattle.ob_check_scope.specs.declared.predeclared.Predeclared.{Predeclared}
+use Rattle.ob_check_scope.specs.declared.predeclared.Predeclared.TheVariants as predeclared
+use Rattle.ob_check_scope.specs.declared.scope.Scope.{Scope}
+use Rattle.ob_check_decl.specs.declared.written_type.Written.{Written}
+use Rattle.ob_check_decl.specs.declared.written_type.Fields.{Fields}
+use Rattle.ob_check_scope.specs.Exports.{Modules, exported_in}
+use Rattle.ob_check_decl.specs.Headings.{open_of, formal_layer, formal_rule, inner_formal, formal_at}
+use Rattle.ob_check_scope.specs.Imports.{exported_at, exported_by}
+use Rattle.ob_check_scope.specs.LoadedTree.{LoadedTree}
+use Rattle.ob_check_scope.specs.Rule.{Rule, gives, through}
+use Rattle.ob_check_scope.specs.Scope.{seen, outer}
+use Rattle.ob_check_decl.specs.WrittenTypes.{predeclared_type, own_type, object_type, other_type, qualified, type_named, length_of, next_length, array_of, field_of, next_fields, extended, begun, record_rule, type_layer, type_rule, inner_constant, inner_type, type_at, numbered}
+use Rattle.ob_check_operand.specs.Selecting.{element_of, field_from}
+use Rattle.ob_check_module.specs.Shapes.{shape_of, shapes_of}
+use Rattle.ob_mean.specs.WellFormed.{Object as Object', elements_in}
+use Rattle.ob_check_operand.specs.Functions.{is_array}
+use Rattle.ob_check_laws.specs.Fitting.{Suits}
+use Rattle.ob_types.specs.Solid.{IsSolid, AreSolid, FieldsSolid, ObjectSolid, ExportsSolid}
+use Rattle.ob_check_laws.specs.Solid.{LoadedSolid, EachSolid}
+use Rattle.ob_check_laws.proofs.Rules.{through_keeps, there_is}
+use Rattle.ob_check_laws.proofs.Suiting.{never, nothing, some_same, array_forms, elements_suit}
+
+-- ---- cells
+
+row_cells : (n : ℕ) (v : Value) → 0 < n → 0 < size v → 0 < size (row n v)
+row_cells zero v h g = absurd (omega arith)
+row_cells (suc n) v h g = omega arith
+
+mutual
+  pub solid_cells : (t : ObType) → IsSolid t → 0 < size (zero_of (shape_of t))
+  solid_cells (OfBasic b) h = omega arith
+  solid_cells (Array' n p (more_of-ObType e end_of-ObType)) h = subst (λ v. 0 < size v) (sym (array_zero n (shape_of e))) (row_cells n (zero_of (shape_of e)) h.0 (solid_cells e h.1))
+  solid_cells (Open' p (more_of-ObType e end_of-ObType)) h = subst (λ v. 0 < size v) (sym (array_zero 1 (shape_of e))) (row_cells 1 (zero_of (shape_of e)) (omega arith) (solid_cells e h))
+  solid_cells (Record (RecordType' name k fields)) h = subst (λ v. 0 < size v) (sym (record_zero (shapes_of fields))) (fields_cells _ fields h)
+
+  fields_cells : (k : _) (fields : Row_of-Field k) → AreSolid fields → 0 < size (at_least_one (zeros (shapes_of fields)))
+  fields_cells k end_of-Field h = omega arith
+  fields_cells k (more_of-Field f e of rest) h = let c : 0 < size (zero_of (shape_of of)) = solid_cells of h.0 in omega arith
+
+-- ---- parts
+
+row_solid : (k : _) (fields : Row_of-Field k) → AreSolid fields ≡ FieldsSolid (items-the_row-Field k fields)
+row_solid k end_of-Field = refl
+row_solid k (more_of-Field name e of rest) = ap (λ l. IsSolid of × l) (row_solid _ rest)
+
+pub record_solid : (r : RecordType) → IsSolid (Record r) ≡ FieldsSolid (out-RecordType r).fields
+unfolding out-RecordType denote.Hole.Carrier.out
+record_solid (RecordType' name k fields) = row_solid _ fields ∙ ap FieldsSolid (sym (items_shown-the_row-Field-1 k fields))
+
+array_solid : (n : ℕ) (e : ObType) → IsSolid (Array n e) ≡ ((0 < n) × IsSolid e)
+unfolding block.hidden-the_row-ObType-0 denote.Hole.Carrier.hidden
+array_solid n e = refl
+
+open_solid : (e : ObType) → IsSolid (Open e) ≡ IsSolid e
+unfolding block.hidden-the_row-ObType-0 denote.Hole.Carrier.hidden
+open_solid e = refl
+
+pub element_solid : (t e : ObType) → element_of t ≡ Some e → IsSolid t → IsSolid e
+element_solid t e h s = by (array_forms t e h)
+  where
+    by : ((n : ℕ) × (t ≡ Array n e)) ⊎ (t ≡ Open e) → IsSolid e
+    by (inl p) = (subst (λ x. x) (array_solid p.0 e) (subst IsSolid p.1 s)).1
+    by (inr p) = subst (λ x. x) (open_solid e) (subst IsSolid p s)
+
+-- an array has elements, which have cells
+pub array_cells : (t : ObType) (o : Option Object') → is_array t ≡ true → Suits t o → IsSolid t → (s : Shape) × (elements_in o ≡ Some s) × (0 < size (zero_of s))
+unfolding block.hidden-the_row-ObType-0 denote.Hole.Carrier.hidden block.shown-the_row-ObType-0 denote.Hole.Carrier.shown out-ObType denote.Hole.Carrier.out
+array_cells (OfBasic b) o h s k = never h
+array_cells (Array' n p (more_of-ObType x end_of-ObType)) o h s k = (shape_of x, elements_suit (Array n x) x o refl s, solid_cells x k.1)
+array_cells (Open' p (more_of-ObType x end_of-ObType)) o h s k = (shape_of x, elements_suit (Open x) x o refl s, solid_cells x k)
+array_cells (Record r) o h s k = never h
+
+found_by : (n : ℕ) (f : Field) (fs : List Field) (name : List ℕ) (q : ℕ × Field) (b : Bool) → (field_from (n + 1) fs name ≡ Some q → IsSolid q.1.of) → IsSolid f.of → cond b (Some (n, f)) (field_from (n + 1) fs name) ≡ Some q → IsSolid q.1.of
+found_by n f fs name q true g s e = subst (λ x. IsSolid x.1.of) (some_same (n, f) q e) s
+found_by n f fs name q false g s e = g e
+
+pub found_solid : (n : ℕ) (fs : List Field) (name : List ℕ) (q : ℕ × Field) → FieldsSolid fs → field_from n fs name ≡ Some q → IsSolid q.1.of
+found_solid n [] name q s h = nothing q h
+found_solid n (f ∷ fs) name q s h = found_by n f fs name q (bytes_eq f.name name) (found_solid (n + 1) fs name q s.1) s.0 h
+
+-- ---- what is imported
+
+exported_by_name : (e : Exported) (es : List Exported) (name : List ℕ) (o : Object) (b : Bool) → ObjectSolid e.object → (exported_in es name ≡ Some o → ObjectSolid o) → cond b (Some e.object) (exported_in es name) ≡ Some o → ObjectSolid o
+exported_by_name e es name o true h g k = subst ObjectSolid (some_same e.object o k) h
+exported_by_name e es name o false h g k = g k
+
+exported_solid : (es : List Exported) (name : List ℕ) (o : Object) → ExportsSolid es → exported_in es name ≡ Some o → ObjectSolid o
+exported_solid [] name o h k = nothing o k
+exported_solid (e ∷ es) name o h k = exported_by_name e es name o (bytes_eq e.name name) h.0 (exported_solid es name o h.1) k
+
+pub object_solid : (ms : Modules) (place : ℕ) (name : List ℕ) (o : Object) → LoadedSolid (slice_get ms place) → exported_at ms place name ≡ Some o → ObjectSolid o
+unfolding exported_at
+object_solid ms place name o h k = by (slice_get ms place) h k
+  where
+    by : (m : Option LoadedTree) → LoadedSolid m → exported_by m name ≡ Some o → ObjectSolid o
+    by None s e = nothing o e
+    by (Some m) s e = exported_solid m.interface.exports name o s e
+
+pub loaded_solid : (ms : Modules) (place : ℕ) → EachSolid ms → LoadedSolid (slice_get ms place)
+loaded_solid [] place h = tt
+loaded_solid (m ∷ ms) zero h = h.0
+loaded_solid (m ∷ ms) (suc place) h = loaded_solid ms place h.1
+
+-- ---- types as they are written
+
+abbrev pub SolidEntry : Entry → Type 0
+SolidEntry (entry.Constant c) = Unit {0}
+SolidEntry (entry.TypeName t) = IsSolid t
+SolidEntry (entry.Variable t s) = IsSolid t
+SolidEntry (entry.Procedure p n) = Unit {0}
+SolidEntry entry.In = Unit {0}
+SolidEntry entry.Out = Unit {0}
+SolidEntry (entry.Module i place) = Unit {0}
+
+-- what is seen in a scope
+abbrev pub SeenSolid : Scope → Type 0
+SeenSolid s = (name : List ℕ) (e : Entry) → seen s name ≡ Some e → SolidEntry e
+
+abbrev AllPositive : List ℕ → Type 0
+AllPositive [] = Unit {0}
+AllPositive (n ∷ ns) = (0 < n) × AllPositive ns
+
+positive_more : (ns : List ℕ) (n : ℕ) → AllPositive ns → 0 < n → AllPositive (ns ++ n ∷ [])
+positive_more [] n h g = (g, tt)
+positive_more (m ∷ ns) n h g = (h.0, positive_more ns n h.1 g)
+
+positive_reversed : (ns : List ℕ) → AllPositive ns → AllPositive (reverse ns)
+positive_reversed [] h = tt
+positive_reversed (n ∷ ns) h = subst AllPositive (sym (reverse-append (n ∷ []) ns)) (positive_more (reverse ns) n (positive_reversed ns h.1) h.0)
+
+first_holds : (a b : Bool) → (a && b) ≡ true → a ≡ true
+first_holds true b h = refl
+first_holds false b h = never h
+
+from_one : (n : ℕ) → nat_le 1 n ≡ true → 0 < n
+from_one n h = grind (arith, nat_tests)
+
+length_positive : (c : Constant) (n : ℕ) → gives (length_of c) n → 0 < n
+unfolding length_of
+length_positive (constant.Integer (pos m)) n h = subst (λ x. 0 < x) h.1 (from_one m (first_holds (nat_le 1 m) _ h.0))
+length_positive (constant.Integer (negsuc m)) n h = absurd h
+length_positive (constant.Boolean b) n h = absurd h
+length_positive (constant.Char c) n h = absurd h
+length_positive (constant.Text t) n h = absurd h
+
+arrays_solid : (t : ObType) (ns : List ℕ) (u : ObType) → gives (through array_of t ns) u → IsSolid t → AllPositive ns → IsSolid u
+unfolding array_of
+arrays_solid t [] u h s p = subst IsSolid h s
+arrays_solid t (n ∷ ns) u h s p =
+    arrays_solid h.0 ns u h.2 (subst IsSolid (h.1).1 (subst (λ x. x) (sym (array_solid n t)) (p.0, s))) p.1
+
+fields_append : (fs gs : List Field) → FieldsSolid fs → FieldsSolid gs → FieldsSolid (fs ++ gs)
+fields_append [] gs h g = g
+fields_append (f ∷ fs) gs h g = (h.0, fields_append fs gs h.1 g)
+
+fields_of_type : (t : ObType) (names : List IdentDef) → IsSolid t → FieldsSolid (map (field_of t) names)
+fields_of_type t [] h = tt
+fields_of_type t (n ∷ ns) h = (h, fields_of_type t ns h)
+
+module _ (ms : Modules) (loaded : EachSolid ms) (s : Scope) (scope : SeenSolid s) where
+  predeclared_solid : (p : Predeclared) (t : ObType) → gives (predeclared_type p) t → IsSolid t
+  unfolding predeclared_type
+  predeclared_solid (predeclared.Basic b) t h = subst IsSolid h tt
+  predeclared_solid (predeclared.Function f) t h = absurd h
+  predeclared_solid (predeclared.Procedure f) t h = absurd h
+  predeclared_solid predeclared.LeftOut t h = absurd h
+  predeclared_solid predeclared.Unknown t h = absurd h
+
+  own_type_solid : (o : Option Entry) (p : Predeclared) (t : ObType) → ((e : Entry) → o ≡ Some e → SolidEntry e) → gives (own_type o p) t → IsSolid t
+  unfolding own_type
+  own_type_solid (Some (entry.TypeName u)) p t g h = subst IsSolid h (g (entry.TypeName u) refl)
+  own_type_solid (Some (entry.Constant c)) p t g h = absurd h
+  own_type_solid (Some (entry.Variable u v)) p t g h = absurd h
+  own_type_solid (Some (entry.Procedure u v)) p t g h = absurd h
+  own_type_solid (Some entry.In) p t g h = absurd h
+  own_type_solid (Some entry.Out) p t g h = absurd h
+  own_type_solid (Some (entry.Module u v)) p t g h = absurd h
+  own_type_solid None p t g h = predeclared_solid p t h
+
+  object_type_solid : (o : Object) (t : ObType) → ObjectSolid o → gives (object_type o) t → IsSolid t
+  object_type_solid (object.TypeName u) t g h = subst IsSolid h g
+  object_type_solid (object.Constant c) t g h = absurd h
+  object_type_solid (object.Variable u) t g h = absurd h
+  object_type_solid (object.Procedure u) t g h = absurd h
+
+  other_type_solid : (o : Option Entry) (p : Predeclared) (name : List ℕ) (t : ObType) → gives (other_type ms o p name) t → IsSolid t
+  unfolding other_type
+  other_type_solid (Some (entry.Module i place)) p name t h =
+      object_type_solid h.0 t (object_solid ms place name h.0 (loaded_solid ms place loaded) (there_is (exported_at ms place name) code.NotExported h.0 h.1)) h.2
+  other_type_solid (Some (entry.TypeName u)) p name t h = absurd h
+  other_type_solid (Some (entry.Constant c)) p name t h = absurd h
+  other_type_solid (Some (entry.Variable u v)) p name t h = absurd h
+  other_type_solid (Some (entry.Procedure u v)) p name t h = absurd h
+  other_type_solid (Some entry.In) p name t h = absurd h
+  other_type_solid (Some entry.Out) p name t h = absurd h
+  other_type_solid None p name t h = absurd h
+
+  qualified_solid : (o : Option Entry) (p : Predeclared) (second : Option Ident) (t : ObType) → ((e : Entry) → o ≡ Some e → SolidEntry e) → gives (qualified ms o p second) t → IsSolid t
+  unfolding qualified
+  qualified_solid o p None t g h = own_type_solid o p t g h
+  qualified_solid o p (Some second) t g h = other_type_solid o p second.name t h
+
+  named_solid : (q : Qualident) (t : ObType) → gives (type_named ms s q) t → IsSolid t
+  unfolding type_named
+  named_solid q t h = qualified_solid (seen s q.first.name) (outer s q.first.name) q.second t (scope q.first.name) h
+
+  -- ---- arrays and records
+
+  abbrev Inner : (ℕ → TypeExpr → Rule Written) → Type 0
+  Inner inner = (k : ℕ) (t : TypeExpr) (w : Written) → gives (inner k t) w → IsSolid w.of
+
+  fields_solid : (inner : ℕ → TypeExpr → Rule Written) → Inner inner → (fs : Fields) (x : TypedNames) (gs : Fields) → gives (next_fields inner fs x) gs → FieldsSolid fs.fields → FieldsSolid gs.fields
+  unfolding next_fields
+  fields_solid inner inside fs x gs h g =
+      let w = h.2 in
+      subst (λ y. FieldsSolid y.fields) ((w.2).2)
+      (fields_append fs.fields (map (field_of w.0.of) (out-TypedNames x).names) g (fields_of_type w.0.of (out-TypedNames x).names (inside fs.records (out-TypedNames x).of w.0 w.1)))
+
+  begun_solid : (k : ℕ) (base : Option Qualident) (f : Fields) → gives (begun ms s k base) f → FieldsSolid f.fields
+  unfolding begun extended
+  begun_solid k None f h = subst (λ y. FieldsSolid y.fields) h tt
+  begun_solid k (Some q) f h =
+      let e = (h.2).1 in
+      subst (λ y. FieldsSolid y.fields) e.2 (named_solid q h.0 h.1, tt)
+
+  layer_solid : (constants : Expr → Rule Constant) (inner : ℕ → TypeExpr → Rule Written) → Inner inner → (naming : RecordName) (k : ℕ) (l : TypeExpr-F TypeExpr TypedNames) (w : Written) → gives (type_layer constants inner ms s naming k l) w → IsSolid w.of
+  unfolding record_rule next_length
+  layer_solid constants inner inside naming k (TypeExpr-F.Named q) w h = subst (λ x. IsSolid x.of) h.2 (named_solid q h.0 h.1)
+  layer_solid constants inner inside naming k (TypeExpr-F.Array span lengths element) w h =
+      let e = h.2 in
+      let t = e.2 in
+      subst (λ x. IsSolid x.of) t.2
+      (arrays_solid e.0.of (reverse h.0) t.0 t.1 (inside k element e.0 e.1)
+      (positive_reversed h.0 (through_keeps AllPositive (next_length constants) (λ a b c d f. subst AllPositive (d.2).2 (positive_more a (d.2).0 f (length_positive d.0 (d.2).0 (d.2).1))) [] lengths h.0 h.1 tt)))
+  layer_solid constants inner inside naming k (TypeExpr-F.Record span base fields) w h =
+      let f = h.1 in
+      let r = f.2 in
+      subst (λ x. IsSolid x.of) r.2
+      (subst (λ x. x) (sym (record_solid (roll-RecordType (record { name = numbered naming k; fields = r.0.fields }))
+      ∙ ap (λ x. FieldsSolid x.fields) (out-roll-RecordType (record { name = numbered naming k; fields = r.0.fields }))))
+      (through_keeps (λ y. FieldsSolid y.fields) (next_fields inner) (λ a b c d f. fields_solid inner inside a b c d f) f.0 fields r.0 r.1 (begun_solid (k + 1) base f.0 f.1)))
+
+  inner_solid : (naming : RecordName) (n : ℕ) → Inner (inner_type ms s naming n)
+  unfolding inner_type type_rule
+  inner_solid naming zero k t w h = absurd h
+  inner_solid naming (suc n) k t w h = layer_solid (inner_constant ms s n) (inner_type ms s naming n) (inner_solid naming n) naming k (out-TypeExpr t) w h
+
+  pub type_solid : (naming : RecordName) (n k : ℕ) (t : TypeExpr) (w : Written) → gives (type_at ms s naming n k t) w → IsSolid w.of
+  unfolding type_at type_rule
+  type_solid naming n k t w h = layer_solid (inner_constant ms s n) (inner_type ms s naming n) (inner_solid naming n) naming k (out-TypeExpr t) w h
+
+  -- ---- types of formal parameters
+
+  formal_layer_solid : (inner : FormalType → Rule ObType) → ((f : FormalType) (t : ObType) → gives (inner f) t → IsSolid t) → (l : FormalType-F FormalType) (t : ObType) → gives (formal_layer inner ms s l) t → IsSolid t
+  unfolding open_of
+  formal_layer_solid inner inside (FormalType-F.Named q) t h = named_solid q t h
+  formal_layer_solid inner inside (FormalType-F.Open span element) t h = subst IsSolid (h.2).1 (subst (λ x. x) (sym (open_solid h.0)) (inside element h.0 h.1))
+
+  inner_formal_solid : (n : ℕ) (f : FormalType) (t : ObType) → gives (inner_formal ms s n f) t → IsSolid t
+  unfolding inner_formal formal_rule
+  inner_formal_solid zero f t h = absurd h
+  inner_formal_solid (suc n) f t h = formal_layer_solid (inner_formal ms s n) (inner_formal_solid n) (out-FormalType f) t h
+
+  pub formal_solid : (n : ℕ) (f : FormalType) (t : ObType) → gives (formal_at ms s n f) t → IsSolid t
+  unfolding formal_at formal_rule
+  formal_solid n f t h = formal_layer_solid (inner_formal ms s n) (inner_formal_solid n) (out-FormalType f) t h

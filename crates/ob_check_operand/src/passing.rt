@@ -1,0 +1,196 @@
+//! What is passed to parameters.
+
+ghost use Rattle.std.specs.Prelude.{◌≡◌, ◌+◌, length, IfOk};
+ghost use Rattle.ob_check_scope.specs.declared.rule.RuleCode.TheVariants as code;
+ghost use Rattle.ob_check_scope.specs.Rule.{Judges, Given, Then, there};
+ghost use Rattle.ob_mean.specs.declared.expression.Argument.TheVariants as argument;
+ghost use Rattle.ob_check_operand.specs.Operands.{text_variable};
+ghost use Rattle.ob_check_operand.specs.Passing as spec;
+
+use crate::operand::{Operand, fitting, hidden, hidden_with_end, is_char, value_for};
+use crate::selecting::part_as;
+use ob_base::Text;
+use ob_check_scope::rejected::{Rejected, broken};
+use ob_check_scope::rule::RuleCode;
+use ob_check_strings::Variables;
+use ob_mean::{Argument, Designator};
+use ob_scan::Span;
+use ob_types::{ObType, same};
+use std::alloc::{AllocError, Global};
+
+fn has_elements(element: &ObType, of: &ObType) -> bool
+    ensures { result ≡ spec.has_elements element.now of.now }
+{
+    match of {
+        ObType::Array(_, other) | ObType::Open(other) => same(element, other.get()),
+        ObType::Basic(_) | ObType::Record(_) => false,
+    }
+}
+
+/// A variable for a parameter that names one: of an extension, the part that is of the parameter's type.
+#[tactic(auto, unfolding(crate::specs::Passing::variable_passed))]
+fn variable_passed(
+    alloc: Global,
+    formal: &ObType,
+    of: &ObType,
+    place: Designator,
+) -> Result<Option<Argument>, AllocError>
+    ensures { IfOk result (λ argument. argument ≡ spec.variable_passed formal.now of.now place) }
+{
+    match formal {
+        ObType::Open(element) => {
+            if has_elements(element.get(), of) {
+                Ok(Some(Argument::Open(place)))
+            } else {
+                Ok(None)
+            }
+        }
+        ObType::Record(_) => match part_as(alloc, formal, of, place)? {
+            Some(part) => Ok(Some(Argument::Place(part))),
+            None => Ok(None),
+        },
+        ObType::Basic(_) | ObType::Array(_, _) => {
+            if same(formal, of) {
+                Ok(Some(Argument::Place(place)))
+            } else {
+                Ok(None)
+            }
+        }
+    }
+}
+
+/// A variable as what is passed. The fault stands at `span`.
+#[tactic(auto, unfolding(crate::specs::Passing::variable_argument))]
+pub fn variable_argument(
+    alloc: Global,
+    variables: Variables,
+    formal: &ObType,
+    of: &ObType,
+    place: Designator,
+    span: Span,
+) -> Result<(Argument, Variables), Rejected>
+    ensures { Judges (spec.variable_argument variables formal.now of.now place) result }
+{
+    let passed = variable_passed(alloc, formal, of, place)?;
+    let argument = fitting(passed, RuleCode::Parameters, span)?;
+    Ok((argument, variables))
+}
+
+fn hidden_place(
+    variables: Variables,
+    text: Text,
+    elements: u32,
+    span: Span,
+) -> Result<(Argument, Variables), Rejected>
+    ensures { Judges (Then (text_variable variables text elements) (λ p. Given (argument.Place p.0, p.1))) result }
+{
+    let (place, variables) = hidden(text, elements, span, variables)?;
+    Ok((Argument::Place(place), variables))
+}
+
+fn hidden_open(
+    variables: Variables,
+    text: Text,
+    span: Span,
+) -> Result<(Argument, Variables), Rejected>
+    ensures { Judges (Then (text_variable variables text (length text + 1)) (λ p. Given (argument.Open p.0, p.1))) result }
+{
+    let (place, variables) = hidden_with_end(text, span, variables)?;
+    Ok((Argument::Open(place), variables))
+}
+
+#[tactic(auto, unfolding(crate::specs::Passing::fixed_text))]
+fn fixed_text(
+    variables: Variables,
+    text: Text,
+    elements: u32,
+    span: Span,
+) -> Result<(Argument, Variables), Rejected>
+    ensures { Judges (spec.fixed_text variables text elements) result }
+{
+    if text.as_slice().len() < elements as usize {
+        hidden_place(variables, text, elements, span)
+    } else {
+        Err(Rejected::Rule(broken(RuleCode::Types, span)))
+    }
+}
+
+/// A string for an array of CHAR.
+#[tactic(auto, unfolding(crate::specs::Passing::text_passed))]
+fn text_passed(
+    variables: Variables,
+    formal: &ObType,
+    text: Text,
+    span: Span,
+) -> Result<(Argument, Variables), Rejected>
+    ensures { Judges (spec.text_passed variables formal.now text) result }
+{
+    match formal {
+        ObType::Array(length, element) => {
+            if is_char(element.get()) {
+                fixed_text(variables, text, *length, span)
+            } else {
+                Err(Rejected::Rule(broken(RuleCode::Parameters, span)))
+            }
+        }
+        ObType::Open(element) => {
+            if is_char(element.get()) {
+                hidden_open(variables, text, span)
+            } else {
+                Err(Rejected::Rule(broken(RuleCode::Parameters, span)))
+            }
+        }
+        ObType::Basic(_) | ObType::Record(_) => Err(Rejected::Rule(broken(
+            RuleCode::Parameters,
+            span,
+        ))),
+    }
+}
+
+/// A structured value: a variable alone, or a string.
+#[tactic(auto, unfolding(crate::specs::Passing::structure_passed))]
+fn structure_passed(
+    alloc: Global,
+    variables: Variables,
+    formal: &ObType,
+    alone: bool,
+    operand: Operand,
+    span: Span,
+) -> Result<(Argument, Variables), Rejected>
+    ensures { Judges (spec.structure_passed variables formal.now alone operand) result }
+{
+    match operand {
+        Operand::Value(_, _) => Err(Rejected::Rule(broken(RuleCode::Parameters, span))),
+        Operand::Text(text) => text_passed(variables, formal, text, span),
+        Operand::Place(of, place) => {
+            if alone {
+                variable_argument(alloc, variables, formal, &of, place, span)
+            } else {
+                Err(Rejected::Rule(broken(RuleCode::Parameters, span)))
+            }
+        }
+    }
+}
+
+/// A value, and whether it is written as a variable alone. It begins at `span`.
+#[tactic(auto, unfolding(crate::specs::Passing::value_passed))]
+pub fn value_passed(
+    alloc: Global,
+    variables: Variables,
+    formal: &ObType,
+    alone: bool,
+    operand: Operand,
+    span: Span,
+) -> Result<(Argument, Variables), Rejected>
+    ensures { Judges (spec.value_passed variables formal.now span.line alone operand) result }
+{
+    match formal {
+        ObType::Basic(basic) => {
+            let value = value_for(alloc, *basic, operand, span)?;
+            Ok((Argument::Value(value), variables))
+        }
+        ObType::Array(_, _) | ObType::Open(_) | ObType::Record(_) => {
+            structure_passed(alloc, variables, formal, alone, operand, span)
+        }
+    }
+}

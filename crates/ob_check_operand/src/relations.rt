@@ -1,0 +1,196 @@
+//! Relations.
+
+ghost use Rattle.std.specs.Prelude.{◌≡◌};
+ghost use Rattle.ob_check_scope.specs.Rule.{Judges, Given};
+ghost use Rattle.ob_check_operand.specs.Relations as spec;
+
+use crate::operand::{Operand, character_of, fitting, is_text, text_place};
+use ob_base::{Boxed, Items};
+use ob_check_scope::rejected::{Rejected, broken};
+use ob_check_scope::rule::RuleCode;
+use ob_check_strings::Variables;
+use ob_mean::{Operation, Operator, Relation, TypedExpr};
+use ob_scan::Span;
+use ob_tree::tree::Relation as Written;
+use ob_types::Basic;
+use std::alloc::Global;
+
+pub fn relation_of(relation: Written) -> Relation
+    ensures { result ≡ spec.relation_of relation }
+{
+    match relation {
+        Written::Equal => Relation::Equal,
+        Written::NotEqual => Relation::NotEqual,
+        Written::Less => Relation::Less,
+        Written::LessEqual => Relation::LessEqual,
+        Written::Greater => Relation::Greater,
+        Written::GreaterEqual => Relation::GreaterEqual,
+    }
+}
+
+fn is_equality(relation: Relation) -> bool
+    ensures { result ≡ spec.is_equality relation }
+{
+    match relation {
+        Relation::Equal | Relation::NotEqual => true,
+        Relation::Less | Relation::LessEqual | Relation::Greater | Relation::GreaterEqual => false,
+    }
+}
+
+fn is_number(basic: Basic) -> bool
+    ensures { result ≡ spec.is_number basic }
+{
+    match basic {
+        Basic::Integer | Basic::Byte => true,
+        Basic::Boolean | Basic::Char => false,
+    }
+}
+
+fn is_character(basic: Basic) -> bool
+    ensures { result ≡ spec.is_character basic }
+{
+    match basic {
+        Basic::Char => true,
+        Basic::Integer | Basic::Byte | Basic::Boolean => false,
+    }
+}
+
+fn is_truth(basic: Basic) -> bool
+    ensures { result ≡ spec.is_truth basic }
+{
+    match basic {
+        Basic::Boolean => true,
+        Basic::Integer | Basic::Byte | Basic::Char => false,
+    }
+}
+
+fn are_related(relation: Relation, left: Basic, right: Basic) -> bool
+    ensures { result ≡ spec.are_related relation left right }
+{
+    match left {
+        Basic::Integer | Basic::Byte => is_number(right),
+        Basic::Char => is_character(right),
+        Basic::Boolean => is_truth(right) && is_equality(relation),
+    }
+}
+
+fn may_relate_basic(relation: Relation, left: Basic) -> bool
+    ensures { result ≡ spec.may_relate_basic relation left }
+{
+    match left {
+        Basic::Boolean => is_equality(relation),
+        Basic::Integer | Basic::Byte | Basic::Char => true,
+    }
+}
+
+/// Whether an operand may stand before a relation.
+pub fn may_relate(relation: Relation, left: &Operand) -> bool
+    ensures { result ≡ spec.may_relate relation left.now }
+{
+    match left {
+        Operand::Value(basic, _) => may_relate_basic(relation, *basic),
+        Operand::Text(_) => true,
+        Operand::Place(of, _) => is_text(of),
+    }
+}
+
+fn compared(
+    alloc: Global,
+    relation: Relation,
+    span: Span,
+    left: TypedExpr,
+    right: TypedExpr,
+) -> Result<Operand, Rejected>
+    ensures { Judges (Given (spec.compared relation span.line left right)) result }
+{
+    let mut steps = Items::new(alloc);
+    steps.push(Operation {
+        operator: Operator::Compare(relation),
+        line: span.line,
+        operand: right,
+    })?;
+    Ok(Operand::Value(
+        Basic::Boolean,
+        TypedExpr::Chain(Boxed::new(alloc, left)?, steps),
+    ))
+}
+
+#[tactic(auto, unfolding(crate::specs::Relations::texts_related))]
+fn texts_related(
+    relation: Relation,
+    span: Span,
+    variables: Variables,
+    left: Operand,
+    right: Operand,
+) -> Result<(Operand, Variables), Rejected>
+    ensures { Judges (spec.texts_related relation variables left right) result }
+{
+    let (first, variables) = text_place(left, span, variables)?;
+    let (second, variables) = text_place(right, span, variables)?;
+    let value = TypedExpr::Texts(relation, first, second);
+    Ok((Operand::Value(Basic::Boolean, value), variables))
+}
+
+#[tactic(auto, unfolding(crate::specs::Relations::values_related))]
+fn values_related(
+    alloc: Global,
+    relation: Relation,
+    span: Span,
+    left: (Basic, TypedExpr),
+    right: (Basic, TypedExpr),
+) -> Result<Operand, Rejected>
+    ensures { Judges (spec.values_related relation span.line left.0 left.1 right.0 right.1) result }
+{
+    let (one, left) = left;
+    let (other, right) = right;
+    if are_related(relation, one, other) {
+        compared(alloc, relation, span, left, right)
+    } else {
+        Err(Rejected::Rule(broken(RuleCode::Types, span)))
+    }
+}
+
+#[tactic(auto, unfolding(crate::specs::Relations::characters_related))]
+fn characters_related(
+    alloc: Global,
+    relation: Relation,
+    span: Span,
+    left: Operand,
+    right: Operand,
+) -> Result<Operand, Rejected>
+    ensures { Judges (spec.characters_related relation span.line left right) result }
+{
+    let left = fitting(character_of(left), RuleCode::Types, span)?;
+    let right = fitting(character_of(right), RuleCode::Types, span)?;
+    compared(alloc, relation, span, left, right)
+}
+
+/// Two operands with a relation between them, which stands at `span`.
+#[tactic(auto, unfolding(crate::specs::Relations::related))]
+pub fn related(
+    alloc: Global,
+    relation: Relation,
+    span: Span,
+    variables: Variables,
+    left: Operand,
+    right: Operand,
+) -> Result<(Operand, Variables), Rejected>
+    ensures { Judges (spec.related relation span.line variables left right) result }
+{
+    match (left, right) {
+        (Operand::Value(one, left), Operand::Value(other, right)) => {
+            let value = values_related(alloc, relation, span, (one, left), (other, right))?;
+            Ok((value, variables))
+        }
+        (Operand::Value(_, _), Operand::Place(_, _))
+        | (Operand::Place(_, _), Operand::Value(_, _)) => {
+            Err(Rejected::Rule(broken(RuleCode::Types, span)))
+        }
+        (left @ Operand::Value(_, _), right @ Operand::Text(_))
+        | (left @ Operand::Text(_), right @ Operand::Value(_, _)) => {
+            let value = characters_related(alloc, relation, span, left, right)?;
+            Ok((value, variables))
+        }
+        (left, right) => texts_related(relation, span, variables, left, right),
+    }
+}

@@ -1,0 +1,156 @@
+//! Fields of records and of their bases, and elements of arrays.
+
+ghost use Rattle.std.specs.Prelude.{◌≡◌, IfOk, option_map};
+ghost use Rattle.ob_check_scope.specs.declared.rule.RuleCode.TheVariants as code;
+ghost use Rattle.ob_check_scope.specs.Rule.{Judges, there};
+ghost use Rattle.ob_types.specs.declared.structure.ObType.{out-ObType};
+ghost use Rattle.ob_types.specs.Types.{chain};
+ghost use Rattle.ob_check_operand.specs.Judging.{result_map};
+ghost use Rattle.ob_check_operand.specs.Selecting as spec;
+
+use ob_base::{Boxed, Text};
+use ob_check_scope::Scope;
+use ob_check_scope::rejected::{Rejected, broken};
+use ob_check_scope::rule::RuleCode;
+use ob_mean::Designator;
+use ob_scan::Span;
+use ob_tree::tree::Ident;
+use ob_types::{Field, ObType, base_of, same};
+use std::alloc::{AllocError, Global};
+
+fn field_in<'a>(fields: &'a [Field], name: &Text) -> Option<(usize, &'a Field)>
+    ensures { option_map (λ p. (p.0, p.1.now)) result ≡ spec.field_from 0 fields.now name.now }
+{
+    for i in 0..fields.len() {
+        if fields[i].name.same(name) {
+            return Some((i, &fields[i]));
+        }
+    }
+    None
+}
+
+fn no_field(own: bool) -> RuleCode
+    ensures { result ≡ spec.no_field own }
+{
+    if own {
+        RuleCode::UnknownName
+    } else {
+        RuleCode::NotExported
+    }
+}
+
+/// The field of a name among a record's own: the module of the record, its number, and the field.
+fn own_field<'a>(of: &'a ObType, name: &Text) -> Option<(&'a Text, usize, &'a Field)>
+    ensures { option_map (λ p. (p.0.now, p.1, p.2.now)) result ≡ spec.own_layer (out-ObType of.now) name.now }
+{
+    match of {
+        ObType::Record(record) => {
+            match field_in(record.fields.as_slice(), name) {
+                Some((number, field)) => Some((&record.name.get().module_name, number, field)),
+                None => None,
+            }
+        }
+        ObType::Basic(_) | ObType::Array(_, _) | ObType::Open(_) => None,
+    }
+}
+
+/// The field of a name in a record or its bases: the module of its record, the field, and its place.
+#[tactic(auto, using(crate::proofs::Chains::field_step, ob_types::proofs::Equations::base_lower))]
+fn field_along<'a>(
+    alloc: Global,
+    of: &'a ObType,
+    name: &Text,
+    place: Designator,
+) -> Result<Option<(&'a Text, &'a Field, Designator)>, AllocError>
+    ensures { IfOk result (λ o. option_map (λ p. (p.0.now, p.1.now, p.2)) o ≡ spec.field_along (chain of.now) name.now place) }
+{
+    match own_field(of, name) {
+        Some((home, number, field)) => {
+            let part = Designator::Field(Boxed::new(alloc, place)?, number);
+            Ok(Some((home, field, part)))
+        }
+        None => match base_of(of) {
+            Some(base) => {
+                let part = Designator::Field(Boxed::new(alloc, place)?, 0);
+                field_along(alloc, base, name, part)
+            }
+            None => Ok(None),
+        },
+    }
+}
+
+#[tactic(auto, unfolding(crate::specs::Selecting::seen_field))]
+fn seen_field<'a>(
+    scope: &Scope,
+    own: bool,
+    found: Option<(&'a Text, &'a Field, Designator)>,
+    span: Span,
+) -> Result<(&'a ObType, Designator), Rejected>
+    ensures { Judges (spec.seen_field scope.now.module_name own (option_map (λ p. (p.0.now, p.1.now, p.2)) found.entry)) (result_map (λ p. (p.0.now, p.1)) result) }
+{
+    match found {
+        None => Err(Rejected::Rule(broken(no_field(own), span))),
+        Some((home, field, place)) => {
+            if home.same(&scope.module_name) || field.exported {
+                Ok((&field.of, place))
+            } else {
+                Err(Rejected::Rule(broken(RuleCode::NotExported, span)))
+            }
+        }
+    }
+}
+
+/// The field of a name in a variable: its type and its place.
+#[tactic(auto, unfolding(crate::specs::Selecting::field_of))]
+pub fn field_of<'a>(
+    alloc: Global,
+    scope: &Scope,
+    of: &'a ObType,
+    name: &Ident,
+    place: Designator,
+) -> Result<(&'a ObType, Designator), Rejected>
+    ensures { Judges (spec.field_of scope.now of.now name.now.name place) (result_map (λ p. (p.0.now, p.1)) result) }
+{
+    match of {
+        ObType::Record(record) => {
+            let own = record.name.get().module_name.same(&scope.module_name);
+            let found = field_along(alloc, of, &name.name, place)?;
+            seen_field(scope, own, found, name.span)
+        }
+        ObType::Basic(_) | ObType::Array(_, _) | ObType::Open(_) => {
+            Err(Rejected::Rule(broken(RuleCode::Types, name.span)))
+        }
+    }
+}
+
+/// The part of a variable that is of the type `to`: the variable itself, the base of it, and so on.
+#[tactic(auto, using(crate::proofs::Chains::part_step, ob_types::proofs::Equations::base_lower))]
+pub fn part_as(
+    alloc: Global,
+    to: &ObType,
+    of: &ObType,
+    place: Designator,
+) -> Result<Option<Designator>, AllocError>
+    ensures { IfOk result (λ part. part ≡ spec.part_as to.now of.now place) }
+{
+    if same(to, of) {
+        return Ok(Some(place));
+    }
+    match base_of(of) {
+        Some(base) => {
+            let part = Designator::Field(Boxed::new(alloc, place)?, 0);
+            part_as(alloc, to, base, part)
+        }
+        None => Ok(None),
+    }
+}
+
+/// The type of the elements of an array.
+pub fn element_of<'a>(of: &'a ObType, span: Span) -> Result<&'a ObType, Rejected>
+    ensures { Judges (there (spec.element_of of.now) code.Types) (result_map (λ t. t.now) result) }
+{
+    match of {
+        ObType::Array(_, element) | ObType::Open(element) => Ok(element.get()),
+        ObType::Basic(_) | ObType::Record(_) => Err(Rejected::Rule(broken(RuleCode::Types, span))),
+    }
+}

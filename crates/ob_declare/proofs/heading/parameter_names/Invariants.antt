@@ -1,7 +1,0 @@
-use Rattle.std.proofs.Common.{◌≡◌, [], drop}
-use Rattle.ob_scope.specs.Rule.{answer, through}
-use Rattle.ob_declare.specs.Headings as spec
-use Rattle.ob_declare.proofs.heading.parameter_names.Given as goal
-
-abbrev pub invariant-loop-name : goal.invariant-loop-name
-invariant-loop-name l = answer (through (spec.parameter_name l.block) [] l.list) ≡ answer (through (spec.parameter_name l.block) l.so_far (drop l.name-index l.list))

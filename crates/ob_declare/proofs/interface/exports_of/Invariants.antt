@@ -1,6 +1,0 @@
-use Rattle.std.proofs.Common.{◌≡◌, ◌++◌, drop}
-use Rattle.ob_declare.specs.Interfaces as spec
-use Rattle.ob_declare.proofs.interface.exports_of.Given as goal
-
-abbrev pub invariant-loop-d : goal.invariant-loop-d
-invariant-loop-d l = l.so_far ++ spec.exports_of (drop l.d-index l.declared) ≡ spec.exports_of l.declared

@@ -1,5 +1,0 @@
-use Rattle.ob_types.specs.Types.{levels}
-use Rattle.ob_operand.proofs.selecting.+field_along.Given as goal
-
-abbrev pub decreases-field_along : goal.decreases-field_along
-decreases-field_along l = levels l.of.now

@@ -1,7 +1,0 @@
-use Rattle.std.proofs.Common.{◌≡◌, [], drop}
-use Rattle.ob_scope.specs.Rule.{answer, through}
-use Rattle.ob_statement.specs.Labels as spec
-use Rattle.ob_statement.proofs.label.labels.Given as goal
-
-abbrev pub invariant-loop-r : goal.invariant-loop-r
-invariant-loop-r l = answer (through (spec.next_range l.imports l.scope l.character) (l.fn.all, []) l.list) ≡ answer (through (spec.next_range l.imports l.scope l.character) l.so_far (drop l.r-index l.list))
