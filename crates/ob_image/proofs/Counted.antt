@@ -5,9 +5,9 @@ use Rattle.ob_session.specs.Session.{Module}
 use Rattle.ob_code.specs.declared.instr.LinkedModule.{LinkedModule}
 use Rattle.ob_code.specs.Linked.{all_cells, AreLaid}
 use Rattle.ob_code.specs.Machine.{Code}
-use Rattle.ob_store.specs.Counted.{HaveCellsOf, CountsCells}
-use Rattle.ob_store.proofs.Counted.{each_counts_cells}
-use Rattle.ob_linked.specs.Compiled.{Known, AreCompiledFrom}
+use Rattle.ob_image.specs.Counted.{HaveCellsOf, CountsCells}
+use Rattle.ob_image.proofs.StoreCells.{each_counts_cells}
+use Rattle.ob_image.specs.Compiled.{Known, AreCompiledFrom}
 use Rattle.ob_image.specs.Bounds.{AreBounds}
 
 -- ---- code of modules

@@ -5,7 +5,7 @@ use Rattle.std.proofs.lemmas.List.{drop_all, take-append-drop, take_all}
 use Rattle.ob_code.specs.declared.instr.LinkedModule.{LinkedModule}
 use Rattle.ob_code.specs.Linked.{all_cells, AreLaid}
 use Rattle.ob_code.specs.Machine.{Code}
-use Rattle.ob_linked.specs.Compiled.{laid, put_at}
+use Rattle.ob_image.specs.Compiled.{laid, put_at}
 
 -- in the place of another
 pub put_within : {A : Type 0} (xs : List A) (i : ℕ) (x : A) → i < length xs → set xs i x ≡ put_at xs i x

@@ -16,7 +16,7 @@ pub struct KnownFaces {
 impl Model for KnownFaces {
     ghost use Rattle.std.specs.Coded.{codes};
     ghost use Rattle.ob_mean.specs.contracts.shape.Shape as shape;
-    ghost use Rattle.ob_linked.specs.Compiled.{Known};
+    ghost use Rattle.ob_image.specs.Compiled.{Known};
 
     ghost Value = { Known };
 

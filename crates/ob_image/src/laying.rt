@@ -2,7 +2,7 @@
 
 ghost use Rattle.std.specs.Prelude.{◌≡◌, ◌<◌, ◌≤◌, ◌^◌, length, take, vec_capacity};
 ghost use Rattle.ob_code.specs.Linked.{all_cells, AreLaid};
-ghost use Rattle.ob_linked.specs.Compiled as spec;
+ghost use Rattle.ob_image.specs.Compiled as spec;
 
 use ob_code::instr::LinkedModule;
 

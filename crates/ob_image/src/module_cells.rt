@@ -2,7 +2,7 @@
 
 ghost use Rattle.std.specs.Prelude.{◌≡◌, List, take};
 ghost use Rattle.ob_code.specs.Linked.{all_cells, AreLaid};
-ghost use Rattle.ob_linked.specs.Compiled.{Known, AreCompiledFrom};
+ghost use Rattle.ob_image.specs.Compiled.{Known, AreCompiledFrom};
 ghost use Rattle.ob_image.specs.Bounds.{AreBounds};
 ghost use Rattle.ob_session.specs.Session.{Module};
 

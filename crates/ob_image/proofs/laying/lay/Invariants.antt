@@ -1,6 +1,6 @@
 use Rattle.std.proofs.Common.{◌≡◌, ◌++◌, length, take, drop}
 use Rattle.ob_code.specs.Linked.{all_cells}
-use Rattle.ob_linked.specs.Compiled.{laid}
+use Rattle.ob_image.specs.Compiled.{laid}
 use Rattle.ob_image.proofs.laying.lay.Given as goal
 
 -- the modules so far are laid, the others are as they were

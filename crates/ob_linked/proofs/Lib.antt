@@ -1,9 +1,0 @@
-pub mod Imports
-pub mod Sides
-pub mod Entries
-pub mod MayRun
-pub mod Loads
-pub mod Behind
-pub mod Commands
-pub mod Running
-pub mod Agreeing

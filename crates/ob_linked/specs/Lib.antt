@@ -1,3 +1,0 @@
-pub mod Compiled
-pub mod CommandsCode
-pub mod Loading
