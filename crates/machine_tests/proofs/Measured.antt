@@ -1,5 +1,5 @@
 -- Lists of modules of whose operands and names enough is known.
-use Rattle.std.proofs.Common.{◌≡◌, ℕ, zero, suc, ◌<◌, List, [], ◌∷◌, ◌++◌, length, get_or, Some, subst, arith}
+use Rattle.std.proofs.Common.{◌≡◌, ℕ, zero, suc, ◌<◌, List, [], ◌∷◌, ◌++◌, length, get_or, Some, subst, sym, arith}
 use Rattle.std.specs.Prelude.{slice_get, All}
 use Rattle.std.proofs.lemmas.Option.{slice_get_within, get_or_from_slice_get}
 use Rattle.std.proofs.lemmas.List.Elements.{All-append}
@@ -20,3 +20,7 @@ alone l is (suc k) d lt = absurd (omega (arith, lt))
 -- one more
 pub measured_more : (code : Code) (l : LinkedModule) → AllMeasured code → IsMeasured l.code → AllMeasured (code ++ l ∷ [])
 measured_more code l all is = All-append (λ (x : LinkedModule). IsMeasured x.code) code (l ∷ []) all (alone l is)
+
+-- none yet
+pub none_measured : (code : Code) → code ≡ [] → AllMeasured code
+none_measured code e = subst AllMeasured (sym e) (λ k d lt. absurd (omega (arith, lt)))

@@ -3,9 +3,10 @@
 mod build;
 mod run;
 
-use crate::compiled::build::{begin, image_of};
+use crate::compiled::build::{begin, image_of, image_of_code};
 use crate::compiled::run::{Stood, run};
 use crate::reference::Seen;
+use ob_code::instr::CodeModule;
 use ob_mean::{Face, Loaded, Outcome};
 use ob_reference_store::stop::NoAnswer;
 use ob_vm::Turned;
@@ -50,6 +51,19 @@ pub(crate) fn comes_to(
         }
     }
     Ok(true)
+}
+
+/// Whether the body of a module made by hand comes to what is said, with so many turns.
+pub(crate) fn code_comes_to(
+    alloc: Global,
+    code: CodeModule,
+    turns: u64,
+    said: Seen<'_>,
+) -> Result<bool, NoAnswer> {
+    let mut image = image_of_code(alloc, code)?;
+    let machine = begin(alloc, &image, 0)?;
+    let stood = run(alloc, &mut image, machine, &[], turns, turns)?;
+    Ok(is_as_said(&stood, said))
 }
 
 /// The first number of turns with which the body of the last module comes to something else than is said at its place.

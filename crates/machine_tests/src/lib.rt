@@ -8,4 +8,6 @@ mod code;
 #[cfg(test)]
 mod compiled;
 #[cfg(test)]
+mod records;
+#[cfg(test)]
 mod reference;

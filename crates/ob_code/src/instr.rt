@@ -1,6 +1,6 @@
 //! The instructions of the machine, and what they name.
 
-use ob_base::{Items, Text};
+use ob_base::{Items, Shared, SharedItems, Text};
 use ob_mean::{Adjustment, Callee, Operator, Relation, TrapKind, UnaryOperator};
 
 /// Cells of a module or of a call: so many from this one on.
@@ -47,9 +47,16 @@ pub enum Target {
     Name(Span),
 }
 
+/// A record type by its name, written out, and how many cells its values take.
+#[derive(Drop)]
+pub struct TypeName {
+    pub text: Shared<Text>,
+    pub cells: usize,
+}
+
 /// One instruction. Operands are numbers of 32 bits. A place is an operand too: the number of its cell in an object that the
-/// instruction names, and which tests it. A jump says how many instructions it passes. Only `EnterBack` and `TakeLine` lead
-/// back, after a turn.
+/// instruction names. In valid code the cells lie in that object, so a machine need not test a place. A jump says how many
+/// instructions it passes. Only `EnterBack` and `TakeLine` lead back, after a turn.
 #[derive(Drop)]
 pub enum Instr {
     Push(i32),
@@ -87,6 +94,19 @@ pub enum Instr {
     NamePlace(Root, usize),
     /// A name for an array, whose elements have so many cells.
     NameArray(Root, Length, usize),
+    /// A name for a record from this cell of an object on, which tells the record's type: the name of that type first, then
+    /// that of its base, and so on. The record takes the cells of the first, and the parameter counts on so many of them.
+    NameRecord(Root, SharedItems<TypeName>, usize),
+    /// Takes the place of what the running call's name of this number stands for: the same name once more, with the type that
+    /// it tells, for a parameter that counts on so many cells.
+    NameAgain(usize, usize),
+
+    /// Takes the place of what the name of this number stands for: whether it is of this record type, or of one that extends
+    /// it.
+    Test(usize, SharedItems<TypeName>),
+    /// The place of what the name of this number stands for stays. Unless that is of this record type, or of one that extends
+    /// it, a trap, which names this line.
+    Guard(usize, SharedItems<TypeName>, TrapKind, usize),
 
     Skip(usize),
     SkipIfZero(usize),
@@ -135,6 +155,8 @@ pub enum NameKind {
     Cells(usize),
     /// An array, whose elements have so many cells. How many elements there are the name says.
     ArrayOf(usize),
+    /// A record of at least so many cells, whose type the name tells.
+    RecordOf(usize),
 }
 
 /// What a call takes and leaves: operands and names for its parameters, what each of these names stands for, and whether it
@@ -184,12 +206,22 @@ pub struct CodeModule {
     pub imports: Vec<Entries>,
 }
 
-/// A name: what a VAR or structured parameter stands for. Of an open array also its length.
+/// The line that told the type of a record: its module, its procedure, and its place there.
+#[derive(Clone, Copy, PartialEq, Eq, Debug)]
+pub struct Told {
+    pub home: usize,
+    pub procedure: usize,
+    pub place: usize,
+}
+
+/// A name: what a VAR or structured parameter stands for. Of an open array also its length, and of a record the line that told
+/// its type.
 #[derive(Clone, Copy, PartialEq, Eq, Debug)]
 pub struct Name {
     pub address: usize,
     pub cells: usize,
     pub length: usize,
+    pub told: Told,
 }
 
 /// Where a run is: a module, a procedure, a line of it, and where its cells and its names begin.

@@ -13,6 +13,9 @@ pub enum Kind {
     /// The number of a name that stands for an array, the cells of an element, and so much: it is from 0 on, and at most so
     /// much after where the array's last element begins.
     Inside(usize, usize, usize),
+    /// The number of a name that stands for a record of at least so many cells, and so much: it is from 0 on, and at most so
+    /// much.
+    Guarded(usize, usize, usize),
     /// No run comes here: it is the number of an element of an array that has none.
     Absent,
 }

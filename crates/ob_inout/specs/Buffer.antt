@@ -36,8 +36,3 @@ IsAnswer (answers.Value chars) (answers.Value done) before after = after ≡ cha
 IsAnswer answers.Failed answers.Failed before after = after ≡ before
 IsAnswer answers.NeedsLine answers.NeedsLine before after = after ≡ before
 IsAnswer _ _ before after = ⊥
-
-abbrev pub is_value : {A : Type 0} → Answer A → Bool
-is_value (answers.Value value) = true
-is_value answers.Failed = false
-is_value answers.NeedsLine = false

@@ -35,7 +35,7 @@ impl Model for LineBuffer {
 impl LineBuffer {
     ghost use Rattle.std.specs.Prelude.{◌≡◌, ◌≤◌, ◌+◌, [], Some, length, take, drop, OnOk, OnErr};
     ghost use Rattle.ob_inout.specs.Reading as spec;
-    ghost use Rattle.ob_inout.specs.Buffer.{fresh, failed, skipped, is_some_left, advanced, with_word, IsAnswer, is_value};
+    ghost use Rattle.ob_inout.specs.Buffer.{fresh, failed, skipped, is_some_left, advanced, with_word, IsAnswer};
 
     /// An empty buffer, with `Done` TRUE, as at the start of a cell. It takes no memory.
     pub fn new(alloc: Global) -> LineBuffer
@@ -212,75 +212,5 @@ impl LineBuffer {
         };
         self.take_word(0, front.value, front.used);
         Answer::Value(())
-    }
-
-    // The characters that are left after the blanks.
-    fn behind_blanks(&self) -> &[u8]
-        ensures { result.now ≡ spec.after_blanks self.now.input.left }
-    {
-        let left = self.left();
-        &left[run_length(Run::Blanks, left)..]
-    }
-
-    /// Whether `read_char` would answer a value now.
-    #[tactic(auto, unfolding(crate::specs::Reading::read_char))]
-    pub fn has_char(&self) -> bool
-        ensures { result ≡ is_value (spec.read_char [] self.now.input).answer }
-    {
-        self.is_done() && !self.left().is_empty()
-    }
-
-    /// Whether `read_int` would answer a value now.
-    #[tactic(auto, unfolding(crate::specs::Reading::read_int))]
-    pub fn has_int(&self) -> bool
-        ensures { result ≡ is_value (spec.read_int [] self.now.input).answer }
-    {
-        if !self.is_done() {
-            return false;
-        }
-        let left = self.behind_blanks();
-        if left.is_empty() {
-            return false;
-        }
-        match integer(left) {
-            Some(_) => true,
-            None => false,
-        }
-    }
-
-    /// Whether `read_string` would answer a value now, where the variable has `size` elements.
-    #[tactic(auto, unfolding(crate::specs::Reading::read_string))]
-    pub fn has_string(&self, size: usize) -> bool
-        ensures { result ≡ is_value (spec.read_string size [] self.now.input).answer }
-    {
-        if !self.is_done() {
-            return false;
-        }
-        let left = self.behind_blanks();
-        if left.is_empty() {
-            return false;
-        }
-        match string(size, left) {
-            Some(_) => true,
-            None => false,
-        }
-    }
-
-    /// Whether `read_name` would answer a value now, where the variable has `size` elements.
-    #[tactic(auto, unfolding(crate::specs::Reading::read_name))]
-    pub fn has_name(&self, size: usize) -> bool
-        ensures { result ≡ is_value (spec.read_name size [] self.now.input).answer }
-    {
-        if !self.is_done() {
-            return false;
-        }
-        let left = self.behind_blanks();
-        if left.is_empty() {
-            return false;
-        }
-        match name(size, left) {
-            Some(_) => true,
-            None => false,
-        }
     }
 }

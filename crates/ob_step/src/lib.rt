@@ -8,6 +8,7 @@ pub mod objects;
 mod operands;
 pub mod output;
 mod places;
+mod records;
 pub mod state;
 pub mod step;
 mod texts;

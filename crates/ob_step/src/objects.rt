@@ -7,7 +7,7 @@ ghost use Rattle.ob_step.specs.States.{config_of};
 ghost use Rattle.ob_step.specs.Needs.{IsInside, RootIsThere, LengthIsThere, exported_in, CalleeIsThere};
 
 use crate::state::State;
-use ob_code::instr::{Extent, Length, LinkedModule, Name, Procedure, Root, Target};
+use ob_code::instr::{Extent, Length, LinkedModule, Name, Procedure, Root, Target, Told};
 use ob_mean::Callee;
 
 // The module of this number.
@@ -59,6 +59,17 @@ pub fn callee(code: &[LinkedModule], home: usize, callee: Callee) -> (usize, usi
     }
 }
 
+// What is told of an object that is no record, or of which nothing is asked.
+pub fn untold() -> Told
+    ensures { result ≡ spec.untold }
+{
+    Told {
+        home: 0,
+        procedure: 0,
+        place: 0,
+    }
+}
+
 fn part_of(base: usize, extent: Extent) -> Name
     requires { base + extent.from < 2 ^ 64 }
     ensures { result ≡ spec.part_of base extent }
@@ -67,6 +78,7 @@ fn part_of(base: usize, extent: Extent) -> Name
         address: base + extent.from,
         cells: extent.cells,
         length: 0,
+        told: untold(),
     }
 }
 

@@ -1,11 +1,11 @@
 // Instructions on texts.
 
-ghost use Rattle.std.specs.Prelude.{◌≡◌, ◌+◌, ◌<◌, ◌^◌, ◌++◌, map, length, string_bytes, OnOk, OnErr};
+ghost use Rattle.std.specs.Prelude.{◌≡◌, ◌+◌, ◌<◌, ◌≤◌, ◌^◌, ◌++◌, Some, map, length, string_bytes, OnOk, OnErr};
 ghost use Rattle.std.specs.Str.{bytes_eq};
 ghost use Rattle.ob_inout.specs.Writing.{string_text};
 ghost use Rattle.ob_mean.specs.Texts as texts;
 ghost use Rattle.ob_mean.specs.Arithmetic as spec;
-ghost use Rattle.ob_code.specs.Machine.{perform};
+ghost use Rattle.ob_code.specs.Machine.{within, elements as elements_of, object as object_of, perform};
 ghost use Rattle.ob_code.specs.Places.{top_of, under_top, IsTextIn};
 ghost use Rattle.ob_code.specs.declared.instr.Instr.TheVariants as instr;
 ghost use Rattle.ob_step.specs.States.{config_of};
@@ -71,6 +71,18 @@ fn compare(first: &[i32], second: &[i32]) -> (bool, bool)
     (b == 0, b > 0)
 }
 
+// Where the cells of a text begin, and how many there are.
+fn text_place(code: &[LinkedModule], state: &State, span: Span, k: i32) -> (usize, usize)
+    requires span { SpanIsThere code.now (config_of state.now) span }
+    requires cells { IsTextIn code.now (config_of state.now) span k }
+    ensures begins { within (object_of code.now (config_of state.now) span.root) k (elements_of (config_of state.now) span.length) ≡ Some result.0 }
+    ensures count { result.1 ≡ elements_of (config_of state.now) span.length }
+    ensures there { result.0 + result.1 ≤ length state.now.cells.items }
+{
+    let n = elements(state, span.length);
+    (place_in(object(code, state, span.root), k, n), n)
+}
+
 // Whether a relation holds of two texts.
 pub fn relate_texts(
     code: &[LinkedModule],
@@ -88,10 +100,8 @@ pub fn relate_texts(
     ensures { Performed (perform code.now (instr.RelateTexts relation first second) (config_of state.old)) state.old state.new result }
 {
     let (k, j) = top_two(state);
-    let n = elements(state, first.length);
-    let m = elements(state, second.length);
-    let a = place_in(object(code, state, first.root), k, n);
-    let b = place_in(object(code, state, second.root), j, m);
+    let (a, n) = text_place(code, state, first, k);
+    let (b, m) = text_place(code, state, second, j);
     let (equal, less) = compare(&state.cells[a..a + n], &state.cells[b..b + m]);
     replace_two(state, truth(holds(relation, equal, less)));
     Step::Moved

@@ -1,10 +1,12 @@
 -- What the tests of kinds rest on.
-use Rattle.std.proofs.Common.{◌≡◌, ℕ, suc, ◌+◌, ◌<◌, ◌≤◌, [], ◌∷◌, length, true, false, refl, ap, ◌∙◌, subst, ⊎_elim, arith}
-use Rattle.std.specs.Prelude.{nat_lt, nat_le, if◌then◌else◌}
+use Rattle.std.proofs.Common.{◌≡◌, ℕ, suc, ◌+◌, ◌<◌, ◌≤◌, [], ◌∷◌, Some, length, true, false, refl, ap, ◌∙◌, subst, ⊎_elim, arith}
+use Rattle.std.specs.Prelude.{slice_get, nat_lt, nat_le, if◌then◌else◌}
 use Rattle.std.proofs.lemmas.Bool.{cases_lt}
 use Rattle.std.proofs.lemmas.Bool.Decides.{nat_tests}
-use Rattle.ob_code.specs.declared.kinds.Kind.TheVariants.{Number, UpTo, Inside}
-use Rattle.ob_code.specs.Kinds.{Kinds, NameKinds, CoversAt, CoverAll, SameAt, low, inside}
+use Rattle.ob_code.specs.declared.kinds.Kind.TheVariants.{Number, UpTo, Inside, Guarded}
+use Rattle.ob_code.specs.declared.instr.TypeName.{TypeName}
+use Rattle.ob_code.specs.RecordTypes.{TypeNames, AtMost}
+use Rattle.ob_code.specs.Kinds.{Kinds, NameKinds, CoversAt, CoverAll, SameAt, low, inside, in_record}
 
 pub low_fits : (n : ℕ) → n < 2147483648 → low n ≡ UpTo n
 low_fits n lt = ap (λ b. if b then UpTo n else Number) yes
@@ -29,6 +31,23 @@ inside_far x size n lt = ap (λ b. if b then Inside x size n else Number) no
   where
     no : nat_le n size ≡ false
     no = grind (arith, nat_tests, lt)
+
+pub in_record_near : (x cells n : ℕ) → n ≤ cells → in_record x cells n ≡ Guarded x cells n
+in_record_near x cells n le = ap (λ b. if b then Guarded x cells n else Number) yes
+  where
+    yes : nat_le n cells ≡ true
+    yes = grind (arith, nat_tests, le)
+
+pub in_record_far : (x cells n : ℕ) → cells < n → in_record x cells n ≡ Number
+in_record_far x cells n lt = ap (λ b. if b then Guarded x cells n else Number) no
+  where
+    no : nat_le n cells ≡ false
+    no = grind (arith, nat_tests, lt)
+
+-- each takes no more cells
+pub all_at_most : (most : ℕ) (ts : TypeNames) → ((k : ℕ) (x : TypeName) → slice_get ts k ≡ Some x → x.cells ≤ most) → AtMost most ts
+all_at_most most [] h = tt
+all_at_most most (x ∷ xs) h = (h 0 x refl, all_at_most most xs (λ k y e. h (suc k) y e))
 
 -- each covers the one at its place
 pub all_covered : (es ks : Kinds) → length es ≡ length ks → ((i : ℕ) → i < length es → CoversAt es ks i) → CoverAll es ks

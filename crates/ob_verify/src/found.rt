@@ -3,7 +3,7 @@
 
 ghost use Rattle.std.specs.Prelude.{◌≡◌, ◌<◌, length, OnOk};
 
-use crate::kinds::{cover_all, either, element, first, literal, moved, second};
+use crate::kinds::{cells_of, cover_all, either, element, first, guarded, literal, moved, second};
 use crate::validate::entry_of;
 use ob_base::Items;
 use ob_code::instr::{CodeModule, Instr, NameKind, Procedure};
@@ -67,9 +67,16 @@ fn change_by(code: &CodeModule, instr: &Instr, kinds: &[Kind]) -> Change {
     match instr {
         Instr::Push(value) => leaving(0, literal(*value)),
         Instr::PushDone | Instr::Load(_) => leaving(0, Kind::Number),
-        Instr::Unary(_, _) | Instr::LoadAt(_) | Instr::TakeLength(_) => leaving(1, Kind::Number),
+        Instr::Unary(_, _) | Instr::LoadAt(_) | Instr::TakeLength(_) | Instr::Test(_, _) => leaving(
+            1,
+            Kind::Number,
+        ),
         Instr::Operate(_, _) | Instr::RelateTexts(_, _, _) => leaving(2, Kind::Number),
         Instr::AddOffset(cells) => leaving(1, moved(*cells, first(kinds))),
+        Instr::Guard(name, types, _, _) => {
+            let cells = cells_of(types.as_slice());
+            leaving(1, guarded(*name, cells, first(kinds)))
+        }
         Instr::Index(length, size, _) => leaving(2, element(*length, *size, second(kinds))),
         Instr::StoreAt(_) | Instr::AdjustAt(_, _) | Instr::Copy(_, _, _) | Instr::PutInt => taking(
             2,
@@ -85,6 +92,9 @@ fn change_by(code: &CodeModule, instr: &Instr, kinds: &[Kind]) -> Change {
         | Instr::PutText(_) => taking(1),
         Instr::NamePlace(_, cells) => naming(NameKind::Cells(*cells)),
         Instr::NameArray(_, _, size) => naming(NameKind::ArrayOf(*size)),
+        Instr::NameRecord(_, _, cells) | Instr::NameAgain(_, cells) => naming(NameKind::RecordOf(
+            *cells,
+        )),
         Instr::Invoke(callee, _) => calling(code, *callee),
         _ => taking(0),
     }

@@ -2,9 +2,10 @@
 
 ghost use Rattle.std.specs.Prelude.{◌≡◌, ℕ, ◌+◌, ◌<◌, ◌≤◌, length, IsTrue};
 ghost use Rattle.ob_code.specs.Kinds as spec;
+ghost use Rattle.ob_code.specs.RecordTypes as types_of;
 ghost use Rattle.ob_code.specs.Kinds.{Covers, CoversAt, CoverAll, SameAt};
 
-use ob_code::instr::{Length, NameKind};
+use ob_code::instr::{Length, NameKind, TypeName};
 use ob_code::kinds::Kind;
 
 // No number of 32 bits is this or more.
@@ -20,18 +21,28 @@ pub(crate) fn covers(expected: Kind, found: Kind) -> bool
             Kind::Number => false,
             Kind::UpTo(k) => k <= most,
             Kind::Inside(_, _, _) => false,
+            Kind::Guarded(_, _, _) => false,
             Kind::Absent => true,
         },
         Kind::Inside(name, size, most) => match found {
             Kind::Number => false,
             Kind::UpTo(_) => false,
             Kind::Inside(other, cells, k) => other == name && cells == size && k <= most,
+            Kind::Guarded(_, _, _) => false,
+            Kind::Absent => true,
+        },
+        Kind::Guarded(name, cells, most) => match found {
+            Kind::Number => false,
+            Kind::UpTo(_) => false,
+            Kind::Inside(_, _, _) => false,
+            Kind::Guarded(other, more, k) => other == name && cells <= more && k <= most,
             Kind::Absent => true,
         },
         Kind::Absent => match found {
             Kind::Number => false,
             Kind::UpTo(_) => false,
             Kind::Inside(_, _, _) => false,
+            Kind::Guarded(_, _, _) => false,
             Kind::Absent => true,
         },
     }
@@ -42,6 +53,13 @@ fn larger(one: usize, other: usize) -> usize
     ensures second { other ≤ result }
 {
     if one < other { other } else { one }
+}
+
+fn smaller(one: usize, other: usize) -> usize
+    ensures first { result ≤ one }
+    ensures second { result ≤ other }
+{
+    if one < other { one } else { other }
 }
 
 // What is known where one or the other is.
@@ -55,6 +73,9 @@ pub(crate) fn either(first: Kind, second: Kind) -> Kind
         (Kind::UpTo(most), Kind::UpTo(k)) => Kind::UpTo(larger(most, k)),
         (Kind::Inside(name, size, most), Kind::Inside(other, cells, k))
             if name == other && size == cells => { Kind::Inside(name, size, larger(most, k)) }
+        (Kind::Guarded(name, cells, most), Kind::Guarded(other, more, k)) if name == other => {
+            Kind::Guarded(name, smaller(cells, more), larger(most, k))
+        }
         _ => Kind::Number,
     }
 }
@@ -144,6 +165,17 @@ fn inside(name: usize, size: usize, most: usize, more: usize) -> Kind
     }
 }
 
+// So much and so much more, in a record that has so many cells
+#[tactic(auto, using(crate::proofs::Lows::in_record_far))]
+fn in_record(name: usize, cells: usize, most: usize, more: usize) -> Kind
+    ensures { result ≡ spec.in_record name cells (most + more) }
+{
+    match most.checked_add(more) {
+        Some(sum) if sum <= cells => Kind::Guarded(name, cells, sum),
+        _ => Kind::Number,
+    }
+}
+
 pub(crate) fn moved(cells: usize, kind: Kind) -> Kind
     ensures { result ≡ spec.moved cells kind }
 {
@@ -151,6 +183,7 @@ pub(crate) fn moved(cells: usize, kind: Kind) -> Kind
         Kind::Number => Kind::Number,
         Kind::UpTo(most) => more(most, cells),
         Kind::Inside(name, size, most) => inside(name, size, most, cells),
+        Kind::Guarded(name, all, most) => in_record(name, all, most, cells),
         Kind::Absent => Kind::Absent,
     }
 }
@@ -183,6 +216,20 @@ fn one_inside(count: usize, by: usize, name: usize, size: usize, most: usize) ->
     }
 }
 
+// The same within a record
+#[tactic(auto, using(crate::proofs::Lows::in_record_far))]
+fn one_in_record(count: usize, by: usize, name: usize, cells: usize, most: usize) -> Kind
+    ensures { result ≡ spec.one_in_record count by name cells most }
+{
+    if count == 0 {
+        return Kind::Absent;
+    }
+    match (count - 1).checked_mul(by) {
+        Some(far) => in_record(name, cells, most, far),
+        None => Kind::Number,
+    }
+}
+
 pub(crate) fn element(length: Length, size: usize, kind: Kind) -> Kind
     ensures { result ≡ spec.element length size kind }
 {
@@ -195,6 +242,31 @@ pub(crate) fn element(length: Length, size: usize, kind: Kind) -> Kind
             one_inside(count, size, name, whole, most)
         }
         (Kind::Inside(_, _, _), Length::OfName(_)) => Kind::Number,
+        (Kind::Guarded(name, cells, most), Length::Elements(count)) => {
+            one_in_record(count, size, name, cells, most)
+        }
+        (Kind::Guarded(_, _, _), Length::OfName(_)) => Kind::Number,
+    }
+}
+
+// A place from which a guard went on
+pub(crate) fn guarded(name: usize, cells: usize, kind: Kind) -> Kind
+    ensures { result ≡ spec.guarded name cells kind }
+{
+    match kind {
+        Kind::Number | Kind::Inside(_, _, _) => Kind::Number,
+        Kind::UpTo(most) | Kind::Guarded(_, _, most) => Kind::Guarded(name, cells, most),
+        Kind::Absent => Kind::Absent,
+    }
+}
+
+// How many cells a record of this type takes
+pub(crate) fn cells_of(types: &[TypeName]) -> usize
+    ensures { result ≡ types_of.cells_of types.now }
+{
+    match types {
+        [] => 0,
+        [first, ..] => first.cells,
     }
 }
 
@@ -205,6 +277,7 @@ fn name_is(one: NameKind, other: NameKind) -> bool
     match (one, other) {
         (NameKind::Cells(cells), NameKind::Cells(others)) => cells == others,
         (NameKind::ArrayOf(cells), NameKind::ArrayOf(others)) => cells == others,
+        (NameKind::RecordOf(cells), NameKind::RecordOf(others)) => cells == others,
         _ => false,
     }
 }

@@ -1,14 +1,17 @@
 // Whether so much is known of the operands and names before each line.
 
 ghost use Rattle.std.specs.Prelude.{◌≡◌, ℕ, ◌++◌, ◌-◌, ◌<◌, ◌≤◌, [], ◌∷◌, length, take, drop, option_copied, IsTrue, Some, slice_get};
-ghost use Rattle.ob_code.specs.Kinds.{LieAmong, LieInElement, LieInName, Lie, IsLong, ArrayLies, TextLies, TargetLies, LengthIs, IsFew, ArePassed, CoverAll, with_top, results_kinds, nothing, OperandsArrive, NamesArrive, Arrives, known_at, listed, Keeps, HasKinds};
+ghost use Rattle.ob_code.specs.Kinds.{LieAmong, LieInElement, LieInRecord, LieInName, Lie, IsLong, ArrayLies, TextLies, TargetLies, LengthIs, TellsType, IsFew, ArePassed, CoverAll, with_top, results_kinds, nothing, OperandsArrive, NamesArrive, Arrives, known_at, listed, Keeps, HasKinds};
+ghost use Rattle.ob_code.specs.RecordTypes.{AtMost};
 ghost use Rattle.ob_code.specs.declared.instr.Line.{Line as LineOf};
 ghost use Rattle.ob_code.specs.declared.instr.NameKind.TheVariants.{ArrayOf};
 
-use crate::kinds::{NUMBERS, are_same, cover_all, covers, element, first, literal, moved, second};
+use crate::kinds::{
+    NUMBERS, are_same, cells_of, cover_all, covers, element, first, guarded, literal, moved, second,
+};
 use crate::validate::entry_of;
 use ob_code::instr::{
-    CodeModule, Entry, Instr, Length, Line, NameKind, Procedure, Root, Span, Target,
+    CodeModule, Entry, Instr, Length, Line, NameKind, Procedure, Root, Span, Target, TypeName,
 };
 use ob_code::kinds::{Kind, Known};
 
@@ -19,6 +22,7 @@ fn lie_among(cells: usize, kind: Kind, count: usize) -> bool
         Kind::Number => false,
         Kind::UpTo(most) => most <= cells && count <= cells - most,
         Kind::Inside(_, _, _) => false,
+        Kind::Guarded(_, _, _) => false,
         Kind::Absent => true,
     }
 }
@@ -27,9 +31,22 @@ fn lie_in_element(name: usize, size: usize, kind: Kind, count: usize) -> bool
     ensures { IsTrue result → LieInElement name size kind count }
 {
     match kind {
-        Kind::Number | Kind::UpTo(_) => false,
+        Kind::Number | Kind::UpTo(_) | Kind::Guarded(_, _, _) => false,
         Kind::Inside(other, cells, most) => {
             other == name && cells == size && most <= size && count <= size - most
+        }
+        Kind::Absent => true,
+    }
+}
+
+fn lie_in_record(name: usize, cells: usize, kind: Kind, count: usize) -> bool
+    ensures { IsTrue result → LieInRecord name cells kind count }
+{
+    match kind {
+        Kind::Number | Kind::Inside(_, _, _) => false,
+        Kind::UpTo(most) => most <= cells && count <= cells - most,
+        Kind::Guarded(other, more, most) => {
+            other == name && most <= more && count <= more - most
         }
         Kind::Absent => true,
     }
@@ -41,6 +58,9 @@ fn lie_in_name(named: Option<&NameKind>, name: usize, kind: Kind, count: usize) 
     match named {
         Some(NameKind::Cells(cells)) => *cells >= NUMBERS || lie_among(*cells, kind, count),
         Some(NameKind::ArrayOf(size)) => lie_in_element(name, *size, kind, count),
+        Some(NameKind::RecordOf(cells)) => {
+            *cells >= NUMBERS || lie_in_record(name, *cells, kind, count)
+        }
         None => false,
     }
 }
@@ -113,6 +133,28 @@ fn length_is(names: &[NameKind], length: Length, size: usize) -> bool
         Length::Elements(_) => true,
         Length::OfName(name) => is_array(names, name, size),
     }
+}
+
+// A name that tells the type of a record.
+fn tells_type(named: Option<&NameKind>) -> bool
+    ensures { IsTrue result → TellsType (option_copied named.entry) }
+{
+    match named {
+        Some(NameKind::RecordOf(_)) => true,
+        _ => false,
+    }
+}
+
+// Records of these types take no more cells.
+fn are_at_most(most: usize, types: &[TypeName]) -> bool
+    ensures { IsTrue result → AtMost most types.now }
+{
+    for place in 0..types.len() {
+        if types[place].cells > most {
+            return false;
+        }
+    }
+    true
 }
 
 fn is_few(root: Root) -> bool
@@ -396,6 +438,53 @@ fn object_keeps(
         }
         Instr::PutText(span) => text_lies(own, *span, top)
             && leads(procedure, rows, known, next, 1, None),
+        _ => record_keeps(code, procedure, rows, known, place, instr),
+    }
+}
+
+// An instruction on the type of a record.
+fn record_keeps(
+    code: &CodeModule,
+    procedure: &Procedure,
+    rows: &[Known],
+    known: &Known,
+    place: usize,
+    instr: &Instr,
+) -> bool
+    requires { place < length procedure.now.lines.items }
+    ensures { IsTrue result → Keeps code.now procedure.now (listed rows.now) place known.now instr.now }
+{
+    let next = place + 1;
+    let own = procedure.entry.kinds.as_slice();
+    let top = first(known.operands.as_slice());
+    match instr {
+        Instr::NameRecord(root, types, cells) => {
+            let taken = cells_of(types.as_slice());
+            lie(own, *root, top, taken)
+                && is_few(*root)
+                && *cells <= taken
+                && are_at_most(taken, types.as_slice())
+                && names_one(procedure, rows, known, next, NameKind::RecordOf(*cells))
+        }
+        Instr::NameAgain(name, cells) => {
+            tells_type(own.get(*name))
+                && lie(own, Root::Named(*name), top, *cells)
+                && names_one(procedure, rows, known, next, NameKind::RecordOf(*cells))
+        }
+        Instr::Test(name, _) => tells_type(own.get(*name))
+            && leads(procedure, rows, known, next, 1, Some(Kind::Number)),
+        Instr::Guard(name, types, _, _) => {
+            let cells = cells_of(types.as_slice());
+            tells_type(own.get(*name))
+                && leads(
+                    procedure,
+                    rows,
+                    known,
+                    next,
+                    1,
+                    Some(guarded(*name, cells, top)),
+                )
+        }
         _ => jump_keeps(code, procedure, rows, known, place, instr),
     }
 }

@@ -407,6 +407,36 @@ fn object_fits(code: &CodeModule, procedure: &Procedure, place: usize, line: &Li
                 && operands >= 1
                 && leads(procedure, next, operands - 1, names)
         }
+        _ => record_fits(code, procedure, place, line),
+    }
+}
+
+// An instruction on the type of a record.
+fn record_fits(code: &CodeModule, procedure: &Procedure, place: usize, line: &Line) -> bool
+    requires { place < length procedure.now.lines.items }
+    ensures { IsTrue result → Fits code.now procedure.now procedure.now.lines.items place line.now.operands line.now.names line.now.instr }
+{
+    let operands = line.operands;
+    let names = line.names;
+    let next = place + 1;
+    match &line.instr {
+        Instr::NameRecord(root, _, _) => {
+            root_fits(code, procedure, *root)
+                && operands >= 1
+                && names < procedure.name_room
+                && names_one(procedure, next, operands - 1, names)
+        }
+        Instr::NameAgain(name, _) => {
+            *name < procedure.entry.names
+                && operands >= 1
+                && names < procedure.name_room
+                && names_one(procedure, next, operands - 1, names)
+        }
+        Instr::Test(name, _) | Instr::Guard(name, _, _, _) => {
+            *name < procedure.entry.names
+                && operands >= 1
+                && leads(procedure, next, operands, names)
+        }
         _ => jump_fits(code, procedure, place, line),
     }
 }

@@ -9,18 +9,18 @@ ghost use Rattle.ob_vm.specs.Images.{IsOf};
 use ob_code::instr::{CodeModule, LinkedModule};
 use ob_gen::module_code;
 use ob_image::push_opening;
-use ob_mean::{Face, Loaded, TypedModule};
+use ob_mean::{Face, Loaded};
 use ob_reference_store::stop::NoAnswer;
 use ob_verify::linked::are_linked;
 use ob_verify::validate::validate;
 use ob_vm::{Image, Machine};
 use std::alloc::Global;
 
-/// A module's code, which validation has to accept.
-fn code_of(alloc: Global, known: &[Face], tree: &TypedModule) -> Result<CodeModule, NoAnswer>
+/// Code, which validation has to accept.
+fn valid(alloc: Global, code: CodeModule) -> Result<CodeModule, NoAnswer>
     ensures { IfOk result IsMeasured }
 {
-    match validate(alloc, module_code(alloc, known, tree)?)? {
+    match validate(alloc, code)? {
         Some(code) => Ok(code.into_code()),
         None => Err(NoAnswer),
     }
@@ -39,7 +39,7 @@ fn add(
 {
     let imports = module.imports.as_slice();
     let known = if imports.is_empty() { &[] } else { known };
-    let code = code_of(alloc, known, &module.tree)?;
+    let code = valid(alloc, module_code(alloc, known, &module.tree)?)?;
     modules.push(LinkedModule {
         code,
         imports: Vec::from_slice(alloc, imports)?,
@@ -72,12 +72,32 @@ pub(crate) fn image_of(
         add(alloc, &mut modules, cells.len(), known, module)?;
         push_opening(&mut cells, module.tree.variables.as_slice())?;
     }
+    linked(alloc, modules, cells)
+}
+
+/// The image of modules, all of which may run.
+fn linked(alloc: Global, modules: Vec<LinkedModule>, cells: Vec<i32>) -> Result<Image, NoAnswer>
+    requires { All (λ (l : ModuleOf). IsMeasured l.code) modules.items }
+{
     let may_run = vec![in alloc; true; modules.len()]?;
     if are_linked(&modules, &may_run) && have_cells(&modules, cells.len()) {
         Ok(Image::of(modules, may_run, cells))
     } else {
         Err(NoAnswer)
     }
+}
+
+/// The image of one module that imports nothing, whose cells are 0.
+pub(crate) fn image_of_code(alloc: Global, code: CodeModule) -> Result<Image, NoAnswer> {
+    let cells = vec![in alloc; 0i32; code.cells]?;
+    let code = valid(alloc, code)?;
+    let mut modules = Vec::new(alloc);
+    modules.push(LinkedModule {
+        code,
+        imports: Vec::new(alloc),
+        cells: 0,
+    })?;
+    linked(alloc, modules, cells)
 }
 
 fn runs(may_run: &[bool], home: usize) -> bool

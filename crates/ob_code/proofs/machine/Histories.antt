@@ -25,11 +25,12 @@ use Rattle.ob_code.specs.declared.instr.Length.TheVariants.{Elements, OfName}
 use Rattle.ob_code.specs.declared.instr.Target.{Target}
 use Rattle.ob_code.specs.declared.instr.Target.TheVariants as target
 use Rattle.ob_code.specs.declared.instr.Instr.{Instr}
-use Rattle.ob_code.specs.declared.instr.Instr.TheVariants.{Push, Drop, PushDone, Unary, Operate, Load, Store, LoadAt, StoreAt, AdjustAt, AddOffset, Index, TakeLength, Copy, StoreText, RelateTexts, NamePlace, NameArray, Skip, SkipIfZero, SkipIfWithin, Enter, EnterBack, Trap, Assert, Invoke, OpenInput, CallInput, Read, AskLine, TakeLine, OpenOutput, PutChar, PutText, PutInt, PutLine}
+use Rattle.ob_code.specs.declared.instr.Instr.TheVariants.{Push, Drop, PushDone, Unary, Operate, Load, Store, LoadAt, StoreAt, AdjustAt, AddOffset, Index, TakeLength, Copy, StoreText, RelateTexts, NamePlace, NameArray, NameRecord, NameAgain, Test, Guard, Skip, SkipIfZero, SkipIfWithin, Enter, EnterBack, Trap, Assert, Invoke, OpenInput, CallInput, Read, AskLine, TakeLine, OpenOutput, PutChar, PutText, PutInt, PutLine}
 use Rattle.ob_code.specs.declared.instr.Line.{Line}
 use Rattle.ob_code.specs.declared.instr.Procedure.{Procedure}
 use Rattle.ob_code.specs.declared.instr.Frame.{Frame}
-use Rattle.ob_code.specs.Machine.{Code, Config, Effect, Moves, Turns, Reads, Fails, Finishes, Misses, procedure_in, lines_of, go, on, with_names, object, elements, within, at_cells, overwritten, put, with_buffer, text_cells, characters_at, on_top, on_two, operated, indexed, stored_text, target_of, number_of, found, invoked, returned, found_in, target_object, kept, perform, act, effect, Point, Going, Standing, Lost, take_effect, after, Comes}
+use Rattle.ob_code.specs.RecordTypes.{extends, cells_of}
+use Rattle.ob_code.specs.Machine.{Code, Config, Effect, Moves, Turns, Reads, Fails, Finishes, Misses, procedure_in, lines_of, go, on, with_names, untold, name_at, type_of, object, elements, within, at_cells, overwritten, put, with_buffer, text_cells, characters_at, on_top, on_two, operated, indexed, stored_text, target_of, number_of, found, invoked, returned, found_in, target_object, kept, perform, act, effect, Point, Going, Standing, Lost, take_effect, after, Comes}
 use Rattle.ob_code.proofs.machine.Runs.{stays, goes_on, moves, takes_turn, has_no_turn, takes_line, has_no_line, finishes, fails, after-standing, after-lost}
 
 abbrev standing_supply : Point → Supply → Supply
@@ -124,6 +125,10 @@ module _ (code : Code) (c : Config) where
   perform_writes (RelateTexts r s t) = on_two_writes c.stack _ (λ k j rest. at_cells_writes (within (object code c s.root) k (elements c s.length)) _ (λ a. at_cells_writes (within (object code c t.root) j (elements c t.length)) _ (λ b. refl)))
   perform_writes (NamePlace r n) = on_top_writes c.stack _ (λ k rest. at_cells_writes (within (object code c r) k n) _ (λ a. refl))
   perform_writes (NameArray r n size) = on_top_writes c.stack _ (λ k rest. at_cells_writes (within (object code c r) k (elements c n * size)) _ (λ a. refl))
+  perform_writes (NameRecord r type n) = on_top_writes c.stack _ (λ k rest. at_cells_writes (within (object code c r) k (cells_of type)) _ (λ a. refl))
+  perform_writes (NameAgain x n) = on_top_writes c.stack _ (λ k rest. refl)
+  perform_writes (Test x type) = on_top_writes c.stack _ (λ k rest. refl)
+  perform_writes (Guard x type kind line) = cond_writes (extends (type_of code (name_at c x)) type) _ _ refl tt
   perform_writes (Skip n) = refl
   perform_writes (SkipIfZero n) = on_top_writes c.stack _ (λ v rest. choose_writes v _ _ refl refl)
   perform_writes (SkipIfWithin low high n) = on_top_writes c.stack _ (λ v rest. refl)
@@ -444,10 +449,10 @@ module _ (code : Code) (p : List ℕ) (c : Config) where
       ∙ on_two_prefixed c.stack _ _ (λ k j rest. cells_prefixed s k n _ _ (λ a. cells_prefixed t j m _ _ (λ b. refl)))
 
   array_prefixed : (r : Root) (size n m : ℕ) → m ≡ n
-      → on_top c.stack (λ k rest. at_cells (within (object code (prefixed p c) r) k (m * size)) (λ a. Moves (with_names (on (prefixed p c) rest (prefixed p c).memory) (c.names ++ (record { address = a; cells = m * size; length = m }) ∷ []))))
-      ≡ prefixed_effect p (on_top c.stack (λ k rest. at_cells (within (object code c r) k (n * size)) (λ a. Moves (with_names (on c rest c.memory) (c.names ++ (record { address = a; cells = n * size; length = n }) ∷ [])))))
+      → on_top c.stack (λ k rest. at_cells (within (object code (prefixed p c) r) k (m * size)) (λ a. Moves (with_names (on (prefixed p c) rest (prefixed p c).memory) (c.names ++ (record { address = a; cells = m * size; length = m; told = untold }) ∷ []))))
+      ≡ prefixed_effect p (on_top c.stack (λ k rest. at_cells (within (object code c r) k (n * size)) (λ a. Moves (with_names (on c rest c.memory) (c.names ++ (record { address = a; cells = n * size; length = n; told = untold }) ∷ [])))))
   array_prefixed r size n m e =
-      ap (λ x. on_top c.stack (λ k rest. at_cells (within (object code (prefixed p c) r) k (x * size)) (λ a. Moves (with_names (on (prefixed p c) rest (prefixed p c).memory) (c.names ++ (record { address = a; cells = x * size; length = x }) ∷ []))))) e
+      ap (λ x. on_top c.stack (λ k rest. at_cells (within (object code (prefixed p c) r) k (x * size)) (λ a. Moves (with_names (on (prefixed p c) rest (prefixed p c).memory) (c.names ++ (record { address = a; cells = x * size; length = x; told = untold }) ∷ []))))) e
       ∙ on_top_prefixed c.stack _ _ (λ k rest. cells_prefixed r k (n * size) _ _ (λ a. refl))
 
   shown_prefixed : (r : Root) (n m : ℕ) → m ≡ n
@@ -476,6 +481,10 @@ module _ (code : Code) (p : List ℕ) (c : Config) where
   perform_prefixed (RelateTexts r s t) = texts_prefixed r s.root t.root (elements c s.length) (elements (prefixed p c) s.length) (elements c t.length) (elements (prefixed p c) t.length) (elements_prefixed s.length) (elements_prefixed t.length)
   perform_prefixed (NamePlace r n) = on_top_prefixed c.stack _ _ (λ k rest. cells_prefixed r k n _ _ (λ a. refl))
   perform_prefixed (NameArray r n size) = array_prefixed r size (elements c n) (elements (prefixed p c) n) (elements_prefixed n)
+  perform_prefixed (NameRecord r type n) = on_top_prefixed c.stack _ _ (λ k rest. cells_prefixed r k (cells_of type) _ _ (λ a. refl))
+  perform_prefixed (NameAgain x n) = on_top_prefixed c.stack _ _ (λ k rest. refl)
+  perform_prefixed (Test x type) = on_top_prefixed c.stack _ _ (λ k rest. refl)
+  perform_prefixed (Guard x type kind line) = cond_prefixed (extends (type_of code (name_at c x)) type) _ _ _ _ refl refl
   perform_prefixed (Skip n) = refl
   perform_prefixed (SkipIfZero n) = on_top_prefixed c.stack _ _ (λ v rest. choose_prefixed v _ _ _ _ refl refl)
   perform_prefixed (SkipIfWithin low high n) = on_top_prefixed c.stack _ _ (λ v rest. refl)

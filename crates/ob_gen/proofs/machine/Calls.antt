@@ -28,7 +28,7 @@ use Rattle.ob_code.specs.declared.instr.Instr.TheVariants.{Invoke}
 use Rattle.ob_code.specs.declared.instr.Line.{Line}
 use Rattle.ob_code.specs.declared.instr.Name.{Name}
 use Rattle.ob_code.specs.declared.instr.Root.TheVariants as root
-use Rattle.ob_code.specs.Machine.{Code, Config, Point, Going, Standing, no_name, procedure_in as code_procedure_in, number_of, lines_in as lines_of_procedure, invoked, found as enters, entry_cells, act, take_effect, Comes}
+use Rattle.ob_code.specs.Machine.{Code, Config, Point, Going, Standing, untold, no_name, procedure_in as code_procedure_in, number_of, lines_in as lines_of_procedure, invoked, found as enters, entry_cells, act, take_effect, Comes}
 use Rattle.ob_gen.specs.Code.{line, extent_at, parameter_row, own_row, named_before, list_code, result_code}
 use Rattle.ob_gen.specs.Correct.{IsCodeOfProgram}
 use Rattle.ob_code.proofs.machine.Runs.{stays, steps_on, performs}
@@ -175,7 +175,7 @@ module _ (program : Program) (code : Code) (faces : ℕ → List Face) (runs : �
     own_names x o e =
         let n = names_own s c.tree.parameters c.tree.variables a x o passed e in
         let y = named_before c.tree.parameters x in
-        let name : Name = record { address = offset s n.place; cells = size (get s n.place); length = n.many } in
+        let name : Name = record { address = offset s n.place; cells = size (get s n.place); length = n.many; told = untold } in
         let at_y : slice_get (outer ++ fresh) (length outer + y) ≡ Some name = get_right outer fresh y ∙ n.found in
         let is_name : rooted code r' (root.Named y) ≡ name = get_or_from_slice_get (outer ++ fresh) (length outer + y) name no_name at_y in
         let off = offset-front s tail n.place n.leads in

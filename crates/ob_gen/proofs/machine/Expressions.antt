@@ -27,7 +27,7 @@ use Rattle.ob_mean.specs.WellFormed.{Object, Of, Names, object_of, elements_in, 
 use Rattle.ob_code.specs.declared.instr.Instr.TheVariants.{Push, PushDone, Unary, Operate, Load, LoadAt, AddOffset, Index, TakeLength, RelateTexts, NamePlace, NameArray, Skip, SkipIfZero, Invoke}
 use Rattle.ob_code.specs.declared.instr.Line.{Line}
 use Rattle.ob_code.specs.declared.instr.Name.{Name}
-use Rattle.ob_code.specs.Machine.{Code, Config, Effect, Moves, Fails, cell, perform, Point, Going, Standing, object, elements, picture, within, at_cells, operated, indexed, with_names, characters_at, take_effect, Comes}
+use Rattle.ob_code.specs.Machine.{Code, Config, Effect, Moves, Fails, cell, perform, Point, Going, Standing, object, elements, picture, within, at_cells, operated, indexed, with_names, characters_at, take_effect, Comes, untold}
 use Rattle.ob_gen.specs.Code.{line, root_of, root_in, zero_in, zero_element, cells_of, element_cells, length_of, span_of, and_code, or_code, row_values, row_names, value_one, name_one, expr_code, read_code, offset_code, operations_code, every_code, either_code, argument_code, arguments_code}
 use Rattle.ob_code.proofs.machine.Runs.{stays, goes_on, performs}
 use Rattle.ob_gen.proofs.machine.Reaches.{HasAt, has_front, has_back, Running, conf, here, lines_in, Halts, Good, Reaches, AnyNumber, SoMany, ties, then_comes, moved, skips, skip_runs, one_runs, two_runs, Same}
@@ -246,7 +246,7 @@ module _ (code : Code) (r : Running) (s : Value) (names : Names) (scope : Scope)
       let low = root_fits code r s names scope frame d (Of t) e in
       let cells : cells_of names d ≡ size (get s p) = ap (λ x. size (zero_in x)) e ∙ ap size (sym f.is) in
       let end : List Name → Point = λ all. Going n (record { at = (conf r (pc + 1) stack pending w).at; stack = stack ++ r.under; names = all; frames = r.frames; memory = picture w }) in
-      let name : ℕ → ℕ → Name = λ a m. record { address = a; cells = m; length = 0 } in
+      let name : ℕ → ℕ → Name = λ a m. record { address = a; cells = m; length = 0; told = untold } in
       let go : ℕ → ℕ → Effect = λ m a. Moves (with_names (conf r (pc + 1) stack pending w) ((r.below ++ pending) ++ name a m ∷ [])) in
       let small : size (get s p) < cell_limit = let b = low.low in omega (arith, f.ends, f.from, b) in (
         g,
@@ -268,7 +268,7 @@ module _ (code : Code) (r : Running) (s : Value) (names : Names) (scope : Scope)
       let each : element_cells names d ≡ size (zero_of t) = ap (λ x. size (zero_element (elements_in x))) e ∙ ap (λ x. size (zero_element x)) a in
       let whole : count (get s p) * size (zero_of t) ≡ size (get s p) = sym (ap size is_row ∙ size-row (count (get s p)) (zero_of t)) in
       let end : List Name → Point = λ all. Going n (record { at = (conf r (pc + 1) stack pending w).at; stack = stack ++ r.under; names = all; frames = r.frames; memory = picture w }) in
-      let name : ℕ → ℕ → ℕ → Name = λ a m l. record { address = a; cells = m; length = l } in
+      let name : ℕ → ℕ → ℕ → Name = λ a m l. record { address = a; cells = m; length = l; told = untold } in
       let go : ℕ → ℕ → ℕ → Effect = λ m l a. Moves (with_names (conf r (pc + 1) stack pending w) ((r.below ++ pending) ++ name a m l ∷ [])) in
       let small : size (get s p) < cell_limit = let b = low.low in omega (arith, f.ends, f.from, b) in
       let now : count (get w.store p) ≡ count (get s p) = count_at w p g.fits in

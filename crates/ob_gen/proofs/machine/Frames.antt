@@ -15,6 +15,7 @@ use Rattle.ob_mean.specs.Programs.{Program, opening_store}
 use Rattle.ob_mean.specs.WellFormed.{Object, Of, OpenOf, module_object, shape_object, value_object, own_object, named_object, StartWith, cell_limit}
 use Rattle.ob_code.specs.declared.instr.Extent.{Extent}
 use Rattle.ob_code.specs.declared.instr.Name.{Name}
+use Rattle.ob_code.specs.Machine.{untold}
 use Rattle.ob_gen.specs.Code.{extent_at, parameter_value, parameter_row, named_one, named_before}
 use Rattle.ob_gen.specs.Correct.{named_count, parameter_count}
 use Rattle.ob_gen.proofs.machine.Store.{Inside, IsRow, size-shape, count-append, item-front, before-front, name_is, open_is}
@@ -104,7 +105,7 @@ pub record NamesAt (s : Value) (u : Value) (names : List Name) (x y : ℕ) (o : 
   pub many : ℕ
   pub there : x < count u
   pub called : (v : Value) → shape v ≡ item u x → named v ≡ place
-  pub found : slice_get names y ≡ Some (record { address = offset s place; cells = size (get s place); length = many })
+  pub found : slice_get names y ≡ Some (record { address = offset s place; cells = size (get s place); length = many; told = untold })
   pub leads : Inside s place
   pub is : IsObject s many o place
   pub low : size (get s place) < cell_limit

@@ -12,7 +12,7 @@ use Rattle.ob_mean.specs.Expressions.{Scope, only}
 use Rattle.ob_mean.specs.WellFormed.{Names, called, cell_limit}
 use Rattle.ob_code.specs.declared.instr.Instr.TheVariants.{Invoke}
 use Rattle.ob_code.specs.declared.instr.Name.{Name}
-use Rattle.ob_code.specs.Machine.{Code}
+use Rattle.ob_code.specs.Machine.{Code, untold}
 use Rattle.ob_gen.specs.Code.{line}
 use Rattle.ob_gen.proofs.machine.Reaches.{Running, lines_in, here, Good, Reaches, SoMany}
 use Rattle.ob_gen.proofs.machine.Store.{Inside}
@@ -31,8 +31,8 @@ PassedFit s (p ∷ ps) a = (v : Value) × (rest : Value) × (a ≡ Beside v rest
 -- the names that are pending for it
 abbrev pub one_name : Value → Value → List Name
 one_name s (Cell z) = []
-one_name s (Named p) = record { address = offset s p; cells = size (get s p); length = 0 } ∷ []
-one_name s (Open p k) = record { address = offset s p; cells = size (get s p); length = k } ∷ []
+one_name s (Named p) = record { address = offset s p; cells = size (get s p); length = 0; told = untold } ∷ []
+one_name s (Open p k) = record { address = offset s p; cells = size (get s p); length = k; told = untold } ∷ []
 one_name s Nothing = []
 one_name s (Beside v rest) = []
 

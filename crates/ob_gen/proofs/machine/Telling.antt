@@ -6,7 +6,7 @@ use Rattle.std.proofs.lemmas.Bool.Decides.{nat_tests}
 use Rattle.ob_mean.specs.declared.statement.LabelRange.{LabelRange}
 use Rattle.ob_mean.specs.declared.operator.UnaryOperator.TheVariants.{Not}
 use Rattle.ob_code.specs.declared.kinds.Kind.{Kind}
-use Rattle.ob_code.specs.declared.kinds.Kind.TheVariants.{Number, UpTo, Inside, Absent}
+use Rattle.ob_code.specs.declared.kinds.Kind.TheVariants.{Number, UpTo, Inside, Guarded as InRecord, Absent}
 use Rattle.ob_code.specs.declared.kinds.Known.{Known}
 use Rattle.ob_code.specs.declared.instr.Instr.TheVariants as instr
 use Rattle.ob_code.specs.declared.instr.Line.{Line}
@@ -34,6 +34,7 @@ covers_self : (k : Kind) → Covers k k
 covers_self Number = tt
 covers_self (UpTo most) = omega arith
 covers_self (Inside x size most) = (refl, refl, omega arith)
+covers_self (InRecord x cells most) = (refl, omega arith, omega arith)
 covers_self Absent = tt
 
 covers_trans : (a b c : Kind) → Covers a b → Covers b c → Covers a c
@@ -42,25 +43,45 @@ covers_trans (UpTo n) Number c x y = absurd x
 covers_trans (UpTo n) (UpTo k) Number x y = absurd y
 covers_trans (UpTo n) (UpTo k) (UpTo j) x y = omega (arith, x, y)
 covers_trans (UpTo n) (UpTo k) (Inside p q r) x y = absurd y
+covers_trans (UpTo n) (UpTo k) (InRecord p q r) x y = absurd y
 covers_trans (UpTo n) (UpTo k) Absent x y = tt
 covers_trans (UpTo n) (Inside p q r) c x y = absurd x
+covers_trans (UpTo n) (InRecord p q r) c x y = absurd x
 covers_trans (UpTo n) Absent Number x y = absurd y
 covers_trans (UpTo n) Absent (UpTo j) x y = absurd y
 covers_trans (UpTo n) Absent (Inside p q r) x y = absurd y
+covers_trans (UpTo n) Absent (InRecord p q r) x y = absurd y
 covers_trans (UpTo n) Absent Absent x y = tt
 covers_trans (Inside d e f) Number c x y = absurd x
 covers_trans (Inside d e f) (UpTo k) c x y = absurd x
 covers_trans (Inside d e f) (Inside g h i) Number x y = absurd y
 covers_trans (Inside d e f) (Inside g h i) (UpTo k) x y = absurd y
 covers_trans (Inside d e f) (Inside g h i) (Inside p q r) x y = (y.0 ∙ x.0, y.1 ∙ x.1, omega (arith, x.2, y.2))
+covers_trans (Inside d e f) (Inside g h i) (InRecord p q r) x y = absurd y
 covers_trans (Inside d e f) (Inside g h i) Absent x y = tt
+covers_trans (Inside d e f) (InRecord g h i) c x y = absurd x
 covers_trans (Inside d e f) Absent Number x y = absurd y
 covers_trans (Inside d e f) Absent (UpTo k) x y = absurd y
 covers_trans (Inside d e f) Absent (Inside p q r) x y = absurd y
+covers_trans (Inside d e f) Absent (InRecord p q r) x y = absurd y
 covers_trans (Inside d e f) Absent Absent x y = tt
+covers_trans (InRecord d e f) Number c x y = absurd x
+covers_trans (InRecord d e f) (UpTo k) c x y = absurd x
+covers_trans (InRecord d e f) (Inside g h i) c x y = absurd x
+covers_trans (InRecord d e f) (InRecord g h i) Number x y = absurd y
+covers_trans (InRecord d e f) (InRecord g h i) (UpTo k) x y = absurd y
+covers_trans (InRecord d e f) (InRecord g h i) (Inside p q r) x y = absurd y
+covers_trans (InRecord d e f) (InRecord g h i) (InRecord p q r) x y = (y.0 ∙ x.0, omega (arith, x.1, y.1), omega (arith, x.2, y.2))
+covers_trans (InRecord d e f) (InRecord g h i) Absent x y = tt
+covers_trans (InRecord d e f) Absent Number x y = absurd y
+covers_trans (InRecord d e f) Absent (UpTo k) x y = absurd y
+covers_trans (InRecord d e f) Absent (Inside p q r) x y = absurd y
+covers_trans (InRecord d e f) Absent (InRecord p q r) x y = absurd y
+covers_trans (InRecord d e f) Absent Absent x y = tt
 covers_trans Absent Number c x y = absurd x
 covers_trans Absent (UpTo k) c x y = absurd x
 covers_trans Absent (Inside p q r) c x y = absurd x
+covers_trans Absent (InRecord p q r) c x y = absurd x
 covers_trans Absent Absent c x y = y
 
 pub cover_self : (ks : Kinds) → CoverAll ks ks

@@ -40,10 +40,10 @@ use Rattle.ob_mean.specs.Values.{Value, append, count, size, item, before, row}
 use Rattle.ob_mean.specs.Shapes.{zero_of, zeros, opening_row}
 use Rattle.ob_mean.specs.WellFormed.{face_object, own_object, Object, Of, OpenOf, Names, is_there, object_of, variable_object, elements_in, called, named_object, IsBasic, IsText, ExprFits, ExprsFit, OperationsFit, IndexesFit, IsPassed, RowPassed, ListPassed, IsRead, InputFits, OutputFits, ActionFits, HeadFits, StatFits, StatsFit, BranchesFit, ArmsFit, ListFits, ResultFits, ShapesFit, VariablesFit, FacesFit, names_in, names_of, ProceduresFit, IsWellFormed}
 use Rattle.ob_code.specs.declared.kinds.Kind.{Kind}
-use Rattle.ob_code.specs.declared.kinds.Kind.TheVariants.{Number, UpTo, Inside, Absent}
+use Rattle.ob_code.specs.declared.kinds.Kind.TheVariants.{Number, UpTo, Inside, Guarded as InRecord, Absent}
 use Rattle.ob_code.specs.declared.kinds.Known.{Known}
 use Rattle.ob_code.specs.declared.instr.NameKind.{NameKind}
-use Rattle.ob_code.specs.declared.instr.NameKind.TheVariants.{Cells, ArrayOf}
+use Rattle.ob_code.specs.declared.instr.NameKind.TheVariants.{Cells, ArrayOf, RecordOf}
 use Rattle.ob_code.specs.declared.instr.Extent.{Extent}
 use Rattle.ob_code.specs.declared.instr.Root.{Root}
 use Rattle.ob_code.specs.declared.instr.Root.TheVariants as root
@@ -56,7 +56,7 @@ use Rattle.ob_code.specs.declared.instr.Entry.{Entry}
 use Rattle.ob_code.specs.declared.instr.Procedure.{Procedure}
 use Rattle.ob_code.specs.declared.instr.CodeModule.{CodeModule}
 use Rattle.ob_code.specs.Valid.{entry_of}
-use Rattle.ob_code.specs.Kinds.{Kinds, NameKinds, Rows, Covers, LieAmong, LieInElement, LieInName, Lie, IsLong, ArrayLies, TextLies, TargetLies, LengthIs, IsFew as FewCells, ArePassed, literal, low, inside, moved, element, operands_of, names_of as passed_names, entry_results, results_kinds, nothing, Arrives, known_at, Keeps, HasKinds, IsMeasured}
+use Rattle.ob_code.specs.Kinds.{Kinds, NameKinds, Rows, Covers, LieAmong, LieInElement, LieInRecord, LieInName, Lie, IsLong, ArrayLies, TextLies, TargetLies, LengthIs, IsFew as FewCells, ArePassed, literal, low, inside, in_record, moved, element, operands_of, names_of as passed_names, entry_results, results_kinds, nothing, Arrives, known_at, Keeps, HasKinds, IsMeasured}
 use Rattle.ob_gen.specs.Code.{line, extent_at, parameter_row, own_row, face_row, root_of, root_in, zero_in, zero_element, cells_of, length_in, length_of, span_of, element_cells, and_code, or_code, value_one, name_one, row_values, row_names, list_values, list_names, read_code, expr_code, offset_code, operations_code, every_code, either_code, argument_code, arguments_code, passed_code, target_of, input_code, output_code, assign_code, action_code, Guarded, loop_code, for_relation, for_guard, for_step, for_code, stat_code, stats_code, branches, arms_code, list_code, result_code, procedure_code, named_before, name_number}
 use Rattle.ob_gen.specs.Correct.{named_count, name_kind, name_kinds, IsCodeOf, AreCompiled}
 use Rattle.ob_gen.specs.Generated.{valued_count, heading_entry, IsGenerated}
@@ -94,6 +94,7 @@ moved_among : (cells : ℕ) (k : Kind) (n by size : ℕ) → by + size ≤ n →
 moved_among cells Number n by size le few h = absurd h
 moved_among cells (UpTo most) n by size le few h = low_lies cells (most + by) size (omega (arith, le, h)) few
 moved_among cells (Inside y whole most) n by size le few h = absurd h
+moved_among cells (InRecord y more most) n by size le few h = absurd h
 moved_among cells Absent n by size le few h = tt
 
 moved_inside : (x whole : ℕ) (k : Kind) (n by size : ℕ) → by + size ≤ n → LieInElement x whole k n → LieInElement x whole (moved by k) size
@@ -102,12 +103,35 @@ moved_inside x whole (UpTo most) n by size le h = absurd h
 moved_inside x whole (Inside y part most) n by size le h =
     subst (λ z. LieInElement x whole (inside z part (most + by)) size) (sym h.0)
     (subst (λ z. LieInElement x whole (inside x z (most + by)) size) (sym h.1) (inside_lies x whole (most + by) size (omega (arith, le, h.2))))
+moved_inside x whole (InRecord y more most) n by size le h = absurd h
 moved_inside x whole Absent n by size le h = tt
+
+low_in_record : (x cells most size : ℕ) → most + size ≤ cells → cells < 2147483648 → LieInRecord x cells (low most) size
+low_in_record x cells most size le few = subst (λ b. LieInRecord x cells (if b then UpTo most else Number) size) (sym fits) le
+  where
+    fits : nat_lt most 2147483648 ≡ true
+    fits = grind (arith, nat_tests, le, few)
+
+-- more cells where a guard found more
+more_in_record : (x cells more most n : ℕ) → most + n ≤ more → LieInRecord x cells (in_record x more most) n
+more_in_record x cells more most n le = subst (λ b. LieInRecord x cells (if b then InRecord x more most else Number) n) (sym fits) (refl, le)
+  where
+    fits : nat_le most more ≡ true
+    fits = grind (arith, nat_tests, le)
+
+moved_in_record : (x cells : ℕ) (k : Kind) (n by size : ℕ) → by + size ≤ n → cells < 2147483648 → LieInRecord x cells k n → LieInRecord x cells (moved by k) size
+moved_in_record x cells Number n by size le few h = absurd h
+moved_in_record x cells (UpTo most) n by size le few h = low_in_record x cells (most + by) size (omega (arith, le, h)) few
+moved_in_record x cells (Inside y whole most) n by size le few h = absurd h
+moved_in_record x cells (InRecord y more most) n by size le few h =
+    subst (λ z. LieInRecord x cells (in_record z more (most + by)) size) (sym h.0) (more_in_record x cells more (most + by) size (omega (arith, le, h.1)))
+moved_in_record x cells Absent n by size le few h = tt
 
 moved_in_name : (o : Option NameKind) (x : ℕ) (k : Kind) (n by size : ℕ) → by + size ≤ n → LieInName o x k n → LieInName o x (moved by k) size
 moved_in_name None x k n by size le h = absurd h
 moved_in_name (Some (Cells cells)) x k n by size le h = λ few. moved_among cells k n by size le few (h few)
 moved_in_name (Some (ArrayOf whole)) x k n by size le h = moved_inside x whole k n by size le h
+moved_in_name (Some (RecordOf cells)) x k n by size le h = λ few. moved_in_record x cells k n by size le few (h few)
 
 moved_lies : (ns : NameKinds) (r : Root) (k : Kind) (n by size : ℕ) → by + size ≤ n → FewCells r → Lie ns r k n → Lie ns r (moved by k) size
 moved_lies ns (root.OfModule e) k n by size le few h = moved_among e.cells k n by size le few h
@@ -119,6 +143,7 @@ element_among : (cells : ℕ) (k : Kind) (n size : ℕ) → cells < 2147483648 �
 element_among cells Number n size few h = absurd h
 element_among cells Absent n size few h = tt
 element_among cells (Inside y whole most) n size few h = absurd h
+element_among cells (InRecord y more most) n size few h = absurd h
 element_among cells (UpTo most) zero size few h = tt
 element_among cells (UpTo most) (suc n) size few h =
     let sum : suc n * size ≡ size + n * size = grind arith in
@@ -128,22 +153,38 @@ element_inside : (x whole : ℕ) (k : Kind) (n size : ℕ) → LieInElement x wh
 element_inside x whole Number n size h = absurd h
 element_inside x whole Absent n size h = tt
 element_inside x whole (UpTo most) n size h = absurd h
+element_inside x whole (InRecord y more most) n size h = absurd h
 element_inside x whole (Inside y part most) zero size h = tt
 element_inside x whole (Inside y part most) (suc n) size h =
     let sum : suc n * size ≡ size + n * size = grind arith in
     subst (λ z. LieInElement x whole (inside z part (most + n * size)) size) (sym h.0)
     (subst (λ z. LieInElement x whole (inside x z (most + n * size)) size) (sym h.1) (inside_lies x whole (most + n * size) size (omega (arith, h.2, sum))))
 
+element_in_record : (x cells : ℕ) (k : Kind) (n size : ℕ) → cells < 2147483648 → LieInRecord x cells k (n * size) → LieInRecord x cells (element (Elements n) size k) size
+element_in_record x cells Number n size few h = absurd h
+element_in_record x cells Absent n size few h = tt
+element_in_record x cells (Inside y whole most) n size few h = absurd h
+element_in_record x cells (UpTo most) zero size few h = tt
+element_in_record x cells (UpTo most) (suc n) size few h =
+    let sum : suc n * size ≡ size + n * size = grind arith in
+    low_in_record x cells (most + n * size) size (omega (arith, h, sum)) few
+element_in_record x cells (InRecord y more most) zero size few h = tt
+element_in_record x cells (InRecord y more most) (suc n) size few h =
+    let sum : suc n * size ≡ size + n * size = grind arith in
+    subst (λ z. LieInRecord x cells (in_record z more (most + n * size)) size) (sym h.0) (more_in_record x cells more (most + n * size) size (omega (arith, h.1, sum)))
+
 element_in_name : (o : Option NameKind) (x : ℕ) (k : Kind) (n size : ℕ) → LieInName o x k (n * size) → LieInName o x (element (Elements n) size k) size
 element_in_name None x k n size h = absurd h
 element_in_name (Some (Cells cells)) x k n size h = λ few. element_among cells k n size few (h few)
 element_in_name (Some (ArrayOf whole)) x k n size h = element_inside x whole k n size h
+element_in_name (Some (RecordOf cells)) x k n size h = λ few. element_in_record x cells k n size few (h few)
 
 -- an element of a name's array, which begins with the name's first cell
 first_lies : (x size : ℕ) (k : Kind) → Covers (UpTo 0) k → LieInElement x size (element (OfName x) size k) size
 first_lies x size Number c = absurd c
 first_lies x size Absent c = tt
 first_lies x size (Inside y whole most) c = absurd c
+first_lies x size (InRecord y more most) c = absurd c
 first_lies x size (UpTo most) c = inside_lies x size most size (omega (arith, c))
 
 element_lies : (ns : NameKinds) (r : Root) (n : Length) (size : ℕ) (k : Kind) → FewCells r → ArrayLies ns r n size k → Lie ns r (element n size k) size
