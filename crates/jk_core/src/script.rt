@@ -334,7 +334,7 @@ impl<T: Drop> Script<T> {
         match execute_sent(&self.requests[place].what) {
             None => unreachable!(),
             Some(execute) => {
-                let text = execute.code.copy()?;
+                let text = execute.code.value().copy()?;
                 self.given = number;
                 Ok(Some(Job { number, text }))
             }
@@ -547,7 +547,7 @@ fn can_keep<T>(
         return false;
     }
     match execute_sent(&request.what) {
-        Some(execute) => execute.code.as_str() == text.as_str(),
+        Some(execute) => execute.code.value().as_str() == text.as_str(),
         None => false,
     }
 }

@@ -14,8 +14,7 @@ use crate::kernel::Work;
 use crate::script::Script;
 use crate::taking::fail;
 use jk_language::{Language, Turned};
-use jk_log::{Cause, Ending, Kind};
-use json_form::Text;
+use jk_log::{Cause, Ending, Kind, Written};
 
 /// Runs a cell for at most so many turns, flushes it, and closes the slice by its answer.
 pub(crate) fn go_on<L: Language>(
@@ -35,7 +34,7 @@ pub(crate) fn go_on<L: Language>(
     let limit = used + turns.min(u64::MAX - used);
     let answer = advance::<L>(script, &mut active, limit);
     let turns = L::used(&active.machine);
-    let text = Text::from_string(L::take_output(&mut active.machine));
+    let text = Written::from_string(L::take_output(&mut active.machine));
     let Some(answer) = answer else {
         script.note(active.at, Kind::Flush { turns, text });
         active.read = false;
@@ -102,7 +101,7 @@ fn flush<T: Drop, M>(
     answer: &Turned,
     active: &Active<M>,
     turns: u64,
-    text: Text,
+    text: Written,
 )
     requires room { 0 < script.old.room }
     requires runs { RunsAt active.now.at script.old.state.log }

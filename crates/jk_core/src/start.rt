@@ -14,9 +14,8 @@ use crate::script::{Script, Task};
 use crate::slice::go_on;
 use crate::taking::fail;
 use jk_language::{Begun, Language, Refusal};
-use jk_log::{Arrival, Ending, Kind, Parsed, execute_sent};
+use jk_log::{Arrival, Ending, Kind, Parsed, Written, execute_sent};
 use jp_msg::Execute;
-use json_form::Text;
 use std::alloc::Global;
 
 /// The execute request that arrived at a place.
@@ -229,7 +228,7 @@ fn end_broken<L: Language>(
     let count = next_count(script, at, &request, desk.count);
     desk.count = count;
     script.note_of(at, Kind::Begin { count }, request);
-    let text = Text::from_string(String::new(desk.alloc));
+    let text = Written::from_string(String::new(desk.alloc));
     script.note(at, Kind::Flush { turns: 0, text });
     let ending = Ending::Refused(refusal);
     script.note(at, Kind::End { ending, count });

@@ -9,7 +9,7 @@ ghost use Rattle.jk_core.specs.Kept.{IsKept, IsLineBy, IsLineFor, Stands, Stands
 use crate::desk::{Active, Desk, Place, Wants, take_place};
 use crate::script::{Popped, Script, closing_kind};
 use jk_language::Language;
-use jk_log::{Arrival, Cause, Kind, Sort, input_sent, sort_of, status_of};
+use jk_log::{Arrival, Cause, Kind, Sort, Written, input_sent, sort_of, status_of};
 use json_form::Text;
 use std::alloc::{AllocError, AllocFailed};
 
@@ -220,7 +220,7 @@ fn stop<L: Language>(
                 machine,
                 ..
             } = active;
-            let text = Text::from_string(String::new(desk.alloc));
+            let text = Written::from_string(String::new(desk.alloc));
             let turns = L::used(&machine);
             script.note(at, Kind::Flush { turns, text });
             let count = desk.count;

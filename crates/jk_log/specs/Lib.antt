@@ -8,3 +8,4 @@ pub mod Render
 pub mod Pending
 pub mod Leaving
 pub mod View
+pub mod Texts

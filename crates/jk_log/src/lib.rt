@@ -9,6 +9,7 @@ mod leaves;
 mod mark;
 mod query;
 mod show;
+mod written;
 
 pub use arrival::{Arrival, Sort, What, execute_sent, input_sent, sort_of};
 pub use entry::{Entry, To, Told};
@@ -17,3 +18,4 @@ pub use leaves::Leaves;
 pub use mark::{Cause, Ending, Item, Kind, Mark};
 pub use query::status_of;
 pub use show::add_entries;
+pub use written::Written;

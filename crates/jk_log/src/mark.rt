@@ -1,6 +1,7 @@
 //! What the kernel writes down.
 
 use crate::arrival::Arrival;
+use crate::written::Written;
 use jk_language::{Refusal, Trap};
 use jp_msg::Completeness;
 use json_form::Text;
@@ -34,7 +35,7 @@ pub enum Kind {
     /// The turns so far, and the output since the last flush.
     Flush {
         turns: u64,
-        text: Text,
+        text: Written,
     },
     /// The cell asks its seat for a line.
     Ask,

@@ -132,7 +132,7 @@ fn add_begun(
     if execute.silent {
         return Ok(());
     }
-    let code = execute.code.copy()?;
+    let code = execute.code.another()?;
     let execution_count = count;
     let input = Output::ExecuteInput {
         code,
@@ -177,7 +177,7 @@ fn add_shown(
             if execute.silent || text.as_str().is_empty() {
                 return Ok(());
             }
-            let output = Output::stream_of(alloc, text.copy()?)?;
+            let output = Output::Stream(text.shared(alloc)?);
             add_iopub(entries, parent, output)
         }
         Kind::End { ending, count } => {

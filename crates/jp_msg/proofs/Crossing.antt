@@ -20,23 +20,23 @@ header_send = search (json_send, text.the_send, sendable) depth 20
 header_sync : IsSync header.the_field.row
 header_sync = search (json_sync, text.the_sync, sendable) depth 20
 
+pub shared_text_send : IsSend (Shared.the_row Text.the_row)
+shared_text_send = shared.the_send Text.the_row text.the_send text.the_sync
+
+pub shared_text_sync : IsSync (Shared.the_row Text.the_row)
+shared_text_sync = shared.the_sync Text.the_row text.the_send text.the_sync
+
 execute_send : IsSend execute.the_field.row
-execute_send = search (json_send, text.the_send, sendable) depth 20
+execute_send = search (json_send, shared_text_send, sendable) depth 20
 
 execute_sync : IsSync execute.the_field.row
-execute_sync = search (json_sync, text.the_sync, sendable) depth 20
+execute_sync = search (json_sync, shared_text_sync, sendable) depth 20
 
 request_send : IsSend request.the_field.row
 request_send = search (execute_send, text.the_send, whole.the_send, sendable) depth 20
 
 request_sync : IsSync request.the_field.row
 request_sync = search (execute_sync, text.the_sync, whole.the_sync, sendable) depth 20
-
-shared_text_send : IsSend (Shared.the_row Text.the_row)
-shared_text_send = shared.the_send Text.the_row text.the_send text.the_sync
-
-shared_text_sync : IsSync (Shared.the_row Text.the_row)
-shared_text_sync = shared.the_sync Text.the_row text.the_send text.the_sync
 
 pub output_send : IsSend output.the_field.row
 output_send = search (shared_text_send, text.the_send, whole.the_send, sendable) depth 20

@@ -12,6 +12,20 @@ use crate::writing::header_value;
 use json_form::{Json, Shared, Text, Whole};
 use std::alloc::{AllocError, Global};
 
+/// A text that several may keep, of which each owner is one more count and no copy.
+///
+/// # Errors
+///
+/// Out of memory.
+pub fn shared_text(alloc: Global, text: &str) -> Result<Shared<Text>, AllocError>
+    ensures { IfOk result (λ t. t ≡ text.now) }
+{
+    match Shared::share(alloc, Text::from_str(alloc, text)?) {
+        Ok(shared) => Ok(shared),
+        Err(_) => Err(AllocError),
+    }
+}
+
 impl Output {
     /// `status`: the kernel is busy or idle with its parent.
     pub fn status(execution_state: State) -> Output
@@ -29,7 +43,7 @@ impl Output {
         ensures { IfOk result (λ o. o ≡ ExecuteInput code.now execution_count) }
     {
         Ok(Self::ExecuteInput {
-            code: Text::from_str(alloc, code)?,
+            code: shared_text(alloc, code)?,
             execution_count,
         })
     }
@@ -38,17 +52,7 @@ impl Output {
     pub fn stream(alloc: Global, text: &str) -> Result<Output, AllocError>
         ensures { IfOk result (λ o. o ≡ Stream text.now) }
     {
-        Self::stream_of(alloc, Text::from_str(alloc, text)?)
-    }
-
-    /// `stream`, of a text that is taken over.
-    pub fn stream_of(alloc: Global, text: Text) -> Result<Output, AllocError>
-        ensures { IfOk result (λ o. o ≡ Stream text) }
-    {
-        match Shared::share(alloc, text) {
-            Ok(shared) => Ok(Self::Stream(shared)),
-            Err(_) => Err(AllocError),
-        }
+        Ok(Self::Stream(shared_text(alloc, text)?))
     }
 
     /// `error`: a cell's error, whose value may be empty.

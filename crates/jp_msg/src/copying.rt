@@ -76,7 +76,7 @@ impl Execute {
         ensures { IfOk result (λ e. e ≡ self.now) }
     {
         Ok(Execute {
-            code: self.code.copy()?,
+            code: self.code.another()?,
             silent: self.silent,
             store_history: self.store_history,
             user_expressions: self.user_expressions.copy()?,
@@ -96,7 +96,7 @@ impl Output {
                 code,
                 execution_count,
             } => Ok(Output::ExecuteInput {
-                code: code.copy()?,
+                code: code.another()?,
                 execution_count: *execution_count,
             }),
             Output::Stream(text) => Ok(Output::Stream(text.another()?)),

@@ -8,7 +8,7 @@ mod message;
 mod reading;
 mod writing;
 
-pub use building::Stamp;
+pub use building::{Stamp, shared_text};
 pub use json_form::{Bad, Fault};
 pub use message::{
     Channel, Completeness, Content, Execute, Failure, Header, Message, Outcome, Output, Request,

@@ -67,7 +67,8 @@ pub enum Request {
 /// A cell to be run.
 #[derive(Drop)]
 pub struct Execute {
-    pub code: Text,
+    /// Copies share it, as does what is shown as the cell begins.
+    pub code: Shared<Text>,
     pub silent: bool,
     pub store_history: bool,
     pub user_expressions: Json,
@@ -95,8 +96,11 @@ pub enum RequestKind {
 #[derive(Drop)]
 pub enum Output {
     Status(State),
-    /// A cell that begins, and its count.
-    ExecuteInput { code: Text, execution_count: u64 },
+    /// A cell that begins, and its count. Copies share its text.
+    ExecuteInput {
+        code: Shared<Text>,
+        execution_count: u64,
+    },
     /// What a cell wrote. Copies share its text.
     Stream(Shared<Text>),
     Error(Failure),
@@ -105,13 +109,17 @@ pub enum Output {
     KernelInfoReply,
     IsCompleteReply(Completeness),
     /// No completions, at the place of the cursor.
-    CompleteReply { cursor_pos: Whole },
+    CompleteReply {
+        cursor_pos: Whole,
+    },
     InspectReply,
     HistoryReply,
     CommInfoReply,
     InterruptReply,
     /// `restart` says whether the kernel starts again.
-    ShutdownReply { restart: bool },
+    ShutdownReply {
+        restart: bool,
+    },
 }
 
 #[derive(Clone, Copy, Debug, PartialEq, Eq)]

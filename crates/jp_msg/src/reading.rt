@@ -8,6 +8,7 @@ ghost use Rattle.jp_msg.specs.TextForms.{IsMessage, IsMessageText};
 ghost use Rattle.jp_msg.specs.declared.message.Message.{Message};
 ghost use Rattle.jp_msg.specs.Reading.{fault_number, value_at, message_at, message_of, header_of, channel_at, channel_named, content_of, request_of, execute_of, kind_of, shell_kind, control_kind, stdin_kind};
 
+use crate::building::shared_text;
 use crate::message::{Channel, Content, Execute, Header, Message, Request, RequestKind};
 use json_form::{
     Bad, Fault, Json, Text, Whole, boolean_field_or, no_items_field, object_field,
@@ -274,7 +275,7 @@ fn execute(alloc: Global, value: &Value) -> Result<Execute, Bad>
     let allow_stdin = boolean_field_or(value, "allow_stdin", true)?;
     let stop_on_error = boolean_field_or(value, "stop_on_error", true)?;
     Ok(Execute {
-        code: Text::from_str(alloc, code)?,
+        code: shared_text(alloc, code)?,
         silent,
         store_history,
         user_expressions,

@@ -108,7 +108,7 @@ fn execute_value(alloc: Global, execute: &Execute) -> Result<Value, AllocError>
 {
     json!(in alloc; {
         "allow_stdin": execute.allow_stdin,
-        "code": execute.code.as_str(),
+        "code": execute.code.value().as_str(),
         "silent": execute.silent,
         "stop_on_error": execute.stop_on_error,
         "store_history": execute.store_history,
@@ -133,7 +133,7 @@ fn output_value(alloc: Global, output: &Output) -> Result<Value, AllocError>
         Output::ExecuteInput {
             code,
             execution_count,
-        } => execute_input_value(alloc, code, *execution_count),
+        } => execute_input_value(alloc, code.value(), *execution_count),
         Output::Stream(text) => stream_value(alloc, text.value()),
         Output::Error(failure) => error_value(alloc, failure),
         Output::InputRequest => input_request_value(alloc),
