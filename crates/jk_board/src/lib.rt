@@ -5,6 +5,7 @@ pub mod board;
 pub mod follower;
 pub mod marks;
 pub mod news;
+pub mod owner;
 pub mod posted;
 pub mod publisher;
 pub mod rule;

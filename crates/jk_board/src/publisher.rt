@@ -6,6 +6,7 @@ ghost use Rattle.jk_log.specs.contracts.entry.Entry as entry;
 ghost use Rattle.jk_board.specs.Posted.{Shows};
 
 use crate::marks::Marks;
+use crate::owner::Owner;
 use crate::posted::Posted;
 use crate::rule::{Grows, Seen};
 use jk_language::Language;
@@ -58,6 +59,7 @@ pub type Copies<L> = Writer<Posted, Replace, Seen, Grows<L>>;
 pub struct Publisher<L: Language> {
     pub(crate) copies: Copies<L>,
     pub(crate) marks: Arc<Marks, Global>,
+    pub(crate) owner: Owner,
     ghost nothing_pending: { drop copies.behind copies.log.items ≡ [] },
     ghost saw_all: { Shows (view copies.desk.place).seen copies.desk.shown.value } by { ×_prop le_prop (Coded-set (coded_list entry.the_row.coded) _ _) },
 }

@@ -22,7 +22,7 @@ pub fn bytes_of(entries: &[Entry]) -> usize {
 /// The bytes of an output's texts.
 fn text_bytes(output: &Output) -> usize {
     match output {
-        Output::ExecuteInput { code, .. } => code.as_str().len(),
+        Output::ExecuteInput { code, .. } => code.value().as_str().len(),
         Output::Stream(text) => text.value().as_str().len(),
         Output::Error(failure) => failure_bytes(failure),
         Output::ExecuteReply(Outcome::Failed { failure, .. }) => failure_bytes(failure),

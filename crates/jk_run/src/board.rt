@@ -3,7 +3,7 @@ ghost use Rattle.std.specs.Prelude.{◌≡◌, ◌++◌, true, None, Some, lengt
 ghost use Rattle.jk_log.specs.Render.{render};
 ghost use Rattle.jk_log.specs.Pending.{joined};
 ghost use Rattle.jk_core.specs.Steps.{without};
-ghost use Rattle.jk_board.specs.Ends.{published};
+ghost use Rattle.jk_board.specs.Ends.{published, publisher_of};
 ghost use Rattle.jk_run.specs.Driver.{Publishes};
 ghost use Rattle.jk_run.specs.Hand.{hand_entries};
 
@@ -26,6 +26,7 @@ pub(crate) fn publish_pending<L: Language, R: Wait>(
 ) -> (Publisher<L>, Option<Vec<Entry>>, bool)
     requires { published publisher ++ joined kernel.old.pending ≡ render kernel.old.log }
     ensures log { kernel.new.log ≡ kernel.old.log }
+    ensures own { publisher_of result.0 ≡ publisher_of publisher }
     ensures shown { published result.0 ++ (hand_entries result.1 ++ joined kernel.new.pending) ≡ render kernel.new.log }
     ensures all { result.2 ≡ true → (result.1 ≡ None) × (kernel.new ≡ without (length kernel.old.pending) kernel.old) }
     ensures acts { Publishes L.spoken kernel.old (published publisher) result.1 kernel.new (published result.0) }
@@ -73,7 +74,8 @@ pub(crate) fn publish_hand<L: Language, R: Wait>(
     spare: &mut Spare,
 ) -> (Publisher<L>, Option<Vec<Entry>>)
     requires { published publisher ++ (hand_entries entries ++ joined kernel.now.pending) ≡ render kernel.now.log }
-    ensures { MatchOption result.1 (published result.0 ≡ published publisher ++ hand_entries entries) (λ back. (entries ≡ Some back) × (published result.0 ≡ published publisher)) }
+    ensures own { publisher_of result.0 ≡ publisher_of publisher }
+    ensures published { MatchOption result.1 (published result.0 ≡ published publisher ++ hand_entries entries) (λ back. (entries ≡ Some back) × (published result.0 ≡ published publisher)) }
 {
     match entries {
         Some(entries) => publish(rt, alloc, kernel, publisher, entries, spare),
@@ -92,7 +94,8 @@ fn publish<L: Language, R: Wait>(
     spare: &mut Spare,
 ) -> (Publisher<L>, Option<Vec<Entry>>)
     requires { published publisher ++ (entries.items ++ joined kernel.now.pending) ≡ render kernel.now.log }
-    ensures { MatchOption result.1 (published result.0 ≡ published publisher ++ entries.items) (λ back. (back ≡ entries) × (published result.0 ≡ published publisher)) }
+    ensures own { publisher_of result.0 ≡ publisher_of publisher }
+    ensures published { MatchOption result.1 (published result.0 ≡ published publisher ++ entries.items) (λ back. (back ≡ entries) × (published result.0 ≡ published publisher)) }
 {
     if entries.is_empty() {
         return (publisher.let_go(rt, alloc), None);
@@ -119,7 +122,8 @@ fn try_publish<L: Language, R: Wait>(
     entries: Vec<Entry>,
 ) -> (Publisher<L>, Option<Vec<Entry>>)
     requires { published publisher ++ (entries.items ++ joined kernel.now.pending) ≡ render kernel.now.log }
-    ensures { MatchOption result.1 (published result.0 ≡ published publisher ++ entries.items) (λ back. (back ≡ entries) × (published result.0 ≡ published publisher)) }
+    ensures own { publisher_of result.0 ≡ publisher_of publisher }
+    ensures published { MatchOption result.1 (published result.0 ≡ published publisher ++ entries.items) (λ back. (back ≡ entries) × (published result.0 ≡ published publisher)) }
 {
     kernel.legal();
     let (publisher, done) = publisher.publish(rt, alloc, entries);

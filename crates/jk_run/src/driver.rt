@@ -4,8 +4,8 @@ ghost use Rattle.jk_log.specs.Log.{takes};
 ghost use Rattle.jk_log.specs.Render.{render};
 ghost use Rattle.jk_core.specs.State.{fresh};
 ghost use Rattle.jk_log.specs.Pending.{joined};
-ghost use Rattle.jk_queues.specs.Ends.{taken_by};
-ghost use Rattle.jk_board.specs.Ends.{published};
+ghost use Rattle.jk_queues.specs.Ends.{taken_by, taker_inbox};
+ghost use Rattle.jk_board.specs.Ends.{published, publisher_of};
 ghost use Rattle.jk_run.specs.Hand.{hand, hand_entries};
 
 use jk_board::Publisher;
@@ -31,6 +31,8 @@ pub struct Driver<L: Language> {
     pub(crate) spare: Spare,
     /// The arrivals that the kernel took, and then the one in hand, are those that the taker took.
     ghost took: { takes kernel.log ++ hand arrival ≡ taken_by taker },
+    /// The board was made for the kernel that takes from this inbox.
+    ghost own: { publisher_of publisher ≡ taker_inbox taker },
     /// What was published, what is in hand and what is pending are what is shown of the log.
     ghost shown: { published publisher ++ (hand_entries entries ++ joined kernel.pending) ≡ render kernel.log },
 }
@@ -47,7 +49,7 @@ pub struct Parts<L: Language> {
 }
 
 impl<L: Language> Driver<L> {
-    /// The driver of a kernel that has taken nothing, with new ends.
+    /// The driver of a kernel that has taken nothing, with new ends. The board was made for the inbox from which the taker takes.
     pub fn new(
         alloc: Global,
         kernel: Kernel<L>,
@@ -58,6 +60,7 @@ impl<L: Language> Driver<L> {
         requires kernel { kernel ≡ fresh }
         requires taker { taken_by taker ≡ [] }
         requires publisher { published publisher ≡ [] }
+        requires own { publisher_of publisher ≡ taker_inbox taker }
         ensures kernel { result.kernel ≡ kernel }
         ensures ends { (result.taker ≡ taker) × (result.pool ≡ pool) × (result.publisher ≡ publisher) }
         ensures hands { (result.arrival ≡ None) × (result.job ≡ None) × (result.entries ≡ None) }

@@ -4,17 +4,22 @@ use Rattle.jk_log.specs.declared.entry.Entry.{Entry}
 use Rattle.jk_queues.specs.declared.inbox.Seat.{Seat}
 use Rattle.jk_queues.specs.Ends.{seat_inbox, sent_by}
 use Rattle.jk_board.specs.Boards.{StartsWith}
-use Rattle.jk_board.specs.Ends.{read_by}
+use Rattle.jk_board.specs.Ends.{board_of, read_by}
 use Rattle.js_home.specs.Served.{HasServed}
 use Rattle.js_home.specs.declared.free.Free.{Free}
 
 module _ {L S T M : Type 0} where
+  -- both have a follower of the board of their seat's inbox
+  same_board : (old new : Free L S T M) → seat_inbox new.seat ≡ seat_inbox old.seat → board_of new.follower ≡ board_of old.follower
+  same_board old new inbox = new.own ∙ (inbox ∙ sym old.own)
+
   -- nothing was sent and nothing read
   pub unserved : (old new : Free L S T M) → seat_inbox new.seat ≡ seat_inbox old.seat → new.seat.place ≡ old.seat.place
       → sent_by new.seat ≡ sent_by old.seat → read_by new.follower ≡ read_by old.follower → HasServed old new
   unserved old new inbox place sent read = record {
     inbox = inbox;
     place = place;
+    board = same_board old new inbox;
     sent = [];
     sends = sent ∙ sym (append-nil (sent_by old.seat));
     read = [];
@@ -26,6 +31,7 @@ module _ {L S T M : Type 0} where
   passed old new seat more = record {
     inbox = ap seat_inbox seat;
     place = ap (λ (s : Seat). s.place) seat;
+    board = same_board old new (ap seat_inbox seat);
     sent = [];
     sends = ap sent_by seat ∙ sym (append-nil (sent_by old.seat));
     read = more.0;
@@ -37,6 +43,7 @@ module _ {L S T M : Type 0} where
   served_on old mid new a b = record {
     inbox = b.inbox ∙ a.inbox;
     place = b.place ∙ a.place;
+    board = b.board ∙ a.board;
     sent = a.sent ++ b.sent;
     sends = b.sends ∙ (ap (λ xs. xs ++ b.sent) a.sends ∙ append_assoc (sent_by old.seat) a.sent b.sent);
     read = a.read ++ b.read;

@@ -4,6 +4,7 @@ use Rattle.std.specs.List.{remove}
 use Rattle.crossbeam_queue.specs.Fifo.{Held}
 use Rattle.jk_log.specs.declared.arrival.Arrival.{Arrival}
 use Rattle.jk_log.specs.declared.arrival.What.{What}
+use Rattle.jk_board.specs.Ends.{board_of}
 use Rattle.jk_queues.specs.Ends.{seat_inbox, seat_view, sent_by}
 use Rattle.jk_queues.specs.Inbox.{Stands}
 use Rattle.jk_queues.specs.declared.inbox.Full.{Full}
@@ -58,10 +59,11 @@ module _ {L S T M : Type 0} where
   abbrev pub LendsPlace : Home L S T M → Place L S T M → Home L S T M → Type 0
   LendsPlace old place new = Lends old place.lease.value new
 
-  -- a place of this home's inbox, one of 1 to 7
+  -- a place of this home's inbox, one of 1 to 7, with a follower of the board of the kernel that takes from that inbox
   abbrev pub IsPlaceOf : Home L S T M → Place L S T M → Type 0
   IsPlaceOf home place =
-      (seat_inbox place.lease.value.seat ≡ seat_inbox home.zero) × (0 < place_of place.lease.value) × (place_of place.lease.value < 8)
+      (seat_inbox place.lease.value.seat ≡ seat_inbox home.zero) × (board_of place.lease.value.follower ≡ seat_inbox home.zero)
+      × (0 < place_of place.lease.value) × (place_of place.lease.value < 8)
 
   abbrev pub WasRefused : NoPlace → Home L S T M → Type 0
   WasRefused no.Lent h = free_of h ≡ []

@@ -1,6 +1,6 @@
 //! What a follower does.
 ghost use Rattle.std.specs.Prelude.{◌≡◌, ◌<◌, ◌≤◌, ◌++◌, take, drop, length, Err, IfOk, OnOk, OnErr};
-ghost use Rattle.jk_board.specs.Ends.{found_by, told_to, read_by, news_of};
+ghost use Rattle.jk_board.specs.Ends.{board_of, found_by, told_to, read_by, news_from, news_of};
 ghost use Rattle.jk_board.specs.Rule.{Each};
 ghost use Rattle.jk_board.specs.Boards.{IsBoard, StartsWith};
 ghost use Rattle.jk_board.specs.declared.follower.Refusal.TheVariants.{Lost};
@@ -21,6 +21,7 @@ impl<L: Language> Follower<L> {
     /// was.
     pub fn read(self, alloc: Global, max: usize) -> (Follower<L>, Result<Vec<Entry>, Refusal>)
         requires { max ≤ 64 }
+        ensures board { board_of result.0 ≡ board_of self }
         ensures told { told_to result.0 ≡ told_to self }
         ensures later { StartsWith (found_by result.0) (found_by self) }
         ensures found { IfOk result.1 (λ v. IsBoard L.spoken (found_by result.0) × Each (StartsWith (found_by result.0)) (told_to self)) }
@@ -33,6 +34,7 @@ impl<L: Language> Follower<L> {
             reader,
             place,
             mut mark,
+            owner,
         } = self;
         let reading = match reader.enter_as::<Finds<L>>() {
             Ok(reading) => reading,
@@ -41,6 +43,7 @@ impl<L: Language> Follower<L> {
                     reader,
                     place,
                     mark,
+                    owner,
                 },
                 Err(Refusal::Memory),
             ),
@@ -54,6 +57,7 @@ impl<L: Language> Follower<L> {
                     reader,
                     place,
                     mark,
+                    owner,
                 },
                 Err(refusal),
             ),
@@ -66,6 +70,7 @@ impl<L: Language> Follower<L> {
                         reader,
                         place,
                         mark,
+                        owner,
                     },
                     Ok(entries),
                 )
@@ -75,6 +80,7 @@ impl<L: Language> Follower<L> {
                     reader,
                     place,
                     mark,
+                    owner,
                 },
                 Err(Refusal::Memory),
             ),
@@ -86,6 +92,7 @@ impl<L: Language> Follower<L> {
     /// # Errors
     /// Where the publisher has ended. What was read stays as it was.
     pub fn pass(self) -> (Follower<L>, Result<(), AllocError>)
+        ensures board { board_of result.0 ≡ board_of self }
         ensures told { told_to result.0 ≡ told_to self }
         ensures later { StartsWith (found_by result.0) (found_by self) }
         ensures found { OnOk result.1 (IsBoard L.spoken (found_by result.0) × Each (StartsWith (found_by result.0)) (told_to self)) }
@@ -97,6 +104,7 @@ impl<L: Language> Follower<L> {
             reader,
             place,
             mut mark,
+            owner,
         } = self;
         mark.hold();
         match reader.enter_as::<Finds<L>>() {
@@ -111,6 +119,7 @@ impl<L: Language> Follower<L> {
                         reader,
                         place,
                         mark,
+                        owner,
                     },
                     Ok(()),
                 )
@@ -120,6 +129,7 @@ impl<L: Language> Follower<L> {
                     reader,
                     place,
                     mark,
+                    owner,
                 },
                 Err(AllocError),
             ),
@@ -134,6 +144,7 @@ impl<L: Language> Follower<L> {
     /// Learns what was published: from now on it finds no less. What it has read stays as it was.
     pub fn learn(self, news: News<L>) -> Follower<L>
         requires { StartsWith (news_of news) (found_by self) × Each (StartsWith (news_of news)) (told_to self) }
+        ensures board { board_of result ≡ news_from news }
         ensures found { found_by result ≡ news_of news }
         ensures read { read_by result ≡ read_by self }
     {
@@ -141,6 +152,7 @@ impl<L: Language> Follower<L> {
             reader: news.reader,
             place: self.place,
             mark: self.mark,
+            owner: news.owner,
         }
     }
 }

@@ -1,7 +1,7 @@
 //! What the publisher does.
 ghost use Rattle.std.specs.Prelude.{◌≡◌, ◌∷◌, ◌++◌, [], drop, length, MatchResult};
 ghost use Rattle.left_right.specs.Sides.{view};
-ghost use Rattle.jk_board.specs.Ends.{published};
+ghost use Rattle.jk_board.specs.Ends.{published, publisher_of};
 ghost use Rattle.jk_board.specs.Posted.{held_of, Shows};
 ghost use Rattle.jk_board.specs.Pending.{IsNext};
 ghost use Rattle.jk_board.specs.Boards.{IsBoard, StartsWith};
@@ -26,22 +26,48 @@ impl<L: Language> Publisher<L> {
         entries: Vec<Entry>,
     ) -> (Publisher<L>, Result<(), (Vec<Entry>, AllocError)>)
         requires { IsBoard L.spoken (published self ++ entries.items) }
-        ensures { MatchResult result.1 (λ _. published result.0 ≡ published self ++ entries.items) (λ back. (back.0 ≡ entries) × (published result.0 ≡ published self)) }
+        ensures owner { publisher_of result.0 ≡ publisher_of self }
+        ensures published { MatchResult result.1 (λ _. published result.0 ≡ published self ++ entries.items) (λ back. (back.0 ≡ entries) × (published result.0 ≡ published self)) }
     {
-        let Publisher { mut copies, marks } = self;
+        let Publisher {
+            mut copies,
+            marks,
+            owner,
+        } = self;
         let read = marks.least_place();
         let posted = match copies.published().with(alloc, entries, read) {
             Ok(posted) => posted,
-            Err(back) => return (Publisher { copies, marks }, Err(back)),
+            Err(back) => return (
+                Publisher {
+                    copies,
+                    marks,
+                    owner,
+                },
+                Err(back),
+            ),
         };
         match copies.append(Replace { posted }) {
             Ok(()) => {
                 let copies = show_next::<L, R>(rt, copies);
-                (Publisher { copies, marks }, Ok(()))
+                (
+                    Publisher {
+                        copies,
+                        marks,
+                        owner,
+                    },
+                    Ok(()),
+                )
             }
             Err(next) => {
                 let entries = next.posted.into_last(rt);
-                (Publisher { copies, marks }, Err((entries, AllocError)))
+                (
+                    Publisher {
+                        copies,
+                        marks,
+                        owner,
+                    },
+                    Err((entries, AllocError)),
+                )
             }
         }
     }
@@ -49,24 +75,45 @@ impl<L: Language> Publisher<L> {
     /// Drops whole parts that all have read who are lent, from one of the two copies of the board. It publishes nothing, and does
     /// nothing where neither copy keeps such a part or there is no memory.
     pub fn let_go<R: Wait>(self, rt: &R, alloc: Global) -> Publisher<L>
-        ensures { published result ≡ published self }
+        ensures owner { publisher_of result ≡ publisher_of self }
+        ensures published { published result ≡ published self }
     {
-        let Publisher { mut copies, marks } = self;
+        let Publisher {
+            mut copies,
+            marks,
+            owner,
+        } = self;
         let read = marks.least_place();
         let Ok(posted) = copies.published().without_read(alloc, read) else {
-            return Publisher { copies, marks };
+            return Publisher {
+                copies,
+                marks,
+                owner,
+            };
         };
         if posted.dropped() == copies.desk.spare.get().dropped() {
-            return Publisher { copies, marks };
+            return Publisher {
+                copies,
+                marks,
+                owner,
+            };
         }
         match copies.append(Replace { posted }) {
             Ok(()) => {
                 let copies = show_next::<L, R>(rt, copies);
-                return Publisher { copies, marks };
+                return Publisher {
+                    copies,
+                    marks,
+                    owner,
+                };
             }
             Err(next) => drop(next),
         }
-        Publisher { copies, marks }
+        Publisher {
+            copies,
+            marks,
+            owner,
+        }
     }
 
     /// How many entries are kept.
@@ -85,7 +132,11 @@ impl<L: Language> Publisher<L> {
 
     /// Waits for those who read.
     pub fn end<R: Wait>(self, rt: &R) {
-        let Publisher { copies, marks: _ } = self;
+        let Publisher {
+            copies,
+            marks: _,
+            owner: _,
+        } = self;
         copies.take(rt);
     }
 }

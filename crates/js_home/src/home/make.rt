@@ -1,5 +1,6 @@
 //! How a home is made.
-ghost use Rattle.std.specs.Prelude.{◌≡◌, [], IfOk};
+ghost use Rattle.std.specs.Prelude.{◌≡◌, [], All, IfOk};
+ghost use Rattle.jk_board.specs.Ends.{board_of};
 ghost use Rattle.jk_queues.specs.Ends.{seat_inbox, AreAllOf};
 ghost use Rattle.js_home.specs.Homes.{lent_of};
 
@@ -11,7 +12,8 @@ use jk_queues::Seats;
 use std::alloc::{AllocError, Global};
 
 impl<L: Language> Home<L> {
-    /// A home with all seats of an inbox, each but seat 0 with a follower of its own; the last one is lent first.
+    /// A home with all seats of a kernel's inbox, each but seat 0 with a follower of its own of that kernel's board; the last one is
+    /// lent first.
     ///
     /// # Errors
     /// Where memory is refused.
@@ -20,7 +22,8 @@ impl<L: Language> Home<L> {
         seats: Seats,
         followers: [Follower<L>; 7],
     ) -> Result<Home<L>, AllocError>
-        requires { AreAllOf (seat_inbox seats.zero) seats }
+        requires seats { AreAllOf (seat_inbox seats.zero) seats }
+        requires followers { All (λ f. board_of f ≡ seat_inbox seats.zero) followers }
         ensures { IfOk result (λ home. (home.zero ≡ seats.zero) × (lent_of home ≡ [])) }
     {
         let Seats {

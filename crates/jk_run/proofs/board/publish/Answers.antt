@@ -5,9 +5,9 @@ use Rattle.jk_log.specs.declared.entry.Entry.{Entry}
 use Rattle.jk_board.specs.Ends.{published}
 use Rattle.jk_run.proofs.board.publish.Goals as goal
 
-pub returns-then-is_empty : goal.returns-then-is_empty
-returns-then-is_empty g c =
+pub returns-then-is_empty-clause-published : goal.returns-then-is_empty-clause-published
+returns-then-is_empty-clause-published g c =
     let all : List Entry = published c.args.publisher in
     let count : vec_len c.args.entries ≡ 0 = eqb-true (vec_len c.args.entries) 0 (sym c.is_empty.ensures ∙ c.if-is_empty.true) in
     let none : c.args.entries.items ≡ [] = nil_from_length c.args.entries.items (omega (arith, count, c.args.entries.ok.0)) in
-    c.let_go.ensures ∙ sym (append-nil all) ∙ ap (λ (l : List Entry). all ++ l) (sym none)
+    c.let_go.ensures.published ∙ sym (append-nil all) ∙ ap (λ (l : List Entry). all ++ l) (sym none)

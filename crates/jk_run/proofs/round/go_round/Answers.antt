@@ -1,4 +1,4 @@
-use Rattle.std.proofs.Common.{ℕ, List, Option, ◌++◌, ap, sym, subst}
+use Rattle.std.proofs.Common.{ℕ, List, Option, ◌++◌, ◌∙◌, ap, sym, subst}
 use Rattle.std.specs.Prelude.{IfNone}
 use Rattle.jk_log.specs.declared.arrival.Arrival.{Arrival}
 use Rattle.jk_log.specs.declared.job.Job.{Job}
@@ -24,6 +24,7 @@ publish_pending-publisher-requires g c =
 pub invariant_of-next : goal.invariant_of-next
 invariant_of-next g c = record {
   took = round_took g.L.Language.spoken c.args.turns c.take_arrivals-taker.new.kernel c.give_jobs-job.new.kernel c.hand_results.new.kernel c.work_slice-work.new.kernel c.publish_pending-publisher.new.kernel c.work_slice-work.result (hand c.take_arrivals-taker.result.1) (taken_by c.take_arrivals-taker.result.0) c.take_arrivals-taker.ensures.took c.give_jobs-job.ensures.log c.hand_results.ensures.log c.work_slice-work.ensures c.publish_pending-publisher.ensures.log;
+  own = c.publish_pending-publisher.ensures.own ∙ (c.args.driver.own ∙ sym c.take_arrivals-taker.ensures.same);
   shown = c.publish_pending-publisher.ensures.shown;
 }
 

@@ -19,8 +19,8 @@ show_next-copies-requires-clause-pending g c =
     one_pending spoken place seen (view c.append.new.self.desk.place).seen [] copies.desk.shown.value next (drop copies.behind copies.log.items) (drop c.append.new.self.behind c.append.new.self.log.items)
     (λ i. (view (c.in-Ok-append.ensures.desk i).place).seen) c.args.self.nothing_pending c.in-Ok-append.ensures.pending c.args.self.saw_all follows (λ legal. subst (IsBoard spoken) (sym (append-nil seen)) legal)
 
-pub returns-in-Ok-append : goal.returns-in-Ok-append
-returns-in-Ok-append g c =
+pub returns-in-Ok-append-clause-published : goal.returns-in-Ok-append-clause-published
+returns-in-Ok-append-clause-published g c =
     let place = c.least_place-read.result in
     let copies = c.args.self.copies in
     let seen : List Entry = (view copies.desk.place).seen in

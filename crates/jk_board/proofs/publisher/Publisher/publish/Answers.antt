@@ -18,8 +18,8 @@ show_next-copies-requires-clause-pending g c =
     one_pending g.L.Language.spoken place (view copies.desk.place).seen (view c.append.new.self.desk.place).seen more copies.desk.shown.value next (drop copies.behind copies.log.items) (drop c.append.new.self.behind c.append.new.self.log.items)
     (λ i. (view (c.in-Ok-append.ensures.desk i).place).seen) c.args.self.nothing_pending c.in-Ok-append.ensures.pending c.args.self.saw_all follows (λ legal. c.requires)
 
-pub returns-in-Ok-append : goal.returns-in-Ok-append
-returns-in-Ok-append g c =
+pub returns-in-Ok-append-clause-published : goal.returns-in-Ok-append-clause-published
+returns-in-Ok-append-clause-published g c =
     let more = c.args.entries.items in
     let place = c.least_place-read.result in
     let copies = c.args.self.copies in
@@ -32,8 +32,8 @@ returns-in-Ok-append g c =
     let there : Shows now c.in-Ok.posted = c.show_next-copies.ensures.shown next (c.in-Ok-append.ensures.pending ∙ ap (λ (l : List Replace). l ++ next ∷ []) c.args.self.nothing_pending) in
     published_next place seen more now copies.desk.shown.value c.in-Ok.posted c.args.self.saw_all follows starts there
 
-pub returns-in-Err-append : goal.returns-in-Err-append
-returns-in-Err-append g c = (
+pub returns-in-Err-append-clause-published : goal.returns-in-Err-append-clause-published
+returns-in-Err-append-clause-published g c = (
   c.into_last-entries.ensures c.args.entries (subst (λ (o : Replace). EndsWith c.args.entries o.posted) (sym c.in-Err-append.ensures.pending.0) c.in-Ok.ensures.last),
   λ i. (view (c.in-Err-append.ensures.desk i).place).seen,
 )

@@ -52,7 +52,8 @@ returns-clause-lent g c =
 is_place : {L S T M : Type 0} (h : Home L S T M) (place : Place L S T M) (x : Free L S T M) → place.lease.value ≡ x → seat_inbox x.seat ≡ seat_inbox h.zero
     → (0 < place_of x) × (place_of x < 8) → IsPlaceOf h place
 is_place h place x e own low =
-    (ap (λ f. seat_inbox f.seat) e ∙ own, subst (λ f. 0 < place_of f) (sym e) low.0, subst (λ f. place_of f < 8) (sym e) low.1)
+    let inbox = ap (λ f. seat_inbox f.seat) e ∙ own in
+    (inbox, place.lease.value.own ∙ inbox, subst (λ f. 0 < place_of f) (sym e) low.0, subst (λ f. place_of f < 8) (sym e) low.1)
 
 pub returns-clause-own : goal.returns-clause-own
 returns-clause-own g c =

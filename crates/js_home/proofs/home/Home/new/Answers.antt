@@ -6,7 +6,7 @@ pub invariant_of-result : goal.invariant_of-result
 invariant_of-result g c =
     let fs = c.in_ok-free.free.items in
     let all = none_lent fs c.new.result.items c.new.ensures.items in
-    let r = c.requires in
+    let r = c.requires.seats in
     record {
       first = r.0.1;
       places = keeps_places fs _ all (seven_places fs _ _ _ _ _ _ _ c.in_ok-free.ensures.items r.7.1 r.6.1 r.5.1 r.4.1 r.3.1 r.2.1 r.1.1);
