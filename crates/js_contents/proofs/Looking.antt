@@ -8,8 +8,9 @@ use Rattle.js_shelf.specs.declared.item.ItemKind.{ItemKind}
 use Rattle.js_shelf.specs.declared.item.ItemKind.TheVariants as kind
 use Rattle.js_shelf.specs.declared.item.ShelfRefusal.{ShelfRefusal}
 use Rattle.js_shelf.specs.declared.item.ShelfRefusal.TheVariants.{Missing, Exists, BadPath, NotEmpty, Device, Memory}
-use Rattle.js_shelf.specs.Shelves.{Contents, Gets, Kinds, Lists, IsListing, get_fault, list_fault, is_folder, kind_of}
-use Rattle.js_contents.specs.Looks.{got, got_present, folder_by, item_at, kind_at, present_at, shown_item, shown_present, shown_kind, shown_folder, shown_names, is_folder_kind, IsListedBy, Looks, FindsKind, Presents, PresentsItem, HasFolder, HasNames}
+use Rattle.js_shelf.specs.declared.opened.Opening.{Opening}
+use Rattle.js_shelf.specs.Shelves.{Contents, Gets, Opens, Kinds, Lists, IsListing, get_fault, list_fault, is_folder, kind_of}
+use Rattle.js_contents.specs.Looks.{got, got_present, folder_by, item_at, kind_at, present_at, shown_opening, shown_present, shown_kind, shown_folder, shown_names, is_folder_kind, IsListedBy, OpensAt, FindsKind, Presents, PresentsItem, HasFolder, HasNames}
 use Rattle.js_tables.specs.Plans.{◌>>=◌, status_of, of_shelf}
 
 got_item : (f : Option ShelfRefusal) (o : Option Item) (item : Item) → f ≡ None → o ≡ Some item → got f o ≡ Ok item
@@ -17,14 +18,14 @@ got_item None (Some x) item e p = let same : x ≡ item = cc in ap Ok same
 got_item None None item e p = cc
 got_item (Some f) o item e p = cc
 
-pub looks_shown : (path : List ℕ) (answer : Result Item ShelfRefusal) (m n : Contents) → Gets path answer m n → Looks path (shown_item answer) m n
-looks_shown path (Ok item) m n h = (h.2, got_item (get_fault m path) (m path) item h.0 h.1)
-looks_shown path (Err Missing) m n h = (h.1, ap (λ f. got f (m path)) h.0)
-looks_shown path (Err Exists) m n h = (h.1, ap (λ f. got f (m path)) h.0)
-looks_shown path (Err BadPath) m n h = (h.1, ap (λ f. got f (m path)) h.0)
-looks_shown path (Err NotEmpty) m n h = (h.1, ap (λ f. got f (m path)) h.0)
-looks_shown path (Err Device) m n h = (h.1, tt)
-looks_shown path (Err Memory) m n h = (h.1, tt)
+pub opening_shown : (path : List ℕ) (answer : Result Opening ShelfRefusal) (m n : Contents) → Opens path answer m n → OpensAt path (shown_opening answer) m n
+opening_shown path (Ok opening) m n h = (h.2, (h.1.0, got_item (get_fault m path) (m path) h.1.0 h.0 h.1.1, h.1.2))
+opening_shown path (Err Missing) m n h = (h.1, ap (λ f. got f (m path)) h.0)
+opening_shown path (Err Exists) m n h = (h.1, ap (λ f. got f (m path)) h.0)
+opening_shown path (Err BadPath) m n h = (h.1, ap (λ f. got f (m path)) h.0)
+opening_shown path (Err NotEmpty) m n h = (h.1, ap (λ f. got f (m path)) h.0)
+opening_shown path (Err Device) m n h = (h.1, tt)
+opening_shown path (Err Memory) m n h = (h.1, tt)
 
 pub items_shown : (path : List ℕ) (answer : Result Item ShelfRefusal) (m n : Contents) → Gets path answer m n → PresentsItem path (shown_present answer) m n
 items_shown path (Ok item) m n h = (h.2, ap (λ f. got_present f (m path)) h.0 ∙ ap Ok h.1)

@@ -10,9 +10,11 @@ use Rattle.js_shelf.specs.declared.item.ItemKind.{ItemKind}
 use Rattle.js_shelf.specs.declared.item.ItemKind.TheVariants as kind
 use Rattle.js_shelf.specs.declared.item.ShelfRefusal.{ShelfRefusal}
 use Rattle.js_shelf.specs.declared.item.ShelfRefusal.TheVariants.{Missing, Exists, BadPath, NotEmpty, Device, Memory}
+use Rattle.js_shelf.specs.declared.opened.Opening.{Opening}
+use Rattle.js_shelf.specs.Openings.{IsOpening}
 use Rattle.js_shelf.specs.Shelves.{Contents, Same, IsListing, get_fault, list_fault, is_folder, kind_of}
 use Rattle.js_tables.specs.declared.refusal.Refusal.{Refusal}
-use Rattle.js_tables.specs.Plans.{◌>>=◌, Gives, Found, status_of, of_shelf}
+use Rattle.js_tables.specs.Plans.{◌>>=◌, Fails, Gives, Found, status_of, of_shelf}
 
 -- ---- the definitions: by the first fault of a look at a path, and by what stands there
 
@@ -70,9 +72,9 @@ IsListed m path form = IsListedBy (list_fault m path) m path form
 
 -- ---- the same by what the look answered
 
-abbrev pub shown_item : Result Item ShelfRefusal → Result Item Refusal
-shown_item (Ok item) = Ok item
-shown_item (Err e) = Err (of_shelf e)
+abbrev pub shown_opening : Result Opening ShelfRefusal → Result Opening Refusal
+shown_opening (Ok opening) = Ok opening
+shown_opening (Err e) = Err (of_shelf e)
 
 abbrev pub shown_present : {A : Type 0} → Result A ShelfRefusal → Result (Option A) Refusal
 shown_present (Ok found) = Ok (Some found)
@@ -106,8 +108,13 @@ shown_names (Err e) = Err (of_shelf e)
 
 -- ---- what the functions that look find
 
-abbrev pub Looks : List ℕ → Result Item Refusal → Contents → Contents → Type 0
-Looks path result m n = Same m n × Gives result (item_at m path)
+-- the item was opened, or there is none
+abbrev pub IsOpenedAt : Contents → List ℕ → Result Opening Refusal → Type 0
+IsOpenedAt m path (Ok opening) = (item : Item) × (item_at m path ≡ Ok item) × IsOpening opening item
+IsOpenedAt m path (Err e) = Fails e (item_at m path)
+
+abbrev pub OpensAt : List ℕ → Result Opening Refusal → Contents → Contents → Type 0
+OpensAt path result m n = Same m n × IsOpenedAt m path result
 
 abbrev pub FindsKind : List ℕ → Result ItemKind Refusal → Contents → Contents → Type 0
 FindsKind path result m n = Same m n × Gives result (kind_at m path)

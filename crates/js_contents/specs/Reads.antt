@@ -1,6 +1,6 @@
 -- To be believed.
 -- GET of contents.
-use Rattle.std.specs.Prelude.{◌≡◌, ◌==◌, ℕ, nat_le, Bool, false, List, Option, Some, None, Result, Ok, Err, if◌then◌else◌, codes}
+use Rattle.std.specs.Prelude.{◌≡◌, ◌==◌, ◌⊎◌, ℕ, nat_le, Bool, false, List, Option, Some, None, Result, Ok, Err, if◌then◌else◌, codes}
 use Rattle.std.specs.List.{after_first}
 use Rattle.std.specs.Str.{bytes_eq}
 use Rattle.serde_json.specs.Data.{Data}
@@ -14,12 +14,15 @@ use Rattle.js_shelf.specs.declared.item.Item.{Item}
 use Rattle.js_shelf.specs.declared.item.Item.TheVariants as item
 use Rattle.js_shelf.specs.declared.item.ItemKind.{ItemKind}
 use Rattle.js_shelf.specs.declared.item.ItemKind.TheVariants as kinds
+use Rattle.js_shelf.specs.declared.opened.Opening.{Opening}
+use Rattle.js_shelf.specs.Openings.{MayGive}
 use Rattle.js_shelf.specs.Shelves.{Contents, Same}
 use Rattle.js_tables.specs.declared.forms.About.{About}
 use Rattle.js_tables.specs.declared.forms.Kind.{Kind}
 use Rattle.js_tables.specs.declared.forms.Kind.TheVariants as kind
 use Rattle.js_tables.specs.declared.plan.Plan.{Plan}
 use Rattle.js_tables.specs.declared.refusal.Refusal.{Refusal}
+use Rattle.js_tables.specs.declared.refusal.Refusal.TheVariants.{Failed}
 use Rattle.js_tables.specs.Forms.{body_text, kind_name}
 use Rattle.js_tables.specs.Plans.{◌>>=◌, Gives, Found, reply}
 use Rattle.js_tables.specs.Tables.{Rows}
@@ -108,6 +111,10 @@ abbrev pub item_plan : About → Item → Result Plan ErrorStatus
 item_plan about (item.File bytes) = file_plan about.kind about bytes
 item_plan about item.Folder = Err NotFound
 
+-- what was opened: what is shown of an item that a reading may give, or that the device or memory failed
+abbrev pub IsOpenedPlan : About → Opening → Result Plan Refusal → Type 0
+IsOpenedPlan about opening found = (found ≡ Err Failed) ⊎ ((item : Item) × MayGive opening item × Gives found (item_plan about item))
+
 abbrev pub read_file : Contents → About → Result Plan ErrorStatus
 read_file m about = item_at m about.path >>= item_plan about
 
@@ -144,11 +151,11 @@ abbrev pub planned : Result Plan Refusal → Result Aim Refusal
 planned (Ok plan) = Ok (aim.Plan plan)
 planned (Err refusal) = Err refusal
 
--- What is to be done meets a condition on what is found: the plan does, or the refusal; and of a file that is still to be shown,
--- whatever comes of it.
+-- What is to be done meets a condition on what is found: the plan does, or the refusal; and of a file that was opened and is still to
+-- be read, whatever comes of it.
 abbrev pub Comes : (Result Plan Refusal → Type 0) → Result Aim Refusal → Type 0
 Comes P (Ok (aim.Plan plan)) = P (Ok plan)
-Comes P (Ok (aim.File about item)) = (found : Result Plan Refusal) → Gives found (item_plan about item) → P found
+Comes P (Ok (aim.File about opening)) = (found : Result Plan Refusal) → IsOpenedPlan about opening found → P found
 Comes P (Err refusal) = P (Err refusal)
 
 abbrev pub AimsAtFile : About → Result Aim Refusal → Contents → Contents → Type 0

@@ -16,5 +16,5 @@ pub use look::{has_folder, names_in};
 pub use notebook::{First, notebook_for};
 pub use place::{Place, below, if_path, named_place, place_of};
 pub use put::{PutBody, Putting, Ready, fitted, read_put};
-pub use read::{Aim, Seen, bare_value, item_plan, planned, read_aim};
+pub use read::{Aim, Seen, bare_value, opening_plan, planned, read_aim};
 pub use store::{put_plan, remove_plan, storing};

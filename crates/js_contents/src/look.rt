@@ -3,14 +3,14 @@ ghost use Rattle.std.specs.Prelude.{◌≡◌};
 ghost use Rattle.js_shelf.specs.Shelves.{Tells};
 ghost use Rattle.js_contents.specs.Looks as spec;
 
-use js_shelf::{Item, ItemKind, Names, Shelf, ShelfRefusal};
+use js_shelf::{Item, ItemKind, Names, Opening, Shelf, ShelfRefusal};
 use js_tables::Refusal;
 
-fn shown_item(answer: Result<Item, ShelfRefusal>) -> Result<Item, Refusal>
-    ensures { result ≡ spec.shown_item answer }
+fn shown_opening(answer: Result<Opening, ShelfRefusal>) -> Result<Opening, Refusal>
+    ensures { result ≡ spec.shown_opening answer }
 {
     match answer {
-        Ok(item) => Ok(item),
+        Ok(opening) => Ok(opening),
         Err(cause) => Err(Refusal::from(cause)),
     }
 }
@@ -63,11 +63,11 @@ fn shown_names(answer: Result<Names, ShelfRefusal>) -> Result<Names, Refusal>
     }
 }
 
-/// What stands at a path, where something does.
-pub(crate) fn look<S: Shelf>(shelf: &mut S, path: &str) -> Result<Item, Refusal>
-    ensures { Tells (S.contents shelf.old) (S.contents shelf.new) (spec.Looks path.now result) }
+/// Opens what stands at a path, where something does.
+pub(crate) fn open_at<S: Shelf>(shelf: &mut S, path: &str) -> Result<Opening, Refusal>
+    ensures { Tells (S.contents shelf.old) (S.contents shelf.new) (spec.OpensAt path.now result) }
 {
-    shown_item(shelf.get(path))
+    shown_opening(shelf.open(path))
 }
 
 /// The kind of what stands at a path, where something does.

@@ -10,12 +10,12 @@ ghost use Rattle.js_contents.specs.Reads as spec;
 
 use crate::kind::about_now;
 use crate::list::objects;
-use crate::look::{is_folder, kind_at, look, names_in};
+use crate::look::{is_folder, kind_at, names_in, open_at};
 use crate::notebook::notebook_in;
 use crate::place::{Place, place_of};
 use base64::engine::general_purpose::STANDARD;
 use js_http::{Bytes, ErrorStatus, Request, Response, query_value};
-use js_shelf::{Item, ItemKind, Name, Shelf};
+use js_shelf::{Item, ItemKind, Name, Opening, Shelf};
 use js_tables::{About, Kind, Plan, Refusal, Tables, json_body, model_value, reply, text_value};
 use nb_doc::{Row, notebook_value};
 use serde_json::Value;
@@ -120,11 +120,11 @@ pub enum Seen {
     Folder(About),
 }
 
-/// What is to be done for a request: a plan, or a file that is to be shown, whose bytes were read.
+/// What is to be done for a request: a plan, or a file that is to be read and shown, which was opened.
 #[derive(Drop)]
 pub enum Aim {
     Plan(Plan),
-    File(About, Item),
+    File(About, Opening),
 }
 
 fn notebook_plan(alloc: Global, about: &About, bytes: &[u8]) -> Result<Plan, Refusal>
@@ -238,7 +238,7 @@ fn folder_plan<S: Shelf>(
 }
 
 /// The plan of a look at a file: what stands there is shown.
-pub fn item_plan(alloc: Global, about: &About, item: &Item) -> Result<Plan, Refusal>
+fn item_plan(alloc: Global, about: &About, item: &Item) -> Result<Plan, Refusal>
     ensures { Gives result (spec.item_plan about.now item.now) }
 {
     match item {
@@ -247,12 +247,25 @@ pub fn item_plan(alloc: Global, about: &About, item: &Item) -> Result<Plan, Refu
     }
 }
 
-// A file that is still to be shown.
+/// The plan of a look at a file that was opened: it is read and shown. It looks at no shelf, so any thread may do it.
+///
+/// # Errors
+/// `Failed` where the device or memory fails; or the status that refuses the request, as where it is no notebook at a notebook's path.
+pub fn opening_plan(alloc: Global, about: &About, opening: Opening) -> Result<Plan, Refusal>
+    ensures { spec.IsOpenedPlan about.now opening result }
+{
+    match opening.read() {
+        Ok(item) => item_plan(alloc, about, &item),
+        Err(_) => Err(Refusal::Failed),
+    }
+}
+
+// A file that is still to be read and shown.
 fn file_aim<S: Shelf>(shelf: &mut S, about: About) -> Result<Aim, Refusal>
     ensures { Tells (S.contents shelf.old) (S.contents shelf.new) (spec.AimsAtFile about result) }
 {
-    match look(shelf, about.path.as_str()) {
-        Ok(item) => Ok(Aim::File(about, item)),
+    match open_at(shelf, about.path.as_str()) {
+        Ok(opening) => Ok(Aim::File(about, opening)),
         Err(refusal) => Err(refusal),
     }
 }
@@ -293,8 +306,8 @@ fn seen_aim<S: Shelf>(
     }
 }
 
-/// What a GET comes to: a plan by which a folder is shown, or a file's bytes, which `item_plan` shows. The first three segments are
-/// those of `/api/contents`.
+/// What a GET comes to: a plan by which a folder is shown, or a file that was opened, which `opening_plan` reads and shows. The first
+/// three segments are those of `/api/contents`.
 pub fn read_aim<S: Shelf>(
     alloc: Global,
     tables: &Tables,

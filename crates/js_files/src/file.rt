@@ -1,14 +1,15 @@
 //! A shelf over a device.
 ghost use Rattle.std.specs.Prelude.{◌≡◌, ◌&&◌, is_some, IfOk};
-ghost use Rattle.js_shelf.specs.Shelves.{HasCause, Tells, Gets, Kinds, Lists, Puts, Renames, Deletes, is_folder, is_below};
-ghost use Rattle.js_shelf.specs.Devices.{Finds};
+ghost use Rattle.js_shelf.specs.Shelves.{HasCause, Tells, Gets, Opens, Kinds, Lists, Puts, Renames, Deletes, is_folder, is_below};
+ghost use Rattle.js_shelf.specs.Devices.{Finds, Reads};
 
 use crate::system::SystemFolder;
 use js_shelf::{
-    Device, DeviceFault, Item, ItemKind, Kind, Names, Place, Shelf, ShelfRefusal, is_below,
-    is_below_root, is_path,
+    Bytes, Device, DeviceFault, Item, ItemKind, Kind, Names, Opening, Place, Shelf, ShelfRefusal,
+    is_below, is_below_root, is_path,
 };
 use std::alloc::{AllocError, Global};
+use std::fs::File;
 use std::rt::Files;
 
 /// The files and folders that a device keeps, or those below one folder of the system, its root.
@@ -23,7 +24,7 @@ pub struct FileShelf<D: Device + Drop> {
     failures: u64,
 }
 
-impl<R: Files + AllocGlobal + Clone + Drop> FileShelf<SystemFolder<R>> {
+impl<R: Files<File = File> + AllocGlobal + Clone + Drop> FileShelf<SystemFolder<R>> {
     /// A shelf over that folder of the system, which is there.
     pub fn new(rt: R, root: &str) -> Result<FileShelf<SystemFolder<R>>, AllocError>
         ensures { IfOk result (λ shelf. shelf.failures ≡ 0) }
@@ -59,6 +60,13 @@ fn counted<T: Drop>(failures: &mut u64, outcome: Result<T, ShelfRefusal>) -> Res
     outcome
 }
 
+// The bytes of the file at the place.
+fn read_file<D: Device>(device: &mut D, place: &Place) -> Result<Bytes, DeviceFault>
+    ensures { Tells (D.contents device.old) (D.contents device.new) (Reads place.now result) }
+{
+    device.open(place)?.read()
+}
+
 fn read_item<D: Device>(device: &mut D, alloc: Global, path: &str) -> Result<Item, ShelfRefusal>
     ensures { Tells (D.contents device.old) (D.contents device.new) (Gets path.now result) }
 {
@@ -67,8 +75,22 @@ fn read_item<D: Device>(device: &mut D, alloc: Global, path: &str) -> Result<Ite
     }
     let place = Place::new(alloc, path)?;
     match device.kind(&place)? {
-        Kind::File(_) => Ok(Item::File(device.read(&place)?)),
+        Kind::File(_) => Ok(Item::File(read_file(device, &place)?)),
         Kind::Folder => Ok(Item::Folder),
+        Kind::Nothing | Kind::Other => Err(ShelfRefusal::Missing),
+    }
+}
+
+fn open_item<D: Device>(device: &mut D, alloc: Global, path: &str) -> Result<Opening, ShelfRefusal>
+    ensures { Tells (D.contents device.old) (D.contents device.new) (Opens path.now result) }
+{
+    if !is_path(path) {
+        return Err(ShelfRefusal::BadPath);
+    }
+    let place = Place::new(alloc, path)?;
+    match device.kind(&place)? {
+        Kind::File(_) => Ok(Opening::File(device.open(&place)?)),
+        Kind::Folder => Ok(Opening::Folder),
         Kind::Nothing | Kind::Other => Err(ShelfRefusal::Missing),
     }
 }
@@ -213,6 +235,11 @@ impl<D: Device + Drop> Shelf for FileShelf<D> {
 
     fn get(&mut self, path: &str) -> Result<Item, ShelfRefusal> {
         let result = read_item(&mut self.device, self.alloc, path);
+        counted(&mut self.failures, result)
+    }
+
+    fn open(&mut self, path: &str) -> Result<Opening, ShelfRefusal> {
+        let result = open_item(&mut self.device, self.alloc, path);
         counted(&mut self.failures, result)
     }
 

@@ -1,12 +1,12 @@
-//! One folder of the system as a device. This file alone names the system's calls.
+//! One folder of the system as a device. This file names the system's calls; what it opens is read in js_shelf.
 ghost use Rattle.std.specs.Prelude.{◌≡◌, None, IfOk, string_bytes};
 ghost use Rattle.js_shelf.specs.Places.{below_root};
 
 use itoa::Buffer;
-use js_shelf::{Bytes, Device, DeviceFault, Kind, Name, Names, Place, is_step};
+use js_shelf::{Device, DeviceFault, Kind, Name, Names, Opened, Place, SystemFile, is_step};
 use std::alloc::{AllocError, Global};
-use std::fs::{OpenFile, OpenOptions};
-use std::io::{ErrorKind, Read, Write};
+use std::fs::{File, OpenFile, OpenOptions};
+use std::io::{ErrorKind, Write};
 use std::os::unix::fs::MetadataExt;
 use std::rt::Files;
 use std::{fs, io};
@@ -30,15 +30,18 @@ const MAX_TRIES: u64 = 10_000;
 /// the old one's place: a crash leaves the old file or the new one. The new file has a name that nothing had, so that
 /// two servers in one folder never write one file. Where a write fails, the new file is removed again. After each change
 /// the folder's own entry is brought to the disk too. What a crash leaves goes with its folder.
+///
+/// So a file that was opened keeps its bytes, whatever is written at its path afterwards. Only a process that writes into that very
+/// file changes them.
 #[derive(Drop)]
-pub struct SystemFolder<R: Files + AllocGlobal + Clone + Drop> {
+pub struct SystemFolder<R: Files<File = File> + AllocGlobal + Clone + Drop> {
     rt: R,
     root: String,
     // The number of the last new file.
     spares: u64,
 }
 
-impl<R: Files + AllocGlobal + Clone + Drop> SystemFolder<R> {
+impl<R: Files<File = File> + AllocGlobal + Clone + Drop> SystemFolder<R> {
     /// That folder of the system, which is there.
     pub fn new(rt: R, root: &str) -> Result<SystemFolder<R>, AllocError>
         ensures { IfOk result (λ folder. string_bytes folder.root ≡ root.now) }
@@ -224,7 +227,7 @@ fn is_item<R: Files>(entry: &fs::DirEntry<R>) -> Result<bool, DeviceFault> {
     }
 }
 
-impl<R: Files + AllocGlobal + Clone + Drop> Device for SystemFolder<R> {
+impl<R: Files<File = File> + AllocGlobal + Clone + Drop> Device for SystemFolder<R> {
     ghost contents = { λ _. None };
 
     fn kind(&mut self, place: &Place) -> Result<Kind, DeviceFault> {
@@ -235,8 +238,8 @@ impl<R: Files + AllocGlobal + Clone + Drop> Device for SystemFolder<R> {
     }
 
     // What was opened is the file that stands there, before and afterwards: no link that another process put in its
-    // place in between.
-    fn read(&mut self, place: &Place) -> Result<Bytes, DeviceFault> {
+    // place in between. A write puts a new file into its place, so what was opened keeps its bytes.
+    fn open(&mut self, place: &Place) -> Result<Opened, DeviceFault> {
         let Some(looked) = self.look(place)? else {
             return Err(DeviceFault::Failed);
         };
@@ -251,13 +254,7 @@ impl<R: Files + AllocGlobal + Clone + Drop> Device for SystemFolder<R> {
         if opened.len() > MAX_FILE_LEN {
             return Err(DeviceFault::Failed);
         }
-        // Room for the whole file at once, and for one byte that would show that it has grown.
-        let mut bytes = Vec::with_capacity(self.rt.alloc(), opened.len() as usize + 1)?;
-        file.take(MAX_FILE_LEN + 1).read_to_end(&mut bytes)?;
-        if bytes.len() as u64 > MAX_FILE_LEN {
-            return Err(DeviceFault::Failed);
-        }
-        Ok(Bytes::from(bytes))
+        Ok(Opened::System(SystemFile::new(self.rt.alloc(), file, opened.len(), MAX_FILE_LEN)))
     }
 
     // Links, other things and names that are no segments are left out.

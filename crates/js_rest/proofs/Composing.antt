@@ -1,12 +1,12 @@
 -- The three parts of a request are its answer.
-use Rattle.std.proofs.Common.{◌≡◌, inr, ℕ, List, Option, Result, Ok, Err, refl, sym, ap, subst}
+use Rattle.std.proofs.Common.{◌≡◌, inl, inr, ℕ, List, Option, Result, Ok, Err, refl, sym, ap, subst}
 use Rattle.nb_doc.specs.declared.notebook.Notebook.{Notebook}
 use Rattle.nb_doc.specs.Writing.{notebook_form}
 use Rattle.serde_json.specs.Data.{Data}
 use Rattle.js_contents.specs.Forms.{file_form, json_form}
 use Rattle.js_contents.specs.Notebooks.{notebook_in}
 use Rattle.js_contents.specs.Puts.{ready_put}
-use Rattle.js_contents.specs.Reads.{shown, file_plan, item_plan}
+use Rattle.js_contents.specs.Reads.{shown, file_plan, item_plan, IsOpenedPlan}
 use Rattle.js_contents.specs.Stores.{put_ready, put_plan}
 use Rattle.js_contents.specs.declared.put.Ready.{Ready}
 use Rattle.js_http.specs.Targets.{segments_of}
@@ -14,6 +14,7 @@ use Rattle.js_http.specs.declared.request.Request.{Request}
 use Rattle.js_http.specs.declared.response.ErrorStatus.{ErrorStatus}
 use Rattle.js_shelf.specs.declared.item.Item.{Item}
 use Rattle.js_shelf.specs.declared.item.Item.TheVariants as item
+use Rattle.js_shelf.specs.declared.opened.Opening.{Opening}
 use Rattle.js_shelf.specs.Shelves.{Contents, Same}
 use Rattle.js_tables.specs.declared.forms.About.{About}
 use Rattle.js_tables.specs.declared.forms.Kind.{Kind}
@@ -72,6 +73,10 @@ item_shown : (about : About) (x : Item) (plan : Plan) → item_plan about x ≡ 
 item_shown about (item.File bytes) plan e = file_shown about.kind about bytes plan e
 item_shown about item.Folder plan e = cc
 
+opened_shown : (about : About) (x : Opening) (plan : Plan) → IsOpenedPlan about x (Ok plan) → IsShown plan
+opened_shown about x plan (inl failed) = cc
+opened_shown about x plan (inr g) = item_shown about g.0 plan g.2
+
 -- ---- the three parts
 
 module _ {L : Type 0} (begins : L → List ℕ → L → Type 0) (tells : L → List ℕ → Command → Result (Unit {0}) Untold → L → Type 0) where
@@ -84,14 +89,14 @@ module _ {L : Type 0} (begins : L → List ℕ → L → Type 0) (tells : L → 
   replied_alone plan r s l k answer is rows same h =
       subst (λ (p : Plan). answer ≡ p.answer → CarriesOutAlone begins tells p r s l k answer) (sym is.1) (λ j. inr (Ok tt, r, (refl, refl, same), (rows, j))) h
 
-  follows : (about : About) (x : Item) (found : Result Plan Refusal) (r s : Rows) (l k : L) (answer : Answer) (m n : Contents)
-      → Gives found (item_plan about x) → s ≡ r → k ≡ l → Same m n → answer ≡ answer_of found → Follows begins tells found r s l k answer m n
-  follows about x (Ok plan) r s l k answer m n g rows same left h = replied plan r s l k answer m n (item_shown about x plan g) rows same left h
+  follows : (about : About) (x : Opening) (found : Result Plan Refusal) (r s : Rows) (l k : L) (answer : Answer) (m n : Contents)
+      → IsOpenedPlan about x found → s ≡ r → k ≡ l → Same m n → answer ≡ answer_of found → Follows begins tells found r s l k answer m n
+  follows about x (Ok plan) r s l k answer m n g rows same left h = replied plan r s l k answer m n (opened_shown about x plan g) rows same left h
   follows about x (Err refusal) r s l k answer m n g rows same left h = (h, (rows, same, left))
 
-  follows_alone : (about : About) (x : Item) (found : Result Plan Refusal) (r s : Rows) (l k : L) (answer : Answer)
-      → Gives found (item_plan about x) → s ≡ r → k ≡ l → answer ≡ answer_of found → FollowsAlone begins tells found r s l k answer
-  follows_alone about x (Ok plan) r s l k answer g rows same h = replied_alone plan r s l k answer (item_shown about x plan g) rows same h
+  follows_alone : (about : About) (x : Opening) (found : Result Plan Refusal) (r s : Rows) (l k : L) (answer : Answer)
+      → IsOpenedPlan about x found → s ≡ r → k ≡ l → answer ≡ answer_of found → FollowsAlone begins tells found r s l k answer
+  follows_alone about x (Ok plan) r s l k answer g rows same h = replied_alone plan r s l k answer (opened_shown about x plan g) rows same h
   follows_alone about x (Err refusal) r s l k answer g rows same h = (h, (rows, same))
 
   pub composed : (given : Given) (request : Request) (r s : Rows) (l k : L) (o : Outcome) (answer : Answer) (m n : Contents)

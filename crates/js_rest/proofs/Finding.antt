@@ -84,7 +84,7 @@ sessions_on rows given request found done e m n h = (h.0, comes_planned (IsFound
 -- of contents nothing is said without the shelf
 pub any_alone : (rows : Rows) (given : Given) (request : Request) (done : Result Aim Refusal) → Comes (IsFoundAlone (Some route.Contents) rows given request) done
 any_alone rows given request (Ok (aim.Plan plan)) = tt
-any_alone rows given request (Ok (aim.File about item)) = λ found g. tt
+any_alone rows given request (Ok (aim.File about opening)) = λ found g. tt
 any_alone rows given request (Err refusal) = tt
 
 pub aims_route : (p : Option Route) (rows : Rows) (given : Given) (request : Request) (done : Result Aim Refusal) → route_of (path_of request) ≡ p

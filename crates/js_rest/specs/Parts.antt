@@ -2,7 +2,7 @@
 -- A request in three parts: what is made of its body, the step over the tables, the kernels and the shelf, and the answer.
 use Rattle.std.specs.Prelude.{◌≡◌, ◌≢◌, ℕ, List, Option, Result, Ok, Err}
 use Rattle.js_contents.specs.Puts.{ready_put}
-use Rattle.js_contents.specs.Reads.{item_plan, Comes}
+use Rattle.js_contents.specs.Reads.{IsOpenedPlan, Comes}
 use Rattle.js_contents.specs.declared.read.Aim.{Aim}
 use Rattle.js_http.specs.Origins.{is_own}
 use Rattle.js_http.specs.Targets.{segments_of}
@@ -32,7 +32,7 @@ abbrev pub IsPrepared : Request → Prepared → Type 0
 IsPrepared request (prepared.Put found) = Gives found (ready_put request.body (segments_of (path_of request)))
 IsPrepared request prepared.Other = request.method ≢ Put
 
--- ---- what is to be done for a request: a plan that is found for it, or a file whose plan is
+-- ---- what is to be done for a request: a plan that is found for it, or a file that was opened, whose plan is
 
 abbrev pub AimsOn : Route → Rows → Given → Request → Result Aim Refusal → Contents → Contents → Type 0
 AimsOn route r given request done m n = Same m n × Comes (IsFoundOn route m r given request) done
@@ -46,19 +46,19 @@ Aims r given request done m n = Same m n × Comes (IsFound m r given request) do
 -- ---- the step
 
 module _ {L : Type 0} (begins : L → List ℕ → L → Type 0) (tells : L → List ℕ → Command → Result (Unit {0}) Untold → L → Type 0) where
-  -- The request has its answer. Or a file is to be shown: nothing has changed, and whatever comes of the file is what is found for
-  -- the request.
+  -- The request has its answer. Or a file was opened and is to be read: nothing has changed, and whatever comes of the file is what is
+  -- found for the request, over the files as they were at the step.
   abbrev pub Steps : Given → Request → Rows → Rows → L → L → Outcome → Contents → Contents → Type 0
   Steps given request r s l k (outcome.Answered answer) m n = IsAnswer begins tells given request r s l k answer m n
-  Steps given request r s l k (outcome.Shown about item) m n =
-      Stays begins tells r s l k m n × ((found : Result Plan Refusal) → Gives found (item_plan about item) → IsFound m r given request found)
+  Steps given request r s l k (outcome.Shown about opening) m n =
+      Stays begins tells r s l k m n × ((found : Result Plan Refusal) → IsOpenedPlan about opening found → IsFound m r given request found)
 
   -- the same without a word on the shelf
   abbrev pub StepsAlone : Option Route → Given → Request → Rows → Rows → L → L → Outcome → Type 0
   StepsAlone path given request r s l k (outcome.Answered answer) = IsAnswerAlone begins tells path given request r s l k answer
-  StepsAlone path given request r s l k (outcome.Shown about item) =
+  StepsAlone path given request r s l k (outcome.Shown about opening) =
       StaysAlone begins tells r s l k
-      × ((found : Result Plan Refusal) → Gives found (item_plan about item) → IsFoundAloneIf (is_own request.headers) path r given request found)
+      × ((found : Result Plan Refusal) → IsOpenedPlan about opening found → IsFoundAloneIf (is_own request.headers) path r given request found)
 
 -- ---- the answer
 
@@ -69,5 +69,5 @@ answer_of (Err refusal) = Reply (Refused (status_of refusal))
 
 abbrev pub Finishes : Outcome → Answer → Type 0
 Finishes (outcome.Answered answer) result = result ≡ answer
-Finishes (outcome.Shown about item) result =
-    (found : Result Plan Refusal) × Gives found (item_plan about item) × (result ≡ answer_of found)
+Finishes (outcome.Shown about opening) result =
+    (found : Result Plan Refusal) × IsOpenedPlan about opening found × (result ≡ answer_of found)

@@ -427,7 +427,7 @@ impl<L: Running> Manager<L> {
         ) {
             Ok(aim) => match aim {
                 Aim::Plan(plan) => Outcome::Answered(self.carry_out(alloc, shelf, plan)),
-                Aim::File(about, item) => Outcome::Shown(about, item),
+                Aim::File(about, opening) => Outcome::Shown(about, opening),
             },
             Err(refusal) => Outcome::Answered(Answer::Reply(Response::Refused(refusal.status()))),
         }

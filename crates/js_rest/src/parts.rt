@@ -15,9 +15,9 @@ ghost use Rattle.js_tables.specs.declared.given.Given.{Given};
 ghost use Rattle.js_tables.specs.declared.plan.Answer.{Answer};
 
 use crate::running::Running;
-use js_contents::{Ready, item_plan, read_put};
+use js_contents::{Ready, opening_plan, read_put};
 use js_http::{Method, Request, Response, path_segments};
-use js_shelf::Item;
+use js_shelf::Opening;
 use js_tables::{About, Answer, Plan, Refusal};
 use std::alloc::Global;
 
@@ -34,8 +34,8 @@ pub enum Prepared {
 #[derive(Drop)]
 pub enum Outcome {
     Answered(Answer),
-    /// A file that was read is to be shown.
-    Shown(About, Item),
+    /// A file that was opened is to be read and shown.
+    Shown(About, Opening),
 }
 
 fn read_ready(alloc: Global, request: &Request) -> Result<Ready, Refusal>
@@ -65,13 +65,14 @@ fn answer_of(found: Result<Plan, Refusal>) -> Answer
     }
 }
 
-/// The answer that an outcome is. Of a file that is to be shown the notebook is read, and the text of the answer is written.
+/// The answer that an outcome is. A file that was opened is read, the notebook is made of its bytes, and the text of the answer is
+/// written. Where the device or memory fails meanwhile, the answer is 500.
 pub fn finish(alloc: Global, outcome: Outcome) -> Answer
     ensures { spec.Finishes outcome result }
 {
     match outcome {
         Outcome::Answered(answer) => answer,
-        Outcome::Shown(about, item) => answer_of(item_plan(alloc, &about, &item)),
+        Outcome::Shown(about, opening) => answer_of(opening_plan(alloc, &about, opening)),
     }
 }
 

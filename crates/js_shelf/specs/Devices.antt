@@ -9,6 +9,8 @@ use Rattle.js_shelf.specs.declared.device.Kind.{Kind}
 use Rattle.js_shelf.specs.declared.device.Kind.TheVariants as kind
 use Rattle.js_shelf.specs.declared.device.DeviceFault.{DeviceFault}
 use Rattle.js_shelf.specs.declared.device.DeviceFault.TheVariants.{Failed, Memory}
+use Rattle.js_shelf.specs.declared.opened.Opened.{Opened}
+use Rattle.js_shelf.specs.Openings.{Promises}
 use Rattle.js_shelf.specs.Paths.{following, name_in}
 use Rattle.js_shelf.specs.Shelves.{Contents, Same, IsListing, IsEmptyFolder, with_item, moved}
 
@@ -48,6 +50,11 @@ Becomes is_named has_become (Err fault) old new = Leaves is_named fault old new
 abbrev pub Looks : List ℕ → Result Kind DeviceFault → Contents → Contents → Type 0
 Looks path = Finds (λ m kind. IsKind kind (m path))
 
+-- the file that stands there was opened
+abbrev pub Opens : List ℕ → Result Opened DeviceFault → Contents → Contents → Type 0
+Opens path = Finds (λ m opened. (bytes : List ℕ) × (m path ≡ Some (File bytes)) × Promises opened bytes)
+
+-- a file was opened and read
 abbrev pub Reads : List ℕ → Result (List ℕ) DeviceFault → Contents → Contents → Type 0
 Reads path = Finds (λ m bytes. m path ≡ Some (File bytes))
 

@@ -11,6 +11,8 @@ use Rattle.js_shelf.specs.declared.item.ItemKind.TheVariants as kind
 use Rattle.js_shelf.specs.declared.item.ShelfRefusal.{ShelfRefusal}
 use Rattle.js_shelf.specs.declared.item.ShelfRefusal.TheVariants.{Missing, Exists, BadPath, NotEmpty, Device, Memory}
 use Rattle.std.specs.Str.{bytes_eq}
+use Rattle.js_shelf.specs.declared.opened.Opening.{Opening}
+use Rattle.js_shelf.specs.Openings.{IsOpening}
 use Rattle.js_shelf.specs.Paths.{is_path, is_root, parent_of, only_if, following, goes, name_in}
 
 -- what stands at each path
@@ -124,6 +126,12 @@ Keeps is_named Memory old new = Same old new
 abbrev pub Gets : List ℕ → Result Item ShelfRefusal → Contents → Contents → Type 0
 Gets path (Ok item) old new = (get_fault old path ≡ None) × (old path ≡ Some item) × Same old new
 Gets path (Err e) old new = IsRefused (get_fault old path) e × Same old new
+
+-- open: what stands at the path was opened
+abbrev pub Opens : List ℕ → Result Opening ShelfRefusal → Contents → Contents → Type 0
+Opens path (Ok opening) old new =
+    (get_fault old path ≡ None) × ((item : Item) × (old path ≡ Some item) × IsOpening opening item) × Same old new
+Opens path (Err e) old new = IsRefused (get_fault old path) e × Same old new
 
 -- the kind of an item, which for a file has the number of its bytes
 abbrev pub kind_of : Item → ItemKind

@@ -2,9 +2,9 @@
 ghost use Rattle.std.specs.Prelude.{Option, Some, None};
 ghost use Rattle.js_shelf.specs.declared.item.Item.TheVariants.{File, Folder};
 ghost use Rattle.js_shelf.specs.Shelves.{Contents, Tells};
-ghost use Rattle.js_shelf.specs.Devices.{Looks, Reads, TellsNames, Sets, Moves, RemovesFolder};
+ghost use Rattle.js_shelf.specs.Devices.{Looks, Opens, TellsNames, Sets, Moves, RemovesFolder};
 
-use crate::{Bytes, Names, Place};
+use crate::{Names, Opened, Place};
 use std::alloc::{AllocError, AllocFailed};
 use std::io;
 use std::io::ErrorKind;
@@ -72,9 +72,9 @@ pub trait Device {
     fn kind(&mut self, place: &Place) -> Result<Kind, DeviceFault>
         ensures { Tells (contents self.old) (contents self.new) (Looks place.now result) };
 
-    /// The bytes of the file at the place.
-    fn read(&mut self, place: &Place) -> Result<Bytes, DeviceFault>
-        ensures { Tells (contents self.old) (contents self.new) (Reads place.now result) };
+    /// Opens the file at the place. What was opened stays as it was, whatever is written there afterwards.
+    fn open(&mut self, place: &Place) -> Result<Opened, DeviceFault>
+        ensures { Tells (contents self.old) (contents self.new) (Opens place.now result) };
 
     /// The names of what stands directly in the folder at the place, in byte order.
     fn names(&mut self, place: &Place) -> Result<Names, DeviceFault>

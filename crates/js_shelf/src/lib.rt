@@ -4,6 +4,7 @@
 mod device;
 mod item;
 mod memory;
+mod opened;
 mod path;
 mod place;
 mod shelf;
@@ -11,6 +12,7 @@ mod shelf;
 pub use device::{Device, DeviceFault, Kind};
 pub use item::{Bytes, Item, ItemKind, Name, Names, ShelfRefusal};
 pub use memory::MemoryShelf;
+pub use opened::{Opened, Opening, SystemFile};
 pub use path::{is_below, is_below_root, is_path, is_step};
 pub use place::Place;
 pub use shelf::Shelf;

@@ -12,7 +12,7 @@ ghost use Rattle.js_shelf.specs.declared.item.Item.TheVariants as items;
 mod device;
 
 use crate::path::{following, is_below, is_below_root, name_in, parent_of};
-use crate::{Item, ItemKind, Name, Names, Shelf, ShelfRefusal, is_path};
+use crate::{Item, ItemKind, Name, Names, Opening, Shelf, ShelfRefusal, is_path};
 use std::alloc::{AllocError, Global};
 use std::collections::BTreeMap;
 
@@ -167,6 +167,16 @@ impl Shelf for MemoryShelf {
         }
         match self.items.get(path) {
             Some(item) => Ok(item.copy()?),
+            None => Err(ShelfRefusal::Missing),
+        }
+    }
+
+    fn open(&mut self, path: &str) -> Result<Opening, ShelfRefusal> {
+        if !is_path(path) {
+            return Err(ShelfRefusal::BadPath);
+        }
+        match self.items.get(path) {
+            Some(item) => Ok(Opening::of(item.copy()?)),
             None => Err(ShelfRefusal::Missing),
         }
     }

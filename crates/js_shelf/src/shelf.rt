@@ -1,8 +1,8 @@
 //! What a shelf does, whatever keeps it.
 ghost use Rattle.std.specs.Prelude.{◌≡◌, ℕ, Option};
-ghost use Rattle.js_shelf.specs.Shelves.{Contents, Tells, HasCause, Gets, Kinds, Lists, Puts, Renames, Deletes};
+ghost use Rattle.js_shelf.specs.Shelves.{Contents, Tells, HasCause, Gets, Opens, Kinds, Lists, Puts, Renames, Deletes};
 
-use crate::{Item, ItemKind, Names, ShelfRefusal};
+use crate::{Item, ItemKind, Names, Opening, ShelfRefusal};
 
 /// Files and folders under one root: a map from paths to items. A path is a text of at most 16 segments with a slash
 /// between two; the empty text is the root, which is a folder and stays one. A segment has 1 to 255 bytes, is neither
@@ -16,12 +16,18 @@ pub trait Shelf {
     // What stands at each path, where the device tells it (an honest one does).
     ghost contents: { Self → Option Contents };
 
-    // How often the device has failed.
+    // How often the device has failed in calls of the shelf.
     ghost faults: { Self → ℕ };
 
     /// What stands at the path: a folder, or a file with its bytes. Refused with `BadPath`, `Missing`.
     fn get(&mut self, path: &str) -> Result<Item, ShelfRefusal>
         ensures answer { Tells (contents self.old) (contents self.new) (Gets path.now result) }
+        ensures cause { HasCause (faults self.old) (faults self.new) result };
+
+    /// Opens what stands at the path: a folder, or a file whose bytes are read later, by whoever has it. It stays as it was, whatever
+    /// the shelf does afterwards. A fault of that reading is no fault of a call of the shelf. Refused with `BadPath`, `Missing`.
+    fn open(&mut self, path: &str) -> Result<Opening, ShelfRefusal>
+        ensures answer { Tells (contents self.old) (contents self.new) (Opens path.now result) }
         ensures cause { HasCause (faults self.old) (faults self.new) result };
 
     /// What stands at the path, told without reading a file: what `get` says, but for the bytes. Refused with `BadPath`,
@@ -54,7 +60,7 @@ pub trait Shelf {
         ensures answer { Tells (contents self.old) (contents self.new) (Deletes path.now result) }
         ensures cause { HasCause (faults self.old) (faults self.new) result };
 
-    /// How often the device has failed; the count stays at 2^64 - 1.
+    /// How often the device has failed in calls of the shelf; the count stays at 2^64 - 1.
     fn failures(&self) -> u64
         ensures { result ≡ faults self.now };
 }

@@ -1,12 +1,15 @@
 //! A shelf whose device fails at a call.
-ghost use Rattle.std.specs.Prelude.{◌≡◌, None};
+ghost use Rattle.std.specs.Prelude.{◌≡◌, ◌≤◌, None};
 ghost use Rattle.js_shelf.specs.Shelves.{HasCause};
 
-use js_shelf::{Item, ItemKind, MemoryShelf, Names, Shelf, ShelfRefusal};
+use js_shelf::{
+    DeviceFault, Item, ItemKind, MemoryShelf, Names, Opened, Opening, Shelf, ShelfRefusal,
+};
 use std::alloc::{AllocError, Global};
 
 /// A shelf in memory, behind a device that fails at the call of number `fault`, counted from 1, and may say that each
-/// file has so many bytes.
+/// file has so many bytes. The reading of a file counts as the call after its opening, and where it will fail, that is
+/// among the failures from then on.
 #[derive(Drop)]
 pub struct FailingShelf {
     inner: MemoryShelf,
@@ -53,6 +56,19 @@ impl FailingShelf {
         self.calls == self.fault
     }
 
+    // What was opened, or what can't be read where the next call fails.
+    fn kept(&mut self, opening: Opening) -> Opening
+        ensures { self.old.failures ≤ self.new.failures }
+    {
+        match opening {
+            Opening::File(_) if self.fails() => {
+                self.failures = self.failures.saturating_add(1);
+                Opening::File(Opened::Fault(DeviceFault::Failed))
+            }
+            kept => kept,
+        }
+    }
+
     fn counted<T: Drop>(&mut self, outcome: Result<T, ShelfRefusal>) -> Result<T, ShelfRefusal>
         ensures { HasCause self.old.failures self.new.failures result }
     {
@@ -75,6 +91,16 @@ impl Shelf for FailingShelf {
             self.inner.get(path)
         };
         self.counted(outcome)
+    }
+
+    fn open(&mut self, path: &str) -> Result<Opening, ShelfRefusal> {
+        let outcome = if self.fails() {
+            Err(ShelfRefusal::Device)
+        } else {
+            self.inner.open(path)
+        };
+        let opening = self.counted(outcome)?;
+        Ok(self.kept(opening))
     }
 
     fn kind(&mut self, path: &str) -> Result<ItemKind, ShelfRefusal> {

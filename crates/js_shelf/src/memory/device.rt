@@ -2,7 +2,7 @@
 ghost use Rattle.std.specs.Prelude.{Some};
 
 use super::{MemoryShelf, has_names, moved, names_in, set};
-use crate::{Bytes, Device, DeviceFault, Item, Kind, Names, Place};
+use crate::{Bytes, Device, DeviceFault, Item, Kind, Names, Opened, Place};
 
 impl Device for MemoryShelf {
     ghost use Rattle.js_shelf.specs.MemoryShelves.{contents_of};
@@ -17,9 +17,9 @@ impl Device for MemoryShelf {
         })
     }
 
-    fn read(&mut self, place: &Place) -> Result<Bytes, DeviceFault> {
+    fn open(&mut self, place: &Place) -> Result<Opened, DeviceFault> {
         match self.items.get(place.as_str()) {
-            Some(Item::File(bytes)) => Ok(bytes.copy()?),
+            Some(Item::File(bytes)) => Ok(Opened::Kept(bytes.copy()?)),
             _ => Err(DeviceFault::Failed),
         }
     }

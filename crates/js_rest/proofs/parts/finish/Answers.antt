@@ -5,4 +5,4 @@ use Rattle.js_rest.proofs.parts.finish.Goals as goal
 
 pub returns-in-Shown : goal.returns-in-Shown
 returns-in-Shown c =
-    subst (λ (o : Outcome). Finishes o c.answer_of.result) (sym c.in-Shown.is) (c.item_plan.result, c.item_plan.ensures, c.answer_of.ensures)
+    subst (λ (o : Outcome). Finishes o c.answer_of.result) (sym c.in-Shown.is) (c.opening_plan.result, c.opening_plan.ensures, c.answer_of.ensures)

@@ -48,7 +48,7 @@ returns-in-File-clause-shelf g c =
     let tells = g.L.Running.tells in
     let old = g.S.Shelf.contents c.args.shelf.now in
     let found = g.S.Shelf.contents c.find_aim.new.shelf in
-    tells_weaker old found (Aims r given request (Ok (aim.File c.in-File.about c.in-File.item))) (Steps begins tells given request r r l l (outcome.Shown c.in-File.about c.in-File.item))
+    tells_weaker old found (Aims r given request (Ok (aim.File c.in-File.about c.in-File.opening))) (Steps begins tells given request r r l l (outcome.Shown c.in-File.about c.in-File.opening))
     (λ m n h. ((refl, refl, h.0), h.1)) (subst (λ (x : Aim). Tells old found (Aims r given request (Ok x))) c.in-File.is c.in-Ok.ensures.shelf)
 
 pub returns-in-File-clause-alone : goal.returns-in-File-clause-alone
