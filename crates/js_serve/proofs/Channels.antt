@@ -4,7 +4,7 @@ use Rattle.std.proofs.lemmas.List.{length-append}
 use Rattle.jk_log.specs.declared.arrival.Arrival.{Arrival}
 use Rattle.jk_log.specs.declared.arrival.What.{What}
 use Rattle.jk_log.specs.declared.arrival.What.TheVariants.{Join}
-use Rattle.jk_board.specs.Ends.{read_by}
+use Rattle.jk_board.specs.Ends.{board_of, read_by}
 use Rattle.jk_board.specs.declared.follower.Follower.{Follower}
 use Rattle.jk_queues.specs.Ends.{seat_inbox, sent_by}
 use Rattle.jk_queues.specs.declared.inbox.Seat.{Seat}
@@ -42,6 +42,7 @@ module _ {W L S T M : Type 0} where
   stays c = record {
     inbox = refl;
     place = refl;
+    board = refl;
     more = [];
     sends = sym (append-nil (sent_or_held c.outbox));
     got = [];
@@ -52,6 +53,7 @@ module _ {W L S T M : Type 0} where
   same_on old mid new a e = record {
     inbox = ap (λ (c : Channel W L S T M). seat_inbox c.outbox.seat) e ∙ a.inbox;
     place = ap (λ (c : Channel W L S T M). c.outbox.seat.place) e ∙ a.place;
+    board = ap (λ (c : Channel W L S T M). board_of c.feed.follower) e ∙ a.board;
     more = a.more;
     sends = ap (λ (c : Channel W L S T M). sent_or_held c.outbox) e ∙ a.sends;
     got = a.got;
@@ -66,6 +68,7 @@ module _ {W L S T M : Type 0} where
       record {
         inbox = t.seat.1 ∙ a.inbox;
         place = t.seat.0 ∙ a.place;
+        board = t.board ∙ a.board;
         more = a.more ++ (t.came ++ end);
         sends = t.arrivals ∙ (append_assoc before t.came end ∙ (ap (λ xs. xs ++ (t.came ++ end)) a.sends ∙ append_assoc (sent_or_held old.outbox) a.more (t.came ++ end)));
         got = a.got ++ t.got;
@@ -94,11 +97,20 @@ module _ {W L S T M : Type 0} where
       record {
         inbox = ap seat_inbox seat ∙ (goes.inbox ∙ ap seat_inbox fresh.seated);
         place = ap (λ (s : Seat). s.place) seat ∙ (goes.place ∙ ap (λ (s : Seat). s.place) fresh.seated);
+        board = ap board_of follower ∙ (goes.board ∙ ap board_of fresh.follows);
         sent = sent.0;
         sends = ap sent_by seat ∙ sent.1;
         read = goes.got;
         reads = ap read_by follower ∙ (goes.reads ∙ ap (λ (f : Follower L S T M). read_by f ++ goes.got) fresh.follows);
       }
+
+  -- and the follower is of the board of the seat's inbox still
+  pub own_still : (stream : W) (names : Names) (old : Free L S T M) (seat : Seat) (follower : Follower L S T M) (first last : Channel W L S T M)
+      → IsNew first stream names old.seat old.follower → GoesOn first last → seat ≡ last.outbox.seat → follower ≡ last.feed.follower
+      → board_of follower ≡ seat_inbox seat
+  own_still stream names old seat follower first last fresh goes same follows =
+      let inbox = ap seat_inbox same ∙ (goes.inbox ∙ ap seat_inbox fresh.seated) in
+      ap board_of follows ∙ (goes.board ∙ (ap board_of fresh.follows ∙ (old.own ∙ sym inbox)))
 
   -- one turn
   pub turned : (remaining contents : W → Option (List ℕ)) (date : List ℕ) (old new : Channel W L S T M) (turn closed : Turn)
@@ -110,6 +122,7 @@ module _ {W L S T M : Type 0} where
   goes_further old mid new a b = record {
     inbox = b.inbox ∙ a.inbox;
     place = b.place ∙ a.place;
+    board = b.board ∙ a.board;
     more = a.more ++ b.more;
     sends = b.sends ∙ (ap (λ xs. xs ++ b.more) a.sends ∙ append_assoc (sent_or_held old.outbox) a.more b.more);
     got = a.got ++ b.got;

@@ -19,7 +19,7 @@ use Rattle.crossbeam_channel.proofs.channel.Sender.TheSendSync as sender
 use Rattle.jk_language.specs.declared.language.Language as language
 use Rattle.js_http.proofs.request.Request.TheSendSync as request
 use Rattle.js_http.proofs.response.Response.TheSendSync as response
-use Rattle.js_shelf.proofs.item.Item.TheSendSync as item
+use Rattle.js_shelf.proofs.opened.Opening.TheSendSync as shown
 use Rattle.js_tables.proofs.forms.About.TheSendSync as about
 use Rattle.js_ws.proofs.names.Names.TheSendSync as names
 use Rattle.jk_board.proofs.Crossing.{follower_send}
@@ -104,7 +104,7 @@ upgrade_send : (L S T M : RattleType) (g : language.Ghosts L.Denot S.Denot T.Den
 upgrade_send L S T M g = declared_send (Upgrade.the_type L S T M g) (place_send L S T M g, (names.the_send, (search (selector_send, crosses, sendable) depth 60 fits 20000, tt)))
 
 reply_send : (L S T M : RattleType) (g : language.Ghosts L.Denot S.Denot T.Denot M.Denot) → IsSend (Reply.the_row L S T M g)
-reply_send L S T M g = variants_send (Reply.enum L S T M g) ((response.the_send, tt), ((about.the_send, (item.the_send, tt)), ((response.the_send, tt), ((response.the_send, (upgrade_send L S T M g, tt)), (tt, tt)))))
+reply_send L S T M g = variants_send (Reply.enum L S T M g) ((response.the_send, tt), ((about.the_send, (shown.the_send, tt)), ((response.the_send, tt), ((response.the_send, (upgrade_send L S T M g, tt)), (tt, tt)))))
 
 call_send : (L S T M : RattleType) (g : language.Ghosts L.Denot S.Denot T.Denot M.Denot) → IsSend (Call.the_row L S T M g)
 call_send L S T M g = variants_send (Call.enum L S T M g) (

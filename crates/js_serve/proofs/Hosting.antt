@@ -1,11 +1,13 @@
 -- What a step of one kernel is to those who see of each kernel what it was told.
-use Rattle.std.proofs.Common.{◌≡◌, ◌<◌, ◌+◌, ℕ, Bool, true, false, cond, List, [], ◌∷◌, ◌++◌, map, length, get_or, set, refl, sym, ap, ◌∙◌, subst, Option, Some, None, Result, Ok, Err, arith}
+use Rattle.std.proofs.Common.{◌≡◌, inl, inr, ◌<◌, ◌+◌, ℕ, Bool, true, false, cond, List, [], ◌∷◌, ◌++◌, map, length, get_or, set, refl, sym, ap, ◌∙◌, subst, Option, Some, None, Result, Ok, Err, arith}
 use Rattle.std.specs.Prelude.{IfOk, IfSome, OnErr, MatchBool, is_ok, not, position, slice_get, nat_lt, option_map}
 use Rattle.std.specs.List.{prefix_len, position_or_len}
 use Rattle.std.specs.Str.{bytes_eq}
 use Rattle.std.proofs.Math.Seq.{map-set_same}
 use Rattle.std.proofs.lemmas.List.{map-append, map-set, length-map}
+use Rattle.std.proofs.lemmas.List.Quantifiers.{position-Some}
 use Rattle.std.proofs.lemmas.Option.{slice_get-map, slice_get_read}
+use Rattle.std.proofs.lemmas.Slice.Eq.{bytes_eq-Decides}
 use borrow.Author.Tests.{ltb-true}
 use Rattle.jk_log.specs.Asked.{sort_as}
 use Rattle.jk_log.specs.declared.arrival.Arrival.{Arrival}
@@ -17,11 +19,16 @@ use Rattle.js_home.specs.declared.home.Home.{Home}
 use Rattle.jk_queues.specs.Ends.{seat_inbox, sent_by}
 use Rattle.std.specs.declared.alloc.AllocError.{AllocError}
 use Rattle.js_rest.specs.declared.untold.Untold.{Untold}
+use Rattle.js_shelf.specs.Shelves.{Contents}
+use Rattle.js_tables.specs.Tables.{Rows}
 use Rattle.js_tables.specs.declared.plan.Command.{Command}
 use Rattle.js_serve.specs.Told.{KernelState, IsToldOneMore, Tells as TellsOne, asked, outcome, told_more, place_in}
 use Rattle.js_serve.specs.Hosting.{HasTold, IsPlaceOf, IsPlaceAt, state_of, state_in, home_of, kernel_of, states_of}
+use Rattle.js_serve.specs.Boards.{inbox_in}
+use Rattle.js_serve.specs.Recording.{ReadsAndTells, Records, RecordsAt, Tells as TellsRecorder, inbox_at}
 use Rattle.js_serve.specs.declared.call.Place.{Place}
 use Rattle.js_serve.specs.declared.kernels.Hosted.{Hosted}
+use Rattle.js_serve.specs.declared.recording.Scribe.{Scribe}
 
 prefix_map : {X Y : Type 0} (f : X → Y) (p : Y → Bool) (xs : List X) → prefix_len p (map f xs) ≡ prefix_len (λ x. p (f x)) xs
 prefix_map f p [] = refl
@@ -138,3 +145,49 @@ module _ {L S T M : Type 0} where
   lent_so (Ok (Some p)) P Q f h = f p h
   lent_so (Ok None) P Q f h = tt
   lent_so (Err e) P Q f h = tt
+
+  -- ---- recorders
+
+  inbox_seen : (home : Option (Home L S T M)) → inbox_at (state_in home) ≡ inbox_in home
+  inbox_seen None = refl
+  inbox_seen (Some h) = refl
+
+  -- the follower that was there has read, and then nothing was told, or what is held
+  pub records_of : (c d : Option Contents) (f g : ℕ) (kernel date : List ℕ) (old : Option (Scribe L S T M)) (x new : Scribe L S T M) (r s : Rows)
+      → Some x ≡ old → ReadsAndTells c d f g kernel date x new r s → Records c d f g kernel date old (Some new) r s
+  records_of c d f g kernel date old x new r s is h =
+      subst (λ (o : Option (Scribe L S T M)). Records c d f g kernel date o (Some new) r s) is (new, refl, h)
+
+  -- what is told for an identifier is told for one that is the same
+  pub told_for : (c d : Option Contents) (f g : ℕ) (kernel other date : List ℕ) (mid new : Scribe L S T M) (r s : Rows)
+      → other ≡ kernel → TellsRecorder c d f g other date mid new r s → TellsRecorder c d f g kernel date mid new r s
+  told_for c d f g kernel other date mid new r s same t = subst (λ (k : List ℕ). TellsRecorder c d f g k date mid new r s) same t
+
+  found_id : (ks : List (Hosted L S T M)) (place : ℕ) (was : Hosted L S T M) (id : List ℕ) → position (λ k. bytes_eq k.id id) ks ≡ Some place
+      → was ≡ get_or ks place was → was.id ≡ id
+  found_id ks place was id first at =
+      let found = position-Some (λ (k : Hosted L S T M). bytes_eq k.id id) ks place was first in
+      (bytes_eq-Decides was.id id).0 (ap (λ (k : Hosted L S T M). bytes_eq k.id id) at ∙ found.1)
+
+  recorded_by : (c d : Option Contents) (f g : ℕ) (ks : List (Hosted L S T M)) (place : ℕ) (was : Hosted L S T M) (id date : List ℕ) (r s : Rows)
+      → position (λ k. bytes_eq k.id id) ks ≡ Some place → was ≡ get_or ks place was → (scribe new : Option (Scribe L S T M)) → was.ends.scribe ≡ scribe
+      → Records c d f g was.id date scribe new r s → RecordsAt L S T M c d f g id date (states_of ks) r s
+  recorded_by c d f g ks place was id date r s first at None new is h = inl (h.1, h.2)
+  recorded_by c d f g ks place was id date r s first at (Some old) new is h = inr (
+    place,
+    kernel_of was,
+    id_place id ks ∙ first,
+    there_at ks place was (position_low (λ (k : Hosted L S T M). bytes_eq k.id id) ks place first) at,
+    old,
+    h.0,
+    inbox_seen was.ends.home ∙ was.ends.own.1.1 old is,
+    subst (λ (kernel : List ℕ). ReadsAndTells c d f g kernel date old h.0 r s) (found_id ks place was id first at) h.2,
+  )
+
+  -- the first kernel of an identifier let its recorder follow
+  pub recorded_at : (c d : Option Contents) (f g : ℕ) (old : List KernelState) (ks : List (Hosted L S T M)) (place : ℕ) (was : Hosted L S T M) (id date : List ℕ) (r s : Rows)
+      → states_of ks ≡ old → position (λ k. bytes_eq k.id id) ks ≡ Some place → was ≡ get_or ks place was → (new : Option (Scribe L S T M))
+      → Records c d f g was.id date was.ends.scribe new r s → RecordsAt L S T M c d f g id date old r s
+  recorded_at c d f g old ks place was id date r s view first at new h =
+      subst (λ (states : List KernelState). RecordsAt L S T M c d f g id date states r s) view
+      (recorded_by c d f g ks place was id date r s first at was.ends.scribe new refl h)

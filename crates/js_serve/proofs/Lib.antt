@@ -1,3 +1,4 @@
+pub mod Boards
 pub mod Channels
 pub mod Crossing
 pub mod Hosting

@@ -3,6 +3,7 @@
 use Rattle.std.specs.Prelude.{◌≡◌, ◌<◌, ℕ, List, [], ◌∷◌, ◌++◌, map, Option, Some, None, slice_get}
 use Rattle.jk_log.specs.declared.arrival.Sort.{Sort}
 use Rattle.jk_log.specs.Asked.{sort_as}
+use Rattle.jk_board.specs.Ends.{board_of}
 use Rattle.jk_queues.specs.Ends.{seat_inbox}
 use Rattle.js_home.specs.Homes.{told_by}
 use Rattle.js_home.specs.declared.home.Home.{Home}
@@ -32,10 +33,10 @@ module _ {L S T M : Type 0} where
   abbrev pub states_of : List (Hosted L S T M) → List KernelState
   states_of ks = map kernel_of ks
 
-  -- it is one of the places 1 to 7 of this home's inbox
+  -- it is one of the places 1 to 7 of this home's inbox, and follows the board of the kernel that takes from there
   abbrev pub IsPlaceOf : Option HomeState → Place L S T M → Type 0
   IsPlaceOf home p =
-      (h : HomeState) × (home ≡ Some h) × (seat_inbox p.lent.lease.value.seat ≡ h.inbox)
+      (h : HomeState) × (home ≡ Some h) × (seat_inbox p.lent.lease.value.seat ≡ h.inbox) × (board_of p.lent.lease.value.follower ≡ h.inbox)
       × (0 < p.lent.lease.value.seat.place) × (p.lent.lease.value.seat.place < 8)
 
   -- it is a place of the kernel of this identifier

@@ -1,3 +1,4 @@
+pub mod Boards
 pub mod Recording
 pub mod Told
 pub mod Hosting

@@ -7,7 +7,7 @@ use jk_language::Language;
 use js_home::Place as Lent;
 use js_http::{Request, Response};
 use js_paced::Selector;
-use js_shelf::Item;
+use js_shelf::Opening;
 use js_tables::About;
 use js_ws::Names;
 
@@ -32,8 +32,8 @@ pub struct Upgrade<L: Language> {
 #[derive(Drop)]
 pub enum Reply<L: Language> {
     Response(Response),
-    /// A file that was read. The thread of the connection makes the response.
-    Shown(About, Item),
+    /// A file that was opened. The thread of the connection reads it and makes the response.
+    Shown(About, Opening),
     /// The last response before the server stops. Whoever has written it tells the desk so.
     Last(Response),
     /// The switch to a WebSocket, and what its channel is given.

@@ -12,7 +12,7 @@ use js_http::{
 };
 use js_paced::{Limited, end_of_answer};
 use js_rest::{Outcome, finish};
-use js_shelf::Item;
+use js_shelf::Opening;
 use js_tables::{About, Answer};
 use std::alloc::Global;
 use std::net::{Shutdown, TcpListener, TcpStream};
@@ -107,8 +107,8 @@ pub(crate) fn serve_connection<L: Language, R: Wait + Clock + Copy + Drop>(
     match read_request(alloc, &mut limited) {
         Ok(request) => match ask(rt, alloc, calls, request) {
             Some(Reply::Response(response)) => respond(&mut limited, &response),
-            Some(Reply::Shown(about, item)) => {
-                let response = shown(alloc, about, item);
+            Some(Reply::Shown(about, opening)) => {
+                let response = shown(alloc, about, opening);
                 respond(&mut limited, &response);
             }
             Some(Reply::Last(response)) => {
@@ -154,9 +154,9 @@ fn refuse<R: Clock + Copy + Drop>(
     }
 }
 
-/// The response that shows a file.
-fn shown(alloc: Global, about: About, item: Item) -> Response {
-    match finish(alloc, Outcome::Shown(about, item)) {
+/// The response that shows a file, which is read here: other requests are answered meanwhile.
+fn shown(alloc: Global, about: About, opening: Opening) -> Response {
+    match finish(alloc, Outcome::Shown(about, opening)) {
         Answer::Reply(response) => response,
         _ => Response::Refused(ErrorStatus::InternalServerError),
     }

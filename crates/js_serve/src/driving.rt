@@ -1,5 +1,6 @@
 //! The thread of a kernel: it makes the kernel with all its ends, hands out those of others, and drives it to its end.
 ghost use Rattle.std.specs.Prelude.{◌≡◌, [], IfOk};
+ghost use Rattle.jk_board.specs.Ends.{AreFollowersOf, board_of};
 ghost use Rattle.jk_core.specs.State.{fresh};
 ghost use Rattle.jk_queues.specs.Ends.{AreAllOf, seat_inbox, taken_by, taker_inbox};
 
@@ -36,7 +37,7 @@ pub struct Opening<L: Language> {
     pub left: Arc<AtomicBool, Global>,
 }
 
-/// The ends of a new kernel that the desk holds.
+/// The ends of a new kernel that the desk holds. All who follow follow the board of the kernel that takes from the home's inbox.
 #[derive(Drop)]
 pub struct Opened<L: Language> {
     /// Seat 0, and the places that are lent.
@@ -47,6 +48,8 @@ pub struct Opened<L: Language> {
     pub watch: Follower<L>,
     /// The follower for a recorder.
     pub recorder: Follower<L>,
+    ghost watched: { board_of watch ≡ seat_inbox home.zero },
+    ghost recorded: { board_of recorder ≡ seat_inbox home.zero },
 }
 
 /// A new kernel with the ends of its driver but for the publisher, and the ends of others.
@@ -67,12 +70,21 @@ struct Bells {
     parsers: Vec<Bell>,
 }
 
-fn make<L: Language>(alloc: Global, followers: Followers<L>) -> Result<Made<L>, AllocError>
+/// A new kernel that takes from this inbox, with the followers of its board.
+fn make<L: Language>(
+    alloc: Global,
+    inbox: Inbox,
+    followers: Followers<L>,
+) -> Result<Made<L>, AllocError>
+    requires taker { taken_by inbox.taker ≡ [] }
+    requires seats { AreAllOf (taker_inbox inbox.taker) inbox.seats }
+    requires followers { AreFollowersOf (taker_inbox inbox.taker) followers }
     ensures kernel { IfOk result (λ made. made.kernel ≡ fresh) }
     ensures taker { IfOk result (λ made. taken_by made.taker ≡ []) }
+    ensures own { IfOk result (λ made. taker_inbox made.taker ≡ taker_inbox inbox.taker) }
     ensures inbox { IfOk result (λ made. seat_inbox made.opened.home.zero ≡ taker_inbox made.taker) }
 {
-    let Inbox { taker, seats } = Inbox::new(alloc)?;
+    let Inbox { taker, seats } = inbox;
     let (pool, workers) = Pool::<ParsedCell<L>>::new(alloc, WORKERS)?;
     let kernel = Kernel::<L>::new(alloc)?;
     let wakes = Wakes::new(alloc)?;
@@ -116,7 +128,8 @@ fn ends_of<L: Language>(
     followers: Followers<L>,
     wakes: Wakes,
 ) -> Result<Opened<L>, AllocError>
-    requires { AreAllOf (seat_inbox seats.zero) seats }
+    requires seats { AreAllOf (seat_inbox seats.zero) seats }
+    requires followers { AreFollowersOf (seat_inbox seats.zero) followers }
     ensures { IfOk result (λ opened. opened.home.zero ≡ seats.zero) }
 {
     let Followers {
@@ -140,12 +153,14 @@ fn ends_of<L: Language>(
     })
 }
 
-/// A kernel that was made, and whose parsers have no threads yet. It ends by `drive_kernel`.
+/// A kernel that was made, and whose parsers have no threads yet. The desk's ends are of the inbox from which its driver takes. It ends
+/// by `drive_kernel`.
 pub struct NewKernel<L: Language> {
     driver: Driver<L>,
     opening: Opening<L>,
     opened: Opened<L>,
     bells: Bells,
+    ghost own: { seat_inbox opened.home.zero ≡ taker_inbox driver.taker },
 }
 
 /// Makes a kernel and its parsers. Where memory is refused there is none, and nothing is handed out.
@@ -154,16 +169,19 @@ pub(crate) fn make_kernel<L: Language, R: Wait>(
     alloc: Global,
     opening: Opening<L>,
 ) -> Option<(Vec<Parser<L>>, NewKernel<L>)> {
+    let Ok(inbox) = Inbox::new(alloc) else {
+        return None;
+    };
     let Ok(
         Board {
             publisher,
             followers,
         },
-    ) = Board::<L>::new(rt, alloc)
+    ) = Board::<L>::new(rt, alloc, &inbox.taker)
     else {
         return None;
     };
-    let Ok(made) = make::<L>(alloc, followers) else {
+    let Ok(made) = make::<L>(alloc, inbox, followers) else {
         publisher.end(rt);
         return None;
     };

@@ -4,10 +4,11 @@ ghost use Rattle.std.specs.Str.{bytes_eq};
 ghost use Rattle.jk_log.specs.Asked.{sort_as};
 ghost use Rattle.js_serve.specs.Told.{asked};
 ghost use Rattle.js_serve.specs.Told as commands;
-ghost use Rattle.js_serve.specs.Hosting as spec;
+ghost use Rattle.js_serve.specs.Boards.{AreOn, AreOn-prop};
 
 use crate::call::Place;
 use crate::driving::{Opened, Opening};
+use crate::pulse::Found;
 use crate::recording::Scribe;
 use crate::wakes::{SERVER, Wakes};
 use crate::watch::Watch;
@@ -16,8 +17,10 @@ use jk_board::Follower;
 use jk_language::Language;
 use jk_log::{Sort, What, sort_of};
 use jp_msg::read_message;
+use js_follow::is_due;
 use js_home::{Home, NoPlace};
 use js_rest::{Running, Untold};
+use js_shelf::Shelf;
 use js_tables::{Command, Kernel as Row, Tables};
 use json_form::{Shared, Text};
 use std::alloc::{AllocError, Global};
@@ -38,7 +41,7 @@ const RESTART: &str =
 const SHUTDOWN: &str =
     "{\"channel\":\"control\",\"content\":{\"restart\":false},\"header\":{\"msg_id\":\"server\",\"msg_type\":\"shutdown_request\",\"session\":\"server\"}}";
 
-/// The server's ends of one kernel.
+/// The server's ends of one kernel. Who follows there follows the board of the kernel that takes from the home's inbox.
 #[derive(Drop)]
 pub(crate) struct Ends<L: Language> {
     /// Seat 0 and the places, once the kernel's thread has handed them out.
@@ -54,6 +57,7 @@ pub(crate) struct Ends<L: Language> {
     scribe: Option<Scribe<L>>,
     /// Set once nobody follows the kernel any more.
     left: Arc<AtomicBool, Global>,
+    ghost own: { AreOn home watch recorder scribe } by { AreOn-prop home watch recorder scribe },
 }
 
 /// A kernel that runs: its identifier, and the server's ends of it.
@@ -156,6 +160,8 @@ fn take_all_back<L: Language, R: Wait>(rt: &R, home: Home<L>) -> Home<L>
 }
 
 impl<L: Language> Ends<L> {
+    ghost use Rattle.js_serve.specs.Hosting as spec;
+
     /// Nothing came of the kernel yet.
     fn new(alloc: Global, left: Arc<AtomicBool, Global>) -> Ends<L>
         ensures { result.home ≡ None }
@@ -186,6 +192,7 @@ impl<L: Language> Ends<L> {
         let (watch, _) = watch.pass();
         self.watch = Some(Watch::new(watch));
         self.recorder = Some(recorder);
+        self.scribe = None;
     }
 
     /// Wakes the kernel and its channels.
@@ -268,27 +275,12 @@ impl<L: Language> Ends<L> {
             return false;
         };
         let (follower, passed) = follower.pass();
-        let began = passed.is_ok();
-        if began {
-            self.scribe = Some(Scribe::new(alloc, follower));
-        } else {
+        if passed.is_err() {
             self.recorder = Some(follower);
+            return false;
         }
-        began
-    }
-
-    /// What is read for a recorder, which is to be given back.
-    fn take_scribe(&mut self) -> Option<Scribe<L>>
-        ensures { self.new.home ≡ self.old.home }
-    {
-        self.scribe.take()
-    }
-
-    /// Takes back what is read for a recorder.
-    fn give_scribe(&mut self, scribe: Scribe<L>)
-        ensures { self.new.home ≡ self.old.home }
-    {
-        self.scribe = Some(scribe);
+        self.scribe = Some(Scribe::new(alloc, follower));
+        true
     }
 
     /// Reads for a recorder no more. The follower rests, so that the kernel does not wait for it.
@@ -345,6 +337,37 @@ impl<L: Language> Ends<L> {
 }
 
 impl<L: Language> Hosted<L> {
+    ghost use Rattle.js_serve.specs.Recording.{Records};
+    ghost use Rattle.js_tables.specs.Tables.{rows};
+
+    /// Lets the recorder of the kernel follow what the kernel has shown, by one read, and tries its save where that is due. It says
+    /// what was found.
+    fn record<S: Shelf>(
+        &mut self,
+        alloc: Global,
+        tables: &mut Tables,
+        shelf: &mut S,
+        date: &Text,
+        saves: bool,
+    ) -> Found
+        ensures same { (self.new.id ≡ self.old.id) × (self.new.ends.home ≡ self.old.ends.home) }
+        ensures records { Records (S.contents shelf.old) (S.contents shelf.new) (S.faults shelf.old) (S.faults shelf.new) self.old.id date.now self.old.ends.scribe self.new.ends.scribe (rows tables.old) (rows tables.new) }
+    {
+        let Some(scribe) = self.ends.scribe.take() else {
+            return Found::Nothing;
+        };
+        let scribe = scribe.read(alloc);
+        let found = scribe.found();
+        let due = saves && is_due(tables, self.id.as_str());
+        if !scribe.holds() && !due {
+            self.ends.scribe = Some(scribe);
+            return found;
+        }
+        let scribe = scribe.tell(alloc, tables, shelf, date, self.id.as_str());
+        self.ends.scribe = Some(scribe);
+        found
+    }
+
     /// Reads no more for the recorder where that is gone.
     fn end_unrecorded(&mut self, tables: &Tables)
         ensures { (self.new.id ≡ self.old.id) × (self.new.ends.home ≡ self.old.ends.home) }
@@ -394,6 +417,10 @@ impl<R: Wait + Drop, L: Language> Running for Kernels<R, L> {
 }
 
 impl<R: Wait + Drop, L: Language> Kernels<R, L> {
+    ghost use Rattle.js_serve.specs.Hosting as spec;
+    ghost use Rattle.js_serve.specs.Recording.{RecordsAt};
+    ghost use Rattle.js_tables.specs.Tables.{rows};
+
     /// No kernels.
     pub fn new(rt: R, alloc: Global) -> Kernels<R, L>
         ensures { result ≡ [] }
@@ -463,23 +490,23 @@ impl<R: Wait + Drop, L: Language> Kernels<R, L> {
         }
     }
 
-    /// What is read for the recorder of a kernel, which is to be given back.
-    pub(crate) fn take_scribe(&mut self, id: &str) -> Option<Scribe<L>>
-        ensures { self.new ≡ self.old }
+    /// Lets the recorder of a kernel follow what the kernel has shown, by one read, and tries its save where that is due. It says
+    /// what was found.
+    pub(crate) fn record<S: Shelf>(
+        &mut self,
+        id: &str,
+        tables: &mut Tables,
+        shelf: &mut S,
+        date: &Text,
+        saves: bool,
+    ) -> Found
+        ensures same { self.new ≡ self.old }
+        ensures records { RecordsAt L L.Session L.Tree L.Machine (S.contents shelf.old) (S.contents shelf.new) (S.faults shelf.old) (S.faults shelf.new) id.now date.now self.old (rows tables.old) (rows tables.new) }
     {
-        match place_of(self.hosted.as_slice(), id) {
-            Some(place) => self.hosted[place].ends.take_scribe(),
-            None => None,
-        }
-    }
-
-    /// Takes back what is read for the recorder of a kernel.
-    pub(crate) fn give_scribe(&mut self, id: &str, scribe: Scribe<L>)
-        ensures { self.new ≡ self.old }
-    {
-        if let Some(place) = place_of(self.hosted.as_slice(), id) {
-            self.hosted[place].ends.give_scribe(scribe);
-        }
+        let Some(place) = place_of(self.hosted.as_slice(), id) else {
+            return Found::Nothing;
+        };
+        self.hosted[place].record(self.alloc, tables, shelf, date, saves)
     }
 
     /// Whether the recorder of a kernel was told all that the kernel will ever show, or nothing is read for it.

@@ -1,11 +1,12 @@
 //! What is read for the recorder of a kernel's session.
 ghost use Rattle.std.specs.Prelude.{◌≡◌, ◌++◌, ◌||◌, []};
 ghost use Rattle.std.specs.List.{list_any};
-ghost use Rattle.jk_board.specs.Ends.{read_by};
+ghost use Rattle.jk_board.specs.Ends.{board_of, read_by};
 ghost use Rattle.js_serve.specs.Recording as spec;
 ghost use Rattle.js_tables.specs.Tables.{rows};
 ghost use Rattle.js_ws.specs.Shutdowns as last;
 
+use crate::pulse::Found;
 use jk_board::Follower;
 use jk_language::Language;
 use jk_log::{Entry, Told};
@@ -84,7 +85,8 @@ impl<L: Language> Scribe<L> {
 
     /// Reads on, where the recorder was told all that was read before.
     pub(crate) fn read(self, alloc: Global) -> Scribe<L>
-        ensures { spec.Reads self result }
+        ensures reads { spec.Reads self result }
+        ensures board { board_of result.follower ≡ board_of self.follower }
     {
         let Scribe {
             follower,
@@ -114,6 +116,17 @@ impl<L: Language> Scribe<L> {
                 over,
                 full: false,
             },
+        }
+    }
+
+    /// What the last read found.
+    pub(crate) fn found(&self) -> Found {
+        if self.full {
+            Found::More
+        } else if self.holds() {
+            Found::Entries
+        } else {
+            Found::Nothing
         }
     }
 

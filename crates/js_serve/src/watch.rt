@@ -1,4 +1,6 @@
 //! What the server itself sees of a kernel.
+ghost use Rattle.std.specs.Prelude.{◌≡◌};
+ghost use Rattle.jk_board.specs.Ends.{board_of};
 
 use jk_board::Follower;
 use jk_language::Language;
@@ -29,7 +31,9 @@ fn state_of(said: Said) -> State {
 
 impl<L: Language> Watch<L> {
     /// Nothing was found yet.
-    pub(crate) fn new(follower: Follower<L>) -> Watch<L> {
+    pub(crate) fn new(follower: Follower<L>) -> Watch<L>
+        ensures { result.follower ≡ follower }
+    {
         Watch {
             follower,
             state: State::Idle,
@@ -37,7 +41,9 @@ impl<L: Language> Watch<L> {
         }
     }
 
-    fn see(&mut self, entry: &Entry) {
+    fn see(&mut self, entry: &Entry)
+        ensures { self.new.follower ≡ self.old.follower }
+    {
         match &entry.content {
             Told::Output(Output::Status(said)) => self.state = state_of(*said),
             Told::Output(Output::ShutdownReply { restart: false }) => self.ended = true,
@@ -46,7 +52,9 @@ impl<L: Language> Watch<L> {
     }
 
     /// Reads on, and says how many entries were found.
-    fn read_some(self, alloc: Global) -> (Watch<L>, usize) {
+    fn read_some(self, alloc: Global) -> (Watch<L>, usize)
+        ensures { board_of result.0.follower ≡ board_of self.follower }
+    {
         let Watch {
             follower,
             state,
@@ -68,7 +76,9 @@ impl<L: Language> Watch<L> {
     }
 
     /// Reads all that is there, and says whether anything was found.
-    pub(crate) fn read(self, alloc: Global) -> (Watch<L>, bool) {
+    pub(crate) fn read(self, alloc: Global) -> (Watch<L>, bool)
+        ensures { board_of result.0.follower ≡ board_of self.follower }
+    {
         let (mut watch, first) = self.read_some(alloc);
         let mut last = first;
         for _ in 0..u64::MAX {

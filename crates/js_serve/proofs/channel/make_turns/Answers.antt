@@ -1,10 +1,19 @@
 use Rattle.std.proofs.Common.{◌∙◌, ap}
-use Rattle.js_serve.proofs.Channels.{comes_back}
+use Rattle.js_serve.proofs.Channels.{comes_back, own_still}
 use Rattle.js_serve.proofs.channel.make_turns.Goals as goal
+
+pub invariant_of-result : goal.invariant_of-result
+invariant_of-result g c =
+    let ends = c.into_ends-seat.ensures in
+    let left = c.take_leave-channel.ensures in
+    record {
+      own = own_still _ c.args.names c.args.place c.into_ends-seat.result.0 c.into_ends-seat.result.1 c.new-channel.result c.run-channel.result
+          c.new-channel.ensures.fresh c.run-channel.ensures (ap (λ p. p.0) ends ∙ ap (λ o. o.seat) left.0) (ap (λ p. p.1) ends ∙ ap (λ f. f.follower) left.1);
+    }
 
 pub returns : goal.returns
 returns g c =
     let ends = c.into_ends-seat.ensures in
     let left = c.take_leave-channel.ensures in
-    comes_back _ c.args.names c.args.place (record { seat = c.into_ends-seat.result.0; follower = c.into_ends-seat.result.1 }) c.new-channel.result c.run-channel.result
+    comes_back _ c.args.names c.args.place _ c.new-channel.result c.run-channel.result
     c.new-channel.ensures.fresh c.run-channel.ensures (ap (λ p. p.0) ends ∙ ap (λ o. o.seat) left.0) (ap (λ p. p.1) ends ∙ ap (λ f. f.follower) left.1)

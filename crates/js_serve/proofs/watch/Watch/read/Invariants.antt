@@ -1,0 +1,6 @@
+use Rattle.std.proofs.Common.{◌≡◌}
+use Rattle.jk_board.specs.Ends.{board_of}
+use Rattle.js_serve.proofs.watch.Watch.read.Given as goal
+
+abbrev pub invariant-loop : goal.invariant-loop
+invariant-loop g l = board_of l.watch.follower ≡ board_of l.fn.self.follower

@@ -1,0 +1,212 @@
+//! Kernels that end: who waits for that, and the rows that go.
+
+use super::{Asked, Desk, refused};
+use crate::call::Reply;
+use crate::concern::{Concern, id_in, is_within};
+use crate::kernels::Kernels;
+use crate::pulse::QUICK;
+use crossbeam_channel::Sender;
+use jk_language::Language;
+use js_http::{ErrorStatus, Method, Request, Response};
+use js_rest::Running;
+use js_shelf::Shelf;
+use js_tables::{Kernel, Update, find_by_session, find_kernel};
+use json_form::Text;
+use std::random::RandomSource;
+use std::sync::Wait;
+use std::time::{Clock, Instant};
+
+/// How often the follower of a kernel that is ending is read between two other calls, at most.
+const FEW_READS: u32 = 64;
+
+/// Whether a request has to wait for a kernel that is ending.
+#[derive(Drop)]
+pub(super) enum Delay {
+    No,
+    /// As one that ends that kernel.
+    Join(Text),
+    /// Until it has ended.
+    Hold,
+}
+
+impl<L, R, S> Desk<L, R, S>
+where
+    L: Language,
+    R: Wait + Clock + RandomSource + Copy + Drop,
+    S: Shelf + Drop,
+    Kernels<R, L>: Running,
+{
+    /// Ends the kernels whose recorders were told all that they show. Those who have waited long enough for another are answered.
+    pub(super) fn end_ended(&mut self, date: &Text) {
+        for place in (0..self.endings.len()).rev() {
+            let Some(kernel) = self.ending_at(place) else {
+                continue;
+            };
+            self.catch_up(kernel.as_str(), date, FEW_READS);
+            if self.manager.running.is_read(kernel.as_str()) {
+                self.end_at(place, kernel);
+            } else if self.endings.is_late(&self.rt, place) {
+                let late = self.endings.let_go(self.alloc, place);
+                self.tell_waiters(late);
+            }
+        }
+    }
+
+    /// The kernel that is ending in a row.
+    fn ending_at(&self, place: usize) -> Option<Text> {
+        self.endings.kernel(place)?.copy().ok()
+    }
+
+    /// The kernel that is ending in a row goes, with its recorder, and those who wait for that are answered.
+    fn end_at(&mut self, place: usize, kernel: Text) {
+        self.manager.running.end_reading(kernel.as_str());
+        if !self.drop_row(kernel) {
+            return;
+        }
+        let waiters = self.endings.end(place);
+        self.tell_waiters(waiters);
+        self.held.look_again();
+        self.manager.running.follow();
+        self.manager.running.drop_left();
+    }
+
+    /// Answers those who waited for a kernel's end.
+    fn tell_waiters(&self, waiters: Option<Vec<Sender<Reply<L>>>>) {
+        let Some(waiters) = waiters else {
+            return;
+        };
+        for reply in waiters {
+            self.send(reply, Reply::Response(Response::NoContent));
+        }
+    }
+
+    /// The kernel of that identifier was told to shut down. The reply waits until its recorder was told all that it shows.
+    pub(super) fn end_later(&mut self, id: &str, reply: Sender<Reply<L>>) {
+        let _ = self.endings.begin(self.alloc, id);
+        let now = Instant::now(&self.rt).ok();
+        if let Some(reply) = self.endings.join(id, reply, now) {
+            self.send(reply, refused(ErrorStatus::InternalServerError));
+        }
+        self.ring(QUICK);
+    }
+
+    /// Whether a request has to wait for a kernel that is ending.
+    pub(super) fn turn_of(&self, method: Method, concern: &Concern) -> Delay {
+        if self.endings.is_empty() {
+            return Delay::No;
+        }
+        let kernels = &self.manager.tables.kernels;
+        match concern {
+            Concern::Other => Delay::No,
+            Concern::Kernel(segments) => self.turn_at(
+                method,
+                find_kernel(kernels, id_in(segments)),
+            ),
+            Concern::Session(segments) => {
+                self.turn_at(method, find_by_session(kernels, id_in(segments)))
+            }
+            Concern::File(path) => {
+                if self.is_ending_within(path.as_str()) {
+                    Delay::Hold
+                } else {
+                    Delay::No
+                }
+            }
+            Concern::Paths => Delay::Hold,
+        }
+    }
+
+    fn turn_at(&self, method: Method, kernel: Option<&Kernel>) -> Delay {
+        let Some(kernel) = kernel else {
+            return Delay::No;
+        };
+        if !self.endings.has(kernel.id.as_str()) {
+            return Delay::No;
+        }
+        match kernel.id.copy() {
+            Ok(id) => if matches!(method, Method::Delete) {
+                Delay::Join(id)
+            } else {
+                Delay::Hold
+            },
+            Err(_) => Delay::Hold,
+        }
+    }
+
+    /// Whether a kernel is ending whose session's path is this or below it.
+    fn is_ending_within(&self, path: &str) -> bool {
+        for kernel in &self.manager.tables.kernels {
+            if self.is_ending_at(kernel, path) {
+                return true;
+            }
+        }
+        false
+    }
+
+    /// Whether a kernel is ending, and the path of its session is this or below it.
+    fn is_ending_at(&self, kernel: &Kernel, path: &str) -> bool {
+        match &kernel.session {
+            Some(session) => {
+                self.endings.has(kernel.id.as_str()) && is_within(session.path.as_str(), path)
+            }
+            None => false,
+        }
+    }
+
+    /// Lets a request wait for a kernel that is ending.
+    pub(super) fn hold(&mut self, request: Request, reply: Sender<Reply<L>>) {
+        if let Some(asked) = self.held.hold(Asked { request, reply }) {
+            self.send(asked.reply, refused(ErrorStatus::InternalServerError));
+        }
+    }
+
+    /// Notes in the tables what the kernels have published. A kernel that was shut down is gone.
+    pub(super) fn look(&mut self, date: &Text) {
+        self.manager.running.follow();
+        for place in 0..self.manager.tables.kernels.len() {
+            if let Some(row) = self.manager.tables.kernels.get_mut(place) {
+                self.manager.running.note(row, date);
+            }
+        }
+        self.drop_ended();
+        self.manager.running.drop_left();
+    }
+
+    /// Drops the rows of the kernels that were shut down or are gone. One with a recorder stays until that was told all that it shows.
+    fn drop_ended(&mut self) {
+        for place in (0..self.manager.tables.kernels.len()).rev() {
+            if let Some(id) = self.ended_at(place) {
+                if self.is_recorded(id.as_str()) {
+                    if self.endings.begin(self.alloc, id.as_str()).is_ok() {
+                        self.ring(QUICK);
+                    }
+                } else {
+                    let _ = self.drop_row(id);
+                }
+            }
+        }
+    }
+
+    /// Whether something is still read for the recorder of a kernel.
+    pub(super) fn is_recorded(&self, id: &str) -> bool {
+        self.manager.tables.has_recorder(id) && self.manager.running.is_there(id)
+    }
+
+    /// The identifier of the kernel in a row that was shut down or is gone, and is not ending already.
+    fn ended_at(&mut self, place: usize) -> Option<Text> {
+        let id = self.manager.tables.kernels.get(place)?.id.copy().ok()?;
+        if self.endings.has(id.as_str()) || !self.manager.running.has_ended(id.as_str()) {
+            return None;
+        }
+        Some(id)
+    }
+
+    /// Drops the row of a kernel. It says whether there was memory for that.
+    pub(super) fn drop_row(&mut self, id: Text) -> bool {
+        if self.manager.tables.make_room().is_err() {
+            return false;
+        }
+        self.manager.tables.update(Update::DropKernel(id));
+        true
+    }
+}
