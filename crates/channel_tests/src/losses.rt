@@ -95,7 +95,7 @@ pub(crate) fn make_cast<R: Wait, L: Language>(
     let Board {
         publisher,
         followers,
-    } = Board::<L>::new(rt, alloc)?;
+    } = Board::<L>::new(rt, alloc, &made.taker)?;
     let Made {
         kernel,
         taker,

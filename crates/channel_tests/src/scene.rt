@@ -59,7 +59,7 @@ fn make_ends<R: Wait, L: Language>(
     let Board {
         publisher,
         followers,
-    } = Board::<L>::new(rt, alloc)?;
+    } = Board::<L>::new(rt, alloc, &taker)?;
     let other = seats.zero;
     let seat = seats.three;
     let follower = followers.three;

@@ -1,9 +1,9 @@
 //! Texts and the refusals of the checker.
 
 use ob_base::{Code, Items, Refused, Text};
-use ob_check::{Checked, check};
+use ob_check_module::{Checked, check};
+use ob_check_scope::Imports;
 use ob_parse::parse_text;
-use ob_scope::Imports;
 use ob_tree::tree::{Cell, Module};
 use std::alloc::Global;
 use std::test::Fail;

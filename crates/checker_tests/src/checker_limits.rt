@@ -1,10 +1,10 @@
 //! Limits of nesting and of sizes in the checker.
 
 use ob_base::{Boxed, Code, Items, Refused, Text};
-use ob_check::check;
+use ob_check_module::check;
+use ob_check_scope::Imports;
 use ob_parse::parse_text;
 use ob_scan::Span;
-use ob_scope::Imports;
 use ob_tree::tree::{
     Cell, ConstDeclaration, Declarations, Expr, Factor, Ident, IdentDef, Module, Simple, Term,
 };

@@ -1,15 +1,15 @@
 //! Checked modules and the size of their code.
 
-ghost use Rattle.ob_fit.specs.Solid.{EachSolid};
+ghost use Rattle.ob_check_laws.specs.Solid.{EachSolid};
 
 use ob_base::Refused;
-use ob_check::check;
+use ob_check_module::check;
+use ob_check_scope::Imports;
 use ob_code::checked::Checked;
 use ob_compile::{compile, face_of, faces_of};
 use ob_image::copy_face;
 use ob_mean::Face;
 use ob_parse::parse_text;
-use ob_scope::Imports;
 use ob_tree::tree::{Cell, Module};
 use std::alloc::{AllocError, Global};
 use std::test::Fail;

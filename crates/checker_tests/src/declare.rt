@@ -1,10 +1,10 @@
 //! Declarations and headings.
 
 use ob_base::{Code, Refused, Text};
-use ob_declare::{Entered, declare_all, declare_module, enter_procedure, interface_of};
+use ob_check_decl::{Entered, declare_all, declare_module, enter_procedure, interface_of};
+use ob_check_scope::rejected::Rejected;
+use ob_check_scope::{Entry, Imports, Scope, Standing};
 use ob_parse::parse_text;
-use ob_scope::rejected::Rejected;
-use ob_scope::{Entry, Imports, Scope, Standing};
 use ob_tree::tree::{Cell, Module, Procedure};
 use ob_types::{Interface, interface_text};
 use std::alloc::{AllocError, Global};

@@ -1,18 +1,18 @@
 //! Expressions and assignments.
 
 use ob_base::{Code, Refused};
-use ob_declare::{declare_module, enter_procedure};
-use ob_express::{
+use ob_check_decl::{declare_module, enter_procedure};
+use ob_check_expr::{
     actual, actuals, assigned_value, basic_value, expr, guard, number, target, truth,
 };
+use ob_check_operand::{Called, Operand, procedure};
+use ob_check_scope::rejected::{Rejected, told};
+use ob_check_scope::{Imports, Scope, Site};
+use ob_check_strings::Variables;
 use ob_mean::{
     Argument, Callee, Designator, ModuleVariable, Operation, Operator, TypedExpr, Variable,
 };
-use ob_operand::{Called, Operand, procedure};
 use ob_parse::parse_text;
-use ob_scope::rejected::{Rejected, told};
-use ob_scope::{Imports, Scope, Site};
-use ob_strings::Variables;
 use ob_tree::tree::{Cell, Designator as Written, Expr, Module, Statement};
 use ob_types::{Basic, Formal, FormalKind, ObType};
 use std::alloc::Global;

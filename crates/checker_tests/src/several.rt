@@ -2,9 +2,9 @@
 //! parts: the fault is at the first character of the second.
 
 use ob_base::{Code, Items, Refused};
-use ob_check::check;
+use ob_check_module::check;
+use ob_check_scope::Imports;
 use ob_parse::parse_text;
-use ob_scope::Imports;
 use ob_tree::tree::Cell;
 use std::alloc::Global;
 use std::test::Fail;

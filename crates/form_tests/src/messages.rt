@@ -70,7 +70,7 @@ fn reads_a_cell(rt: HostRuntime) -> Result<(), Fail> {
     );
     assert!(rt; message.channel == Channel::Shell);
     if let Content::Request(Request::Execute(execute)) = &message.content {
-        assert_eq!(rt; execute.code.as_str(), "MODULE A; END A.");
+        assert_eq!(rt; execute.code.value().as_str(), "MODULE A; END A.");
         assert!(rt; !execute.silent && execute.store_history);
         assert!(rt; execute.allow_stdin && execute.stop_on_error);
         assert_eq!(rt; execute.user_expressions.write(rt.alloc())?.as_str(), "{}");
@@ -89,7 +89,7 @@ fn told(rt: &HostRuntime, content: &Content) -> Result<String, Fail> {
     Ok(match request {
         Request::Execute(e) => format!(in alloc;
             "execute {} {} {} {} {}",
-            e.code.as_str(),
+            e.code.value().as_str(),
             e.silent,
             e.store_history,
             e.allow_stdin,

@@ -1,7 +1,7 @@
 //! Shelves of files.
 
 use js_files::FileShelf;
-use js_shelf::{Bytes, Item, MemoryShelf, Shelf, ShelfRefusal, is_path};
+use js_shelf::{Bytes, Item, MemoryShelf, Opening, Shelf, ShelfRefusal, is_path};
 use std::alloc::Global;
 use std::fs;
 use std::fs::OpenFile;
@@ -25,6 +25,23 @@ fn expect_file(rt: &impl Abort, shelf: &mut impl Shelf, path: &str, text: &[u8])
 
 fn expect_folder(rt: &impl Abort, shelf: &mut impl Shelf, path: &str) {
     assert!(rt; matches!(shelf.get(path), Ok(Item::Folder)), "{path}");
+}
+
+// Opens what stands at a path.
+fn opened(rt: &impl Abort, shelf: &mut impl Shelf, path: &str) -> Opening {
+    match shelf.open(path) {
+        Ok(opening) => opening,
+        Err(refusal) => panic!(rt; "{path}: {refusal:?}"),
+    }
+}
+
+// What was opened is read: a file's bytes.
+fn expect_read(rt: &impl Abort, opening: Opening, text: &[u8]) {
+    match opening.read() {
+        Ok(Item::File(bytes)) => assert_eq!(rt; bytes.as_slice(), text),
+        Ok(Item::Folder) => panic!(rt; "a folder"),
+        Err(fault) => panic!(rt; "{fault:?}"),
+    }
 }
 
 fn expect_names(rt: &impl Abort, shelf: &mut impl Shelf, path: &str, texts: &[&str]) {
@@ -71,6 +88,23 @@ fn puts_and_gets(rt: &impl Abort, alloc: Global, shelf: &mut impl Shelf) -> Resu
     Ok(())
 }
 
+// A file that was opened keeps its bytes, whatever is put, moved or deleted afterwards.
+fn opens_and_reads(rt: &impl Abort, alloc: Global, shelf: &mut impl Shelf) -> Result<(), Fail> {
+    let first = opened(rt, shelf, "b.txt");
+    assert_eq!(rt; shelf.put("b.txt", file(alloc, b"the third")?), Ok(()));
+    let second = opened(rt, shelf, "b.txt");
+    assert_eq!(rt; shelf.rename("b.txt", "c.txt"), Ok(()));
+    assert_eq!(rt; shelf.delete("c.txt"), Ok(()));
+    expect_read(rt, second, b"the third");
+    expect_read(rt, first, b"two");
+    assert_eq!(rt; shelf.put("b.txt", file(alloc, b"two")?), Ok(()));
+    assert!(rt; matches!(opened(rt, shelf, "a").read(), Ok(Item::Folder)));
+    assert_eq!(rt; shelf.open("a/../b.txt").err(), Some(ShelfRefusal::BadPath));
+    assert_eq!(rt; shelf.open("nothing").err(), Some(ShelfRefusal::Missing));
+    assert_eq!(rt; shelf.open("b.txt/x").err(), Some(ShelfRefusal::Missing));
+    Ok(())
+}
+
 fn renames_and_deletes(rt: &impl Abort, shelf: &mut impl Shelf) {
     assert_eq!(rt; shelf.rename("a", "a/e/g"), Err(ShelfRefusal::BadPath));
     assert_eq!(rt; shelf.rename("", "z"), Err(ShelfRefusal::BadPath));
@@ -95,6 +129,7 @@ fn renames_and_deletes(rt: &impl Abort, shelf: &mut impl Shelf) {
 fn a_shelf_in_memory(rt: HostRuntime) -> Result<(), Fail> {
     let mut shelf = MemoryShelf::new(rt.alloc())?;
     puts_and_gets(&rt, rt.alloc(), &mut shelf)?;
+    opens_and_reads(&rt, rt.alloc(), &mut shelf)?;
     renames_and_deletes(&rt, &mut shelf);
     Ok(())
 }
@@ -111,6 +146,7 @@ fn a_shelf_in_a_folder(rt: HostRuntime) -> Result<(), Fail> {
     emptied(&rt, "shelf_of_files")?;
     let mut shelf = FileShelf::new(rt.clone()?, "shelf_of_files")?;
     puts_and_gets(&rt, rt.alloc(), &mut shelf)?;
+    opens_and_reads(&rt, rt.alloc(), &mut shelf)?;
     renames_and_deletes(&rt, &mut shelf);
     let text = fs::read(&rt, "shelf_of_files/b.txt")?;
     assert_eq!(rt; text.as_slice(), b"two".as_slice());
@@ -137,6 +173,8 @@ fn links_and_leftovers(rt: HostRuntime) -> Result<(), Fail> {
     assert_eq!(rt; shelf.delete("d"), Ok(()));
     assert_eq!(rt; shelf.get("way/secret").err(), Some(ShelfRefusal::Missing));
     assert_eq!(rt; shelf.get("file").err(), Some(ShelfRefusal::Missing));
+    assert_eq!(rt; shelf.open("way/secret").err(), Some(ShelfRefusal::Missing));
+    assert_eq!(rt; shelf.open("file").err(), Some(ShelfRefusal::Missing));
     assert_eq!(rt; shelf.list("way").err(), Some(ShelfRefusal::Missing));
     let item = file(rt.alloc(), b"mine")?;
     assert_eq!(rt; shelf.put("way/secret", item), Err(ShelfRefusal::Missing));
@@ -197,6 +235,7 @@ fn one_of_each(alloc: Global, shelf: &mut impl Shelf) -> Result<(), ShelfRefusal
         Item::File(Bytes::from(Vec::from_slice(alloc, b"b")?)),
     )?;
     shelf.get("a/b")?;
+    shelf.open("a/b")?.read()?;
     shelf.rename("a/b", "c")?;
     shelf.list("a")?;
     shelf.delete("a")
@@ -204,11 +243,11 @@ fn one_of_each(alloc: Global, shelf: &mut impl Shelf) -> Result<(), ShelfRefusal
 
 #[test]
 fn a_device_that_fails_at_each_call(rt: HostRuntime) -> Result<(), Fail> {
-    for fault in 1..9 {
+    for fault in 1..11 {
         let mut shelf = FailingShelf::new(rt.alloc())?;
         shelf.fail_at(fault);
         let result = one_of_each(rt.alloc(), &mut shelf);
-        if fault <= 6 {
+        if fault <= 8 {
             assert_eq!(rt; result, Err(ShelfRefusal::Device));
             assert_eq!(rt; shelf.failures(), 1);
         } else {
@@ -227,6 +266,8 @@ fn a_file_that_is_too_long(rt: HostRuntime) -> Result<(), Fail> {
     let mut shelf = FileShelf::new(rt.clone()?, "shelf_of_long_files")?;
     assert_eq!(rt; shelf.get("long").err(), Some(ShelfRefusal::Device));
     assert_eq!(rt; shelf.failures(), 1);
+    assert_eq!(rt; shelf.open("long").err(), Some(ShelfRefusal::Device));
+    assert_eq!(rt; shelf.failures(), 2);
     fs::remove_dir_all(&rt, "shelf_of_long_files")?;
     Ok(())
 }

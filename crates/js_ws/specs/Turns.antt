@@ -12,7 +12,7 @@ use Rattle.jk_log.specs.declared.entry.Entry.{Entry}
 use Rattle.jk_queues.specs.declared.inbox.Seat.{Seat}
 use Rattle.jk_queues.specs.Ends.{seat_inbox, sent_by}
 use Rattle.jk_board.specs.declared.follower.Follower.{Follower}
-use Rattle.jk_board.specs.Ends.{read_by}
+use Rattle.jk_board.specs.Ends.{board_of, read_by}
 use Rattle.js_ws.specs.Arrivals.{sent_or_held, arrivals_of, is_due, leave_of, WasFull}
 use Rattle.js_ws.specs.Frames.{SentAll, Tells, EndsIn, frames_of}
 use Rattle.js_ws.specs.Hearing.{Hears, is_fault, is_quiet}
@@ -101,6 +101,7 @@ module _ {W : Type 0} where
       -- Something is in hand after the turn only where the inbox had no room for it.
       pub full : is_some new.outbox.hand ≡ true → WasFull new.outbox.seat
       pub seat : (new.outbox.seat.place ≡ old.outbox.seat.place) × (seat_inbox new.outbox.seat ≡ seat_inbox old.outbox.seat)
+      pub board : board_of new.feed.follower ≡ board_of old.feed.follower
       -- Of the entries held and then the connection's part of those that the follower gave, the first were sent and the rest is held.
       pub got : List Entry
       pub found : read_by new.feed.follower ≡ read_by old.feed.follower ++ got

@@ -1,6 +1,6 @@
 //! The entries for a frontend: what the board gives, and what is due and not sent.
 ghost use Rattle.std.specs.Prelude.{◌≡◌, ◌+◌, ◌<◌, ◌≤◌, ◌++◌, ◌||◌, List, vec_len, vec_capacity};
-ghost use Rattle.jk_board.specs.Ends.{read_by};
+ghost use Rattle.jk_board.specs.Ends.{board_of, read_by};
 ghost use Rattle.js_ws.specs.Reads.{items_read};
 
 use crate::view::{busy_with, goes_to, is_join, is_last};
@@ -94,6 +94,7 @@ impl<L: Language> Feed<L> {
             × (result.0.ended ≡ (self.ended || has_last got))
             × (result.0.busy ≡ busy_after self.busy got) }
         ensures same { result.0.join ≡ self.join }
+        ensures board { board_of result.0.follower ≡ board_of self.follower }
     {
         let Feed {
             follower,
@@ -144,6 +145,7 @@ fn read_next<L: Language>(
 ) -> (Follower<L>, Vec<Entry>, bool)
     ensures held { held.new.items ≡ held.old.items }
     ensures room { vec_len held.new + vec_len result.1 ≤ vec_capacity held.new }
+    ensures board { board_of result.0 ≡ board_of follower }
     ensures read { read_by result.0 ≡ read_by follower ++ result.1.items }
 {
     let Ok(()) = held.reserve(ENTRIES) else {

@@ -6,6 +6,7 @@ use nb_run::{Asked, RunFault, read_from, run_saved, run_status};
 use ob_language::Oberon;
 use std::alloc::{AllocError, Global};
 use std::env::Args;
+use std::fs::File;
 use std::io::{BufRead, Write};
 use std::rt::Files;
 
@@ -105,7 +106,7 @@ fn run_one<R, I, E>(
     errors: &mut E,
 ) -> Result<bool, RunFault>
 where
-    R: Files + AllocGlobal + Copy + Drop,
+    R: Files<File = File> + AllocGlobal + Copy + Drop,
     I: BufRead,
     E: Write,
 {
@@ -134,7 +135,7 @@ fn tell_progress<E: Write>(errors: &mut E, place: usize, count: usize, path: &st
 /// well, if there is one. Where `shows` says so, each is named as its turn comes.
 pub(crate) fn run_all<R, I, E>(rt: R, runs: &Runs, lines: &mut I, errors: &mut E, shows: bool) -> u8
 where
-    R: Files + AllocGlobal + Copy + Drop,
+    R: Files<File = File> + AllocGlobal + Copy + Drop,
     I: BufRead,
     E: Write,
 {

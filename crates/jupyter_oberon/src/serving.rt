@@ -123,7 +123,7 @@ where
         + Wait
         + Clock
         + RandomSource
-        + Files
+        + Files<File = fs::File>
         + AllocGlobal
         + Net<Listener = TcpListener, Stream = TcpStream>
         + Copy

@@ -54,7 +54,7 @@ fn told(alloc: Global, request: &Message, output: &ToldOutput) -> Result<Event, 
         ToldOutput::ExecuteInput {
             code,
             execution_count,
-        } => begun(alloc, request, code, *execution_count),
+        } => begun(alloc, request, code.value(), *execution_count),
         ToldOutput::Stream(text) => Ok(Event::Writes(Output::stream(
             alloc,
             "stdout",

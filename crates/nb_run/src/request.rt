@@ -6,7 +6,7 @@ ghost use Rattle.jp_msg.specs.declared.message.Content.TheVariants as content;
 ghost use Rattle.jp_msg.specs.declared.message.Request.TheVariants as request;
 
 use crate::cells::Code;
-use jp_msg::{Channel, Content, Execute, Header, Message, Request};
+use jp_msg::{Channel, Content, Execute, Header, Message, Request, shared_text};
 use json_form::{Json, Text};
 use serde_json::json;
 use std::alloc::{AllocError, Global};
@@ -37,7 +37,7 @@ fn execute(alloc: Global, source: &Text) -> Result<Execute, AllocError>
     ensures { IfOk result (λ e. e ≡ execute_of source.now) }
 {
     Ok(Execute {
-        code: source.copy()?,
+        code: shared_text(alloc, source.as_str())?,
         silent: false,
         store_history: true,
         user_expressions: Json::empty(alloc),

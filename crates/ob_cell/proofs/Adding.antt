@@ -1,10 +1,10 @@
 -- The modules that are loaded, added one after the other, are those that the rules see.
 use Rattle.std.proofs.Common.{◌≡◌, ℕ, zero, suc, Bool, false, cond, List, [], ◌∷◌, length, map, get_or, take, drop, ◌+◌, Option, Some, None, option_map, slice_get, refl, ◌∙◌, ap, arith}
 use Rattle.std.proofs.lemmas.Option.{slice_get-map}
-use Rattle.ob_scope.specs.Exports.{Modules as Loaded, module_names}
-use Rattle.ob_scope.specs.Names.{place_in}
-use Rattle.ob_scope.specs.Imports.{added, module_place}
-use Rattle.ob_scope.specs.LoadedTree.{LoadedTree}
+use Rattle.ob_check_scope.specs.Exports.{Modules as Loaded, module_names}
+use Rattle.ob_check_scope.specs.Names.{place_in}
+use Rattle.ob_check_scope.specs.Imports.{added, module_place}
+use Rattle.ob_check_scope.specs.LoadedTree.{LoadedTree}
 use Rattle.ob_session.specs.Session.{Module, name_of}
 use Rattle.ob_session.specs.Reaches.{reached_by}
 use Rattle.ob_link.specs.Reaching as found

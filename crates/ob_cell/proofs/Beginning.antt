@@ -8,8 +8,8 @@ use Rattle.ob_base.specs.declared.fault.Fault as base_fault
 use Rattle.ob_base.specs.declared.fault.Refused as base
 use Rattle.ob_base.specs.declared.fault.Refused.TheVariants as refused
 use Rattle.ob_tree.specs.declared.tree.Cell.{Cell}
-use Rattle.ob_scope.specs.Rule.{answer}
-use Rattle.ob_scope.proofs.Exact.{found}
+use Rattle.ob_check_scope.specs.Rule.{answer}
+use Rattle.ob_check_scope.proofs.Exact.{found}
 use Rattle.ob_mean.specs.Programs.{Command, body_meaning, world_before}
 use Rattle.ob_mean.specs.Runs.{supply}
 use Rattle.ob_mean.specs.Values.{Value}

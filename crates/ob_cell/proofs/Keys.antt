@@ -31,8 +31,8 @@ use Rattle.ob_mean.specs.declared.face.Heading.{Heading}
 use Rattle.ob_mean.specs.declared.module.Parameter.{Parameter}
 use Rattle.ob_mean.specs.declared.shape.Shape.{Shape}
 use Rattle.ob_mean.specs.declared.shape.Shape.TheVariants as shape
-use Rattle.ob_check.specs.Shapes.{shape_of, shapes_of, parameter_of, parameters_of}
-use Rattle.ob_fit.specs.Fitting.{variable_shape, variable_shapes, procedure_heading, procedure_headings, heading_of, face_of_interface}
+use Rattle.ob_check_module.specs.Shapes.{shape_of, shapes_of, parameter_of, parameters_of}
+use Rattle.ob_check_laws.specs.Fitting.{variable_shape, variable_shapes, procedure_heading, procedure_headings, heading_of, face_of_interface}
 use Rattle.ob_load.specs.Said.{Read, BasicType, OpenType, OtherType, read_shape, read_parameter, Around, OfArray, OfOpen, OfField, OfVariable, OfTypeName, OfFormal, At, Line, Rest, Word, Name, Procedure, Formals, Formal as FormalAt, Result, Type', Length, RecordName as RecordNameAt, Fields, FieldName, Field, Variable, behind, in_field, field_begins, next, added, read, Reader, no_face, face_said}
 use Rattle.ob_load.specs.Words.{IsWord, AreWords, RecordWords, TypeWords, RowWords, FormalWords, ObjectWords, ExportWords, InterfaceWords}
 

@@ -1,7 +1,7 @@
 -- What each text keeps, from turn to turn and from line to line, and what one that is refused leaves.
 use Rattle.std.proofs.Common.{◌≡◌, ℕ, Bool, inl, inr, List, [], ◌∷◌, ◌++◌, Option, Some, None, Result, Err, refl, sym, ap, ◌∙◌, subst, arith}
 use Rattle.ob_base.specs.declared.fault.Code.{Code}
-use Rattle.ob_scope.specs.declared.rule.RuleCode.{RuleCode}
+use Rattle.ob_check_scope.specs.declared.rule.RuleCode.{RuleCode}
 use Rattle.ob_scan.specs.declared.token.Token.{Token}
 use Rattle.ob_scan.specs.Tokens.{Tokens}
 use Rattle.ob_scan.proofs.TokenReading.{tokens_of-complete}
@@ -10,8 +10,8 @@ use Rattle.ob_parse.specs.Grammar.{Derives}
 use Rattle.ob_parse.specs.CellText.{IsCellOf, Breaks}
 use Rattle.ob_parse.specs.TreeOf.{cell_of}
 use Rattle.ob_parse.proofs.Texts.{cell_sound, cell_complete}
-use Rattle.ob_scope.specs.Rule.{gives, answer}
-use Rattle.ob_scope.proofs.Exact.{only}
+use Rattle.ob_check_scope.specs.Rule.{gives, answer}
+use Rattle.ob_check_scope.proofs.Exact.{only}
 use Rattle.ob_session.specs.Session.{Session}
 use Rattle.ob_session.specs.Cells as cells
 use Rattle.ob_session.specs.Cells.{CellMeaning, CellOutcome, Checked, checked_meaning}

@@ -19,28 +19,28 @@ use Rattle.ob_parse.specs.CellText.{IsCellOf}
 use Rattle.ob_tree.specs.declared.tree.Cell.TheVariants as cells
 use Rattle.ob_tree.specs.declared.tree.Module as tree
 use Rattle.ob_types.specs.InterfaceTree.{InterfaceTree}
-use Rattle.ob_scope.specs.declared.block.Declared.{Declared}
-use Rattle.ob_scope.specs.declared.block.Entry.{Entry}
-use Rattle.ob_scope.specs.declared.block.Entry.TheVariants as entry
-use Rattle.ob_scope.specs.Exports.{Modules as Loaded, module_names}
-use Rattle.ob_scope.specs.Imports.{module_place, reaches}
-use Rattle.ob_scope.specs.LoadedTree.{LoadedTree}
-use Rattle.ob_scope.specs.Names.{place_in, is_among}
-use Rattle.ob_scope.specs.Rule.{gives}
-use Rattle.ob_check.specs.CheckedTree.{CheckedTree}
-use Rattle.ob_check.specs.declared.checked.Imported.{Imported}
-use Rattle.ob_check.specs.Modules.{with_key, imported_by, all_imported, module_at}
-use Rattle.ob_check.specs.Shapes.{parameters_of}
-use Rattle.ob_fit.specs.Fitting as fit
-use Rattle.ob_fit.specs.Fitting.{procedure_heading, procedure_headings, heading_of, face_of_interface}
+use Rattle.ob_check_scope.specs.declared.block.Declared.{Declared}
+use Rattle.ob_check_scope.specs.declared.block.Entry.{Entry}
+use Rattle.ob_check_scope.specs.declared.block.Entry.TheVariants as entry
+use Rattle.ob_check_scope.specs.Exports.{Modules as Loaded, module_names}
+use Rattle.ob_check_scope.specs.Imports.{module_place, reaches}
+use Rattle.ob_check_scope.specs.LoadedTree.{LoadedTree}
+use Rattle.ob_check_scope.specs.Names.{place_in, is_among}
+use Rattle.ob_check_scope.specs.Rule.{gives}
+use Rattle.ob_check_module.specs.CheckedTree.{CheckedTree}
+use Rattle.ob_check_module.specs.declared.checked.Imported.{Imported}
+use Rattle.ob_check_module.specs.Modules.{with_key, imported_by, all_imported, module_at}
+use Rattle.ob_check_module.specs.Shapes.{parameters_of}
+use Rattle.ob_check_laws.specs.Fitting as fit
+use Rattle.ob_check_laws.specs.Fitting.{procedure_heading, procedure_headings, heading_of, face_of_interface}
 use Rattle.ob_session.specs.Session.{Import, Module, name_of, find_module, place_of}
 use Rattle.ob_session.specs.Links.{Reached, First, Behind, Through}
 use Rattle.ob_session.specs.Reaches.{reached_by}
 use Rattle.ob_session.specs.Cells.{is_plain, is_command, command_place, place_behind}
 use Rattle.ob_link.specs.Reaching as reaching
 use Rattle.ob_link.proofs.Chains.{each_reaches}
-use Rattle.ob_linked.specs.Loading.{IsUnreached}
-use Rattle.ob_linked.proofs.Imports.{found_at}
+use Rattle.ob_image.specs.Loading.{IsUnreached}
+use Rattle.ob_image.proofs.Imports.{found_at}
 use Rattle.ob_load.specs.Known.{IsPlainAt, HasCommands}
 use Rattle.ob_load.specs.Said.{face_said}
 use Rattle.ob_load.specs.Words.{InterfaceWords, AllWords}

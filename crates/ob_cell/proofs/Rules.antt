@@ -3,36 +3,36 @@ use Rattle.std.proofs.Common.{◌≡◌, ℕ, Bool, true, false, cond, List, [],
 use Rattle.std.specs.Prelude.{IsSome, IfOk, IfErr, IsErrAnd, ◌≢◌}
 use Rattle.std.specs.Str.{bytes_eq}
 use Rattle.ob_base.specs.declared.fault.Code.{Code}
-use Rattle.ob_scope.specs.declared.rule.RuleCode.{RuleCode}
+use Rattle.ob_check_scope.specs.declared.rule.RuleCode.{RuleCode}
 use Rattle.ob_base.specs.declared.fault.Refused.{Refused}
 use Rattle.ob_base.specs.declared.fault.Refused.TheVariants as refused
 use Rattle.ob_tree.specs.declared.tree.Cell.TheVariants as cells
 use Rattle.ob_tree.specs.declared.tree.Module as tree
 use Rattle.ob_mean.specs.declared.face.Face.{Face}
 use Rattle.ob_mean.specs.Values.{Value}
-use Rattle.ob_scope.specs.Exports.{Modules as Loaded}
-use Rattle.ob_scope.specs.Rule.{answer, gives, ◌>>=◌}
-use Rattle.ob_scope.proofs.Exact.{only}
-use Rattle.ob_check.specs.CheckedTree.{CheckedTree}
-use Rattle.ob_check.specs.Codes.{IsAnswer, IsRefused}
-use Rattle.ob_check.specs.declared.checked.Imported.{Imported}
-use Rattle.ob_check.specs.Modules.{module_at}
-use Rattle.ob_fit.specs.Fitting as fit
-use Rattle.ob_fit.specs.Solid.{EachSolid}
+use Rattle.ob_check_scope.specs.Exports.{Modules as Loaded}
+use Rattle.ob_check_scope.specs.Rule.{answer, gives, ◌>>=◌}
+use Rattle.ob_check_scope.proofs.Exact.{only}
+use Rattle.ob_check_module.specs.CheckedTree.{CheckedTree}
+use Rattle.ob_check_module.specs.Codes.{IsAnswer, IsRefused}
+use Rattle.ob_check_module.specs.declared.checked.Imported.{Imported}
+use Rattle.ob_check_module.specs.Modules.{module_at}
+use Rattle.ob_check_laws.specs.Fitting as fit
+use Rattle.ob_check_laws.specs.Solid.{EachSolid}
 use Rattle.ob_session.specs.Session.{Module, Import, name_of, find_module, link_fault}
 use Rattle.ob_session.specs.Cells.{OfModule}
 use Rattle.ob_compile.specs.Compilable.{AreFacesOf}
 use Rattle.ob_cell.specs.Texts as meaning
 use Rattle.ob_cell.specs.Texts.{cell_rule, breaks_first}
-use Rattle.ob_linked.specs.Compiled.{AllFound}
+use Rattle.ob_image.specs.Compiled.{AllFound}
 use Rattle.ob_link.specs.Looking.{in_store}
 use Rattle.ob_link.specs.Modules.{AllSolid}
 use Rattle.ob_cell.specs.Planned.{face_named, IsCompiled, IsLoadable, IsStaticRefusal}
 use Rattle.ob_cell.specs.declared.planned.Planned.{Planned}
 use Rattle.ob_parse.specs.CellText.{IsCellOf}
 use Rattle.ob_mean.specs.WellFormed.{IsFaceOf}
-use Rattle.ob_fit.specs.Fitting.{face_of_interface}
-use Rattle.ob_linked.specs.Loading.{IsUnreached}
+use Rattle.ob_check_laws.specs.Fitting.{face_of_interface}
+use Rattle.ob_image.specs.Loading.{IsUnreached}
 use Rattle.ob_load.specs.Known.{IsSaid}
 use Rattle.ob_load.specs.Words.{InterfaceWords, AllWords}
 use Rattle.ob_cell.specs.Oberon.{IsTreeOf}

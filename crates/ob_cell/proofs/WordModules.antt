@@ -10,20 +10,20 @@ use Rattle.ob_tree.specs.declared.tree.TypeDeclaration.{TypeDeclaration}
 use Rattle.ob_tree.specs.declared.tree.TypedNames.{TypedNames, out-TypedNames}
 use Rattle.ob_types.specs.declared.exports.Signature.{Signature}
 use Rattle.ob_types.specs.declared.structure.ObType.{ObType}
-use Rattle.ob_scope.specs.declared.block.Declared.{Declared}
-use Rattle.ob_scope.specs.declared.block.Entry.TheVariants as entry
-use Rattle.ob_declare.specs.declared.heading.Entered.{Entered}
-use Rattle.ob_scope.specs.declared.scope.Scope.{Scope}
-use Rattle.ob_declare.specs.Declarations.{new_constant, constant_rule, new_type, type_rule, exported_variable, own_variable, local_variable, variable_in, variable_rule, typed_variables, variables_rule, declarations_rule, max_nesting, has_mark}
-use Rattle.ob_scope.specs.Exports.{Modules}
-use Rattle.ob_declare.specs.Headings.{new_procedure, procedure_rule}
-use Rattle.ob_declare.specs.Interfaces.{interface_of}
-use Rattle.ob_scope.specs.Rule.{gives}
-use Rattle.ob_scope.specs.Scope.{left, left_into}
-use Rattle.ob_scope.specs.Stack.{is_empty}
-use Rattle.ob_check.specs.CheckedTree.{CheckedTree}
-use Rattle.ob_check.specs.Modules.{all_imported, body_rule, procedures_rule, checked_rule, module_at}
-use Rattle.ob_check.specs.Procedures.{Checking, procedures_in, body_of, inside_of, procedure_of, procedure_at}
+use Rattle.ob_check_scope.specs.declared.block.Declared.{Declared}
+use Rattle.ob_check_scope.specs.declared.block.Entry.TheVariants as entry
+use Rattle.ob_check_decl.specs.declared.heading.Entered.{Entered}
+use Rattle.ob_check_scope.specs.declared.scope.Scope.{Scope}
+use Rattle.ob_check_decl.specs.Declarations.{new_constant, constant_rule, new_type, type_rule, exported_variable, own_variable, local_variable, variable_in, variable_rule, typed_variables, variables_rule, declarations_rule, max_nesting, has_mark}
+use Rattle.ob_check_scope.specs.Exports.{Modules}
+use Rattle.ob_check_decl.specs.Headings.{new_procedure, procedure_rule}
+use Rattle.ob_check_decl.specs.Interfaces.{interface_of}
+use Rattle.ob_check_scope.specs.Rule.{gives}
+use Rattle.ob_check_scope.specs.Scope.{left, left_into}
+use Rattle.ob_check_scope.specs.Stack.{is_empty}
+use Rattle.ob_check_module.specs.CheckedTree.{CheckedTree}
+use Rattle.ob_check_module.specs.Modules.{all_imported, body_rule, procedures_rule, checked_rule, module_at}
+use Rattle.ob_check_module.specs.Procedures.{Checking, procedures_in, body_of, inside_of, procedure_of, procedure_at}
 use Rattle.ob_load.specs.Words.{IsWord, InterfaceWords}
 use Rattle.ob_cell.proofs.Spelled.{Each, ProcedureIn, ModuleIn}
 use Rattle.ob_cell.proofs.WordTypes.{LoadedWords, through_keeps, always}

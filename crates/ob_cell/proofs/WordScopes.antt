@@ -15,24 +15,24 @@ use Rattle.ob_tree.specs.declared.tree.TypedNames.{TypedNames, out-TypedNames}
 use Rattle.ob_types.specs.declared.exports.Exported.{Exported}
 use Rattle.ob_types.specs.declared.exports.Formal.{Formal}
 use Rattle.ob_types.specs.declared.structure.ObType.{ObType}
-use Rattle.ob_scope.specs.declared.block.Declared.{Declared}
-use Rattle.ob_scope.specs.declared.block.Entry.{Entry}
-use Rattle.ob_scope.specs.declared.block.Entry.TheVariants as entry
-use Rattle.ob_scope.specs.declared.block.Standing.TheVariants as standing
-use Rattle.ob_declare.specs.declared.heading.Heading.{Heading}
-use Rattle.ob_declare.specs.declared.heading.Parameters.{Parameters}
-use Rattle.ob_scope.specs.declared.imports.StandardName.{StandardName}
-use Rattle.ob_scope.specs.declared.imports.StandardName.TheVariants as standard
-use Rattle.ob_scope.specs.declared.scope.Scope.{Scope}
-use Rattle.ob_scope.specs.Block.{find}
-use Rattle.ob_declare.specs.Declarations.{loaded_place, with_module, other_module, imported_as, import_named, import_rule, own_name, new_constant, constant_rule, new_type, type_rule, exported_variable, own_variable, variable_in, variable_rule, typed_variables, variables_rule, declarations_rule, module_rule, max_nesting, first_name, has_mark}
-use Rattle.ob_scope.specs.Exports.{Modules}
-use Rattle.ob_declare.specs.Headings.{kind_of, standing_of, no_parameters, parameter_rule, typed_parameters, section_rule, formals_rule, heading_rule}
-use Rattle.ob_scope.specs.Imports.{module_place, reaches, standard_named}
-use Rattle.ob_declare.specs.Interfaces.{object_of, exported_of, exports_of, interface_of}
-use Rattle.ob_scope.specs.Rule.{gives, through}
-use Rattle.ob_scope.specs.Scope.{seen, nearer, seen_inside, nearest, is_seen_inside, in_heading, opening, naming}
-use Rattle.ob_scope.specs.Stack.{is_empty}
+use Rattle.ob_check_scope.specs.declared.block.Declared.{Declared}
+use Rattle.ob_check_scope.specs.declared.block.Entry.{Entry}
+use Rattle.ob_check_scope.specs.declared.block.Entry.TheVariants as entry
+use Rattle.ob_check_scope.specs.declared.block.Standing.TheVariants as standing
+use Rattle.ob_check_decl.specs.declared.heading.Heading.{Heading}
+use Rattle.ob_check_decl.specs.declared.heading.Parameters.{Parameters}
+use Rattle.ob_check_scope.specs.declared.imports.StandardName.{StandardName}
+use Rattle.ob_check_scope.specs.declared.imports.StandardName.TheVariants as standard
+use Rattle.ob_check_scope.specs.declared.scope.Scope.{Scope}
+use Rattle.ob_check_scope.specs.Block.{find}
+use Rattle.ob_check_decl.specs.Declarations.{loaded_place, with_module, other_module, imported_as, import_named, import_rule, own_name, new_constant, constant_rule, new_type, type_rule, exported_variable, own_variable, variable_in, variable_rule, typed_variables, variables_rule, declarations_rule, module_rule, max_nesting, first_name, has_mark}
+use Rattle.ob_check_scope.specs.Exports.{Modules}
+use Rattle.ob_check_decl.specs.Headings.{kind_of, standing_of, no_parameters, parameter_rule, typed_parameters, section_rule, formals_rule, heading_rule}
+use Rattle.ob_check_scope.specs.Imports.{module_place, reaches, standard_named}
+use Rattle.ob_check_decl.specs.Interfaces.{object_of, exported_of, exports_of, interface_of}
+use Rattle.ob_check_scope.specs.Rule.{gives, through}
+use Rattle.ob_check_scope.specs.Scope.{seen, nearer, seen_inside, nearest, is_seen_inside, in_heading, opening, naming}
+use Rattle.ob_check_scope.specs.Stack.{is_empty}
 use Rattle.ob_load.specs.Words.{IsWord, AreWords, RecordWords, TypeWords, FormalWords, ExportWords, InterfaceWords}
 use Rattle.ob_cell.proofs.Spelled.{Each, NameIn, TypedIn, TypeIn, ConstantIn, DeclaredTypeIn, DeclarationsIn, ModuleIn}
 use Rattle.ob_cell.proofs.WordTypes.{LoadedWords, TypesOf, SeenWords, through_keeps, always, some_same, nothing, type_words, formal_words}

@@ -3,8 +3,8 @@ use Rattle.std.proofs.Common.{◌≡◌, ◌<◌, ◌^◌, ℕ, zero, suc, ◌+�
 use Rattle.std.proofs.lemmas.Bool.Decides.{nat_tests}
 use Rattle.std.proofs.lemmas.List.{reverse-append}
 use Rattle.std.specs.Str.{bytes_eq}
-use Rattle.ob_scope.specs.declared.rule.RuleCode.{RuleCode}
-use Rattle.ob_scope.specs.declared.rule.RuleCode.TheVariants as code
+use Rattle.ob_check_scope.specs.declared.rule.RuleCode.{RuleCode}
+use Rattle.ob_check_scope.specs.declared.rule.RuleCode.TheVariants as code
 use Rattle.ob_tree.specs.declared.tree.Expr.{Expr}
 use Rattle.ob_tree.specs.declared.tree.FormalType.{FormalType, out-FormalType}
 use Rattle.ob_tree.specs.declared.tree.FormalType.TheOpen.{FormalType-F}
@@ -26,20 +26,20 @@ use Rattle.ob_types.specs.declared.structure.ObType.TheBlock as block
 use Rattle.ob_types.specs.declared.structure.ObType.TheBlock.{Row_of-Field, end_of-Field, more_of-Field, items-the_row-Field, items_shown-the_row-Field-1}
 use Rattle.ob_types.specs.declared.structure.RecordName.{RecordName}
 use Rattle.ob_types.specs.declared.structure.RecordType.{RecordType, RecordType', out-RecordType, roll-RecordType, out-roll-RecordType}
-use Rattle.ob_scope.specs.declared.block.Entry.{Entry}
-use Rattle.ob_scope.specs.declared.block.Entry.TheVariants as entry
-use Rattle.ob_scope.specs.declared.predeclared.Predeclared.{Predeclared}
-use Rattle.ob_scope.specs.declared.predeclared.Predeclared.TheVariants as predeclared
-use Rattle.ob_scope.specs.declared.scope.Scope.{Scope}
-use Rattle.ob_declare.specs.declared.written_type.Written.{Written}
-use Rattle.ob_declare.specs.declared.written_type.Fields.{Fields}
-use Rattle.ob_scope.specs.Exports.{Modules, exported_in}
-use Rattle.ob_declare.specs.Headings.{open_of, formal_layer, formal_rule, inner_formal, formal_at}
-use Rattle.ob_scope.specs.Imports.{exported_at, exported_by}
-use Rattle.ob_scope.specs.LoadedTree.{LoadedTree}
-use Rattle.ob_scope.specs.Rule.{Rule, gives, there, through}
-use Rattle.ob_scope.specs.Scope.{seen, outer}
-use Rattle.ob_declare.specs.WrittenTypes.{predeclared_type, own_type, object_type, other_type, qualified, type_named, length_of, next_length, array_of, field_of, next_fields, extended, begun, record_rule, type_layer, type_rule, inner_constant, inner_type, type_at, numbered}
+use Rattle.ob_check_scope.specs.declared.block.Entry.{Entry}
+use Rattle.ob_check_scope.specs.declared.block.Entry.TheVariants as entry
+use Rattle.ob_check_scope.specs.declared.predeclared.Predeclared.{Predeclared}
+use Rattle.ob_check_scope.specs.declared.predeclared.Predeclared.TheVariants as predeclared
+use Rattle.ob_check_scope.specs.declared.scope.Scope.{Scope}
+use Rattle.ob_check_decl.specs.declared.written_type.Written.{Written}
+use Rattle.ob_check_decl.specs.declared.written_type.Fields.{Fields}
+use Rattle.ob_check_scope.specs.Exports.{Modules, exported_in}
+use Rattle.ob_check_decl.specs.Headings.{open_of, formal_layer, formal_rule, inner_formal, formal_at}
+use Rattle.ob_check_scope.specs.Imports.{exported_at, exported_by}
+use Rattle.ob_check_scope.specs.LoadedTree.{LoadedTree}
+use Rattle.ob_check_scope.specs.Rule.{Rule, gives, there, through}
+use Rattle.ob_check_scope.specs.Scope.{seen, outer}
+use Rattle.ob_check_decl.specs.WrittenTypes.{predeclared_type, own_type, object_type, other_type, qualified, type_named, length_of, next_length, array_of, field_of, next_fields, extended, begun, record_rule, type_layer, type_rule, inner_constant, inner_type, type_at, numbered}
 use Rattle.ob_load.specs.Words.{IsWord, RecordWords, TypeWords, RowWords, FieldWords, ObjectWords, ExportWords, InterfaceWords}
 use Rattle.ob_cell.proofs.Spelled.{Each, NameIn, TypedIn, LayerIn, InnerIn, TypeIn}
 

@@ -4,7 +4,7 @@ use Rattle.std.specs.Prelude.{◌≡◌, ◌⊎◌, ℕ, List, Option, Some, Non
 use Rattle.ob_base.specs.declared.fault.Code.{Code}
 use Rattle.ob_tree.specs.declared.tree.Cell.{Cell}
 use Rattle.ob_parse.specs.CellText.{IsCellOf, Breaks}
-use Rattle.ob_scope.specs.Rule.{gives}
+use Rattle.ob_check_scope.specs.Rule.{gives}
 use Rattle.ob_session.specs.Session.{Session, opening}
 use Rattle.ob_session.specs.Cells as cells
 use Rattle.ob_session.specs.Cells.{CellMeaning, Checked, checked_meaning, unlinked}

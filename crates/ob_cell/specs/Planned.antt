@@ -5,16 +5,16 @@ use Rattle.ob_base.specs.declared.fault.Refused.TheVariants as refused
 use Rattle.ob_tree.specs.declared.tree.Cell.{Cell}
 use Rattle.ob_mean.specs.declared.face.Face.{Face}
 use Rattle.ob_mean.specs.WellFormed.{IsFaceOf, IsWellFormed}
-use Rattle.ob_scope.specs.Rule.{answer}
-use Rattle.ob_fit.specs.Fitting.{face_of_interface}
+use Rattle.ob_check_scope.specs.Rule.{answer}
+use Rattle.ob_check_laws.specs.Fitting.{face_of_interface}
 use Rattle.ob_types.specs.Solid.{ExportsSolid}
 use Rattle.ob_session.specs.Session.{Session, Module, Import, name_of, find_module, link_fault}
 use Rattle.ob_session.specs.Cells as cells
 use Rattle.ob_session.specs.Cells.{Checked, OfModule, OfCommands, CommandName, all_ready}
 use Rattle.ob_gen.specs.Generated.{IsGenerated}
 use Rattle.ob_cell.specs.Texts.{cell_rule, breaks_first}
-use Rattle.ob_linked.specs.Compiled.{AllFound}
-use Rattle.ob_linked.specs.Loading.{IsUnreached}
+use Rattle.ob_image.specs.Compiled.{AllFound}
+use Rattle.ob_image.specs.Loading.{IsUnreached}
 use Rattle.ob_load.specs.Known.{IsSaid}
 use Rattle.ob_load.specs.Words.{InterfaceWords}
 use Rattle.ob_link.specs.Looking.{fault_seen}

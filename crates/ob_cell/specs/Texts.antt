@@ -4,18 +4,18 @@
 -- Oberon-07; In and Out after the Oakwood Guidelines).
 use Rattle.std.specs.Prelude.{◌≡◌, ℕ, List, [], ◌∷◌, ◌++◌, map, Option, Some, None, Result, Ok, Err, if◌then◌else◌}
 use Rattle.ob_base.specs.declared.fault.Code.{Code}
-use Rattle.ob_scope.specs.declared.rule.RuleCode.{RuleCode}
+use Rattle.ob_check_scope.specs.declared.rule.RuleCode.{RuleCode}
 use Rattle.ob_inout.specs.Reading.{Line}
 use Rattle.ob_tree.specs.declared.tree.Cell.{Cell}
 use Rattle.ob_tree.specs.declared.tree.Cell.TheVariants as cells
 use Rattle.ob_tree.specs.declared.tree.Command.{Command}
 use Rattle.ob_parse.specs.TreeOf.{cell_of}
-use Rattle.ob_scope.specs.LoadedTree.{LoadedTree}
-use Rattle.ob_scope.specs.Rule.{Rule, Given, Then, answer}
-use Rattle.ob_scope.specs.RuleCodes.{code_of}
-use Rattle.ob_check.specs.CheckedTree.{CheckedTree}
-use Rattle.ob_check.specs.declared.checked.Imported.{Imported}
-use Rattle.ob_check.specs.Modules.{module_at}
+use Rattle.ob_check_scope.specs.LoadedTree.{LoadedTree}
+use Rattle.ob_check_scope.specs.Rule.{Rule, Given, Then, answer}
+use Rattle.ob_check_scope.specs.RuleCodes.{code_of}
+use Rattle.ob_check_module.specs.CheckedTree.{CheckedTree}
+use Rattle.ob_check_module.specs.declared.checked.Imported.{Imported}
+use Rattle.ob_check_module.specs.Modules.{module_at}
 use Rattle.ob_session.specs.Session.{Session, Module, Import}
 use Rattle.ob_session.specs.Reaches.{reached_by}
 use Rattle.ob_session.specs.Cells.{CellMeaning, Checked, OfModule, OfCommands, CommandName, checked_meaning}

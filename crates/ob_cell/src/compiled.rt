@@ -1,18 +1,18 @@
 //! A checked module, compiled.
 
 ghost use Rattle.std.specs.Prelude.{◌≡◌, map, IfOk};
-ghost use Rattle.ob_fit.specs.Fitting as fit;
+ghost use Rattle.ob_check_laws.specs.Fitting as fit;
 ghost use Rattle.ob_compile.specs.Compilable.{IsCompilable};
 ghost use Rattle.ob_cell.specs.Texts as meaning;
 ghost use Rattle.ob_cell.specs.Planned.{IsCompiled};
 
 use crate::planned::Planned;
 use ob_base::Items;
-use ob_check::{Checked, Imported};
+use ob_check_module::{Checked, Imported};
+use ob_check_scope::Imports;
 use ob_compile::{compile, face_of, faces_of};
 use ob_link::{KeyedImport, SessionModule};
 use ob_mean::Face;
-use ob_scope::Imports;
 use std::alloc::{AllocError, Global};
 
 /// The imports, with their keys.

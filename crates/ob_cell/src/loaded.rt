@@ -1,13 +1,13 @@
 //! The modules that are loaded, as the static rules see them.
 
 ghost use Rattle.std.specs.Prelude.{◌≡◌, [], ◌∷◌, map, None, IfOk, if◌then◌else◌};
-ghost use Rattle.ob_scope.specs.Imports.{added, module_place};
+ghost use Rattle.ob_check_scope.specs.Imports.{added, module_place};
 ghost use Rattle.ob_cell.specs.Texts as meaning;
 ghost use Rattle.ob_link.specs.Modules.{AllDistinct};
 
 use ob_base::Text;
+use ob_check_scope::Imports;
 use ob_link::{Modules, SessionModule};
-use ob_scope::Imports;
 use ob_tree::tree::{Import, Module};
 use std::alloc::{AllocError, Global};
 

@@ -14,9 +14,9 @@ use crate::compiled::{compiled, keyed_imports};
 use crate::loaded::loaded_for;
 use crate::planned::Plan;
 use ob_base::Refused;
-use ob_check::check;
+use ob_check_module::check;
+use ob_check_scope::Imports;
 use ob_link::{LinkFault, Modules};
-use ob_scope::Imports;
 use ob_tree::tree::Module;
 use std::alloc::Global;
 

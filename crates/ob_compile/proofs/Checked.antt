@@ -5,17 +5,17 @@ use Rattle.std.specs.Str.{bytes_eq}
 use Rattle.std.proofs.lemmas.Slice.Eq.{bytes_eq-Decides}
 use Rattle.ob_tree.specs.declared.tree.Module.{Module}
 use Rattle.ob_mean.specs.declared.face.Face.{Face}
-use Rattle.ob_scope.specs.declared.block.Declared.{Declared}
-use Rattle.ob_scope.specs.declared.block.Entry.{Entry}
-use Rattle.ob_scope.specs.declared.block.Entry.TheVariants as entry
-use Rattle.ob_scope.specs.Exports.{Modules}
-use Rattle.ob_scope.specs.LoadedTree.{LoadedTree}
-use Rattle.ob_scope.specs.Rule.{gives}
-use Rattle.ob_check.specs.declared.checked.Imported.{Imported}
-use Rattle.ob_check.specs.CheckedTree.{CheckedTree}
-use Rattle.ob_check.specs.Modules.{all_imported, body_rule, checked_rule, imported_by, module_at, procedures_rule, with_key}
-use Rattle.ob_fit.specs.Fitting.{face_named, face_of_loaded, faces_of, with_face}
-use Rattle.ob_fit.proofs.Modules.{each_checked}
+use Rattle.ob_check_scope.specs.declared.block.Declared.{Declared}
+use Rattle.ob_check_scope.specs.declared.block.Entry.{Entry}
+use Rattle.ob_check_scope.specs.declared.block.Entry.TheVariants as entry
+use Rattle.ob_check_scope.specs.Exports.{Modules}
+use Rattle.ob_check_scope.specs.LoadedTree.{LoadedTree}
+use Rattle.ob_check_scope.specs.Rule.{gives}
+use Rattle.ob_check_module.specs.declared.checked.Imported.{Imported}
+use Rattle.ob_check_module.specs.CheckedTree.{CheckedTree}
+use Rattle.ob_check_module.specs.Modules.{all_imported, body_rule, checked_rule, imported_by, module_at, procedures_rule, with_key}
+use Rattle.ob_check_laws.specs.Fitting.{face_named, face_of_loaded, faces_of, with_face}
+use Rattle.ob_check_laws.proofs.Modules.{each_checked}
 use Rattle.ob_compile.specs.Compilable.{AreFacesOf, EachCheckedIsCompilable}
 
 -- ---- a loaded module has a face by its name

@@ -1,9 +1,9 @@
 -- The types that loaded modules export have cells after each load.
 use Rattle.std.proofs.Common.{Bool, true, false, cond, [], ◌∷◌}
 use Rattle.std.specs.Str.{bytes_eq}
-use Rattle.ob_scope.specs.Exports.{Modules}
-use Rattle.ob_scope.specs.Imports.{added}
-use Rattle.ob_fit.specs.Solid.{EachSolid}
+use Rattle.ob_check_scope.specs.Exports.{Modules}
+use Rattle.ob_check_scope.specs.Imports.{added}
+use Rattle.ob_check_laws.specs.Solid.{EachSolid}
 use Rattle.ob_compile.specs.Compilable.{EachLoadStaysSolid}
 
 either_solid : (b : Bool) (xs ys : Modules) → EachSolid xs → EachSolid ys → EachSolid (cond b xs ys)

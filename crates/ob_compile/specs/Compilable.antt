@@ -3,16 +3,16 @@ use Rattle.std.specs.Prelude.{◌≡◌, List, [], ◌∷◌, Some}
 use Rattle.ob_tree.specs.declared.tree.Module.{Module}
 use Rattle.ob_mean.specs.declared.face.Face.{Face}
 use Rattle.ob_mean.specs.WellFormed.{IsFaceOf, IsWellFormed}
-use Rattle.ob_scope.specs.Exports.{Modules}
-use Rattle.ob_scope.specs.Imports.{added}
-use Rattle.ob_scope.specs.LoadedTree.{LoadedTree}
-use Rattle.ob_scope.specs.Rule.{gives}
-use Rattle.ob_check.specs.declared.checked.Imported.{Imported}
-use Rattle.ob_check.specs.CheckedTree.{CheckedTree}
-use Rattle.ob_check.specs.Modules.{module_at}
-use Rattle.ob_fit.specs.Fitting.{face_named, face_of_interface, faces_of}
+use Rattle.ob_check_scope.specs.Exports.{Modules}
+use Rattle.ob_check_scope.specs.Imports.{added}
+use Rattle.ob_check_scope.specs.LoadedTree.{LoadedTree}
+use Rattle.ob_check_scope.specs.Rule.{gives}
+use Rattle.ob_check_module.specs.declared.checked.Imported.{Imported}
+use Rattle.ob_check_module.specs.CheckedTree.{CheckedTree}
+use Rattle.ob_check_module.specs.Modules.{module_at}
+use Rattle.ob_check_laws.specs.Fitting.{face_named, face_of_interface, faces_of}
 use Rattle.ob_types.specs.Solid.{ExportsSolid}
-use Rattle.ob_fit.specs.Solid.{EachSolid}
+use Rattle.ob_check_laws.specs.Solid.{EachSolid}
 
 -- each import has its face: what is known of the loaded module of its name
 abbrev pub AreFacesOf : Modules → List Imported → List Face → Type 0

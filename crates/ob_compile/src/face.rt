@@ -1,10 +1,10 @@
 //! What is known of a module by its interface.
 
 ghost use Rattle.std.specs.Prelude.{◌≡◌, ◌++◌, IfOk};
-ghost use Rattle.ob_fit.specs.Fitting as spec;
+ghost use Rattle.ob_check_laws.specs.Fitting as spec;
 
 use ob_base::Items;
-use ob_check::{Made, parameters_of, shape_of};
+use ob_check_module::{Made, parameters_of, shape_of};
 use ob_mean::{Face, Heading, Shape};
 use ob_types::{Exported, Interface, Object, Signature};
 use std::alloc::{AllocError, Global};

@@ -1,13 +1,13 @@
 //! What is known of the modules that a module imports.
 
 ghost use Rattle.std.specs.Prelude.{◌≡◌, ◌++◌, option_copied, IfOk};
-ghost use Rattle.ob_fit.specs.Fitting as spec;
+ghost use Rattle.ob_check_laws.specs.Fitting as spec;
 
 use crate::face::face_of;
 use ob_base::Text;
-use ob_check::Imported;
+use ob_check_module::Imported;
+use ob_check_scope::{Imports, LoadedModule};
 use ob_mean::Face;
-use ob_scope::{Imports, LoadedModule};
 use std::alloc::{AllocError, Global};
 
 // The loaded module of a name.

@@ -1,10 +1,10 @@
 -- The modules as the rules see them, where one is loaded.
 use Rattle.std.proofs.Common.{◌≡◌, ℕ, suc, Bool, true, false, cond, List, [], ◌∷◌, Some, None, option_map, refl, ◌∙◌, ap}
 use Rattle.std.specs.Str.{bytes_eq}
-use Rattle.ob_scope.specs.Exports.{module_names}
-use Rattle.ob_scope.specs.Imports.{added, module_place}
-use Rattle.ob_scope.specs.LoadedTree.{LoadedTree}
-use Rattle.ob_scope.specs.Names.{place_in}
+use Rattle.ob_check_scope.specs.Exports.{module_names}
+use Rattle.ob_check_scope.specs.Imports.{added, module_place}
+use Rattle.ob_check_scope.specs.LoadedTree.{LoadedTree}
+use Rattle.ob_check_scope.specs.Names.{place_in}
 use Rattle.ob_session.specs.Session.{Module, name_of, find_module, with_module}
 use Rattle.ob_link.specs.Places.{number_in}
 use Rattle.ob_link.specs.Seen.{seen_alone, all_seen}

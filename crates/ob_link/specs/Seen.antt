@@ -1,6 +1,6 @@
 -- The modules as the static rules see them, where none of them reaches the one that is judged.
 use Rattle.std.specs.Prelude.{List, [], map}
-use Rattle.ob_scope.specs.LoadedTree.{LoadedTree}
+use Rattle.ob_check_scope.specs.LoadedTree.{LoadedTree}
 use Rattle.ob_session.specs.Session.{Module}
 
 abbrev pub seen_alone : Module → LoadedTree

@@ -5,13 +5,13 @@ ghost use Rattle.ob_session.specs.Session as session;
 ghost use Rattle.ob_link.specs.Exchange as spec;
 ghost use Rattle.ob_link.specs.Faults.{fault_row};
 ghost use Rattle.ob_link.specs.Runs.{may_run};
-ghost use Rattle.ob_scope.specs.Imports.{added};
+ghost use Rattle.ob_check_scope.specs.Imports.{added};
 
 use crate::module::SessionModule;
 use crate::modules::Modules;
 use crate::table::Table;
 use ob_base::Text;
-use ob_scope::Imports;
+use ob_check_scope::Imports;
 use ob_types::Interface;
 use std::alloc::AllocError;
 

@@ -7,7 +7,7 @@ ghost use Rattle.ob_link.specs.Seen.{all_seen};
 use crate::module::{KeyedImport, SessionModule};
 use crate::table::Table;
 use ob_base::Text;
-use ob_scope::Imports;
+use ob_check_scope::Imports;
 use std::alloc::{AllocError, Global};
 use std::marker::Model;
 

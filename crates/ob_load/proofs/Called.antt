@@ -16,10 +16,10 @@ use Rattle.ob_code.specs.Machine.{Code}
 use Rattle.ob_gen.specs.Correct.{AllRun}
 use Rattle.ob_gen.specs.Generated.{IsGenerated}
 use Rattle.ob_session.specs.Session.{Module}
-use Rattle.ob_linked.specs.Compiled.{Known, face_in, runs_in, AreCompiled, AreKnown}
-use Rattle.ob_linked.specs.CommandsCode.{IsCallable, AllCallable, AreCallable, calls_body, commands_tree}
-use Rattle.ob_linked.proofs.Commands.{commands_form}
-use Rattle.ob_linked.proofs.Imports.{running_at}
+use Rattle.ob_image.specs.Compiled.{Known, face_in, runs_in, AreCompiled, AreKnown}
+use Rattle.ob_image.specs.CommandsCode.{IsCallable, AllCallable, AreCallable, calls_body, commands_tree}
+use Rattle.ob_image.proofs.Commands.{commands_form}
+use Rattle.ob_image.proofs.Imports.{running_at}
 use Rattle.ob_load.specs.Commanded.{AreCalled, IsCodeOfCalls, WithHome}
 use Rattle.ob_load.proofs.Loaded.{known_many, some_within}
 

@@ -14,15 +14,15 @@ use Rattle.ob_gen.specs.Generated.{IsGenerated}
 use Rattle.ob_gen.proofs.machine.Places.{some_same}
 use Rattle.ob_vm.specs.Images as vm
 use Rattle.ob_session.specs.Session.{Module, program_of}
-use Rattle.ob_store.specs.Runs.{MayBeginWith}
-use Rattle.ob_store.specs.Stores.{store_of, session_of, AreCellsOf}
-use Rattle.ob_store.proofs.Runs.{each_may_begin}
-use Rattle.ob_linked.specs.Compiled.{Known, AreCompiled, runs_in}
-use Rattle.ob_linked.specs.CommandsCode.{CommandsMayRun, IsBehind, commands_tree, runs_with}
-use Rattle.ob_linked.proofs.Behind.{last_at}
-use Rattle.ob_linked.proofs.Commands.{commands_run}
-use Rattle.ob_linked.proofs.Imports.{flags_run_with}
-use Rattle.ob_linked.proofs.Sides.{as_long}
+use Rattle.ob_image.specs.Runs.{MayBeginWith}
+use Rattle.ob_image.specs.Stores.{store_of, session_of, AreCellsOf}
+use Rattle.ob_image.proofs.Runs.{each_may_begin}
+use Rattle.ob_image.specs.Compiled.{Known, AreCompiled, runs_in}
+use Rattle.ob_image.specs.CommandsCode.{CommandsMayRun, IsBehind, commands_tree, runs_with}
+use Rattle.ob_image.proofs.Behind.{last_at}
+use Rattle.ob_image.proofs.Commands.{commands_run}
+use Rattle.ob_image.proofs.Imports.{flags_run_with}
+use Rattle.ob_image.proofs.Sides.{as_long}
 use Rattle.ob_load.specs.Commanded.{AreReady}
 use Rattle.ob_load.specs.declared.commands.Calls.{Calls}
 use Rattle.ob_load.specs.declared.task.Task.{Task}

@@ -18,12 +18,12 @@ use Rattle.ob_vm.specs.declared.run.Turned.{Turned}
 use Rattle.ob_vm.specs.declared.run.Turned.TheVariants as slice
 use Rattle.ob_session.specs.Session.{Session, Module, program_of}
 use Rattle.ob_session.specs.Cells.{CellMeaning}
-use Rattle.ob_store.specs.Counted.{HaveCellsOf}
-use Rattle.ob_store.specs.Stores.{store_of}
-use Rattle.ob_store.proofs.Counted.{each_counts_cells}
-use Rattle.ob_store.proofs.Runs.{each_keeps_cells}
-use Rattle.ob_linked.specs.Compiled.{Known, AreCompiledFrom, AreCompiled, links, runs_in}
-use Rattle.ob_linked.proofs.MayRun.{each_may_run}
+use Rattle.ob_image.specs.Counted.{HaveCellsOf}
+use Rattle.ob_image.specs.Stores.{store_of}
+use Rattle.ob_image.proofs.StoreCells.{each_counts_cells}
+use Rattle.ob_image.proofs.Runs.{each_keeps_cells}
+use Rattle.ob_image.specs.Compiled.{Known, AreCompiledFrom, AreCompiled, links, runs_in}
+use Rattle.ob_image.proofs.MayRun.{each_may_run}
 use Rattle.ob_load.specs.declared.task.Task.{Task}
 use Rattle.ob_load.specs.Tasks.{task_run}
 use Rattle.ob_load.specs.Kept.{IsHeld, IsRunning}

@@ -16,19 +16,19 @@ use Rattle.ob_vm.specs.Images as vm
 use Rattle.ob_types.specs.Solid.{ExportsSolid}
 use Rattle.ob_session.specs.Session.{Module, name_of, place_of, link_fault, with_module, installed, program_of}
 use Rattle.ob_session.specs.Cells.{name_in}
-use Rattle.ob_store.specs.Stores.{store_of, loaded_cells, session_of}
-use Rattle.ob_store.specs.Runs.{MayBeginWith}
-use Rattle.ob_store.proofs.Loading.{each_loads_cells}
-use Rattle.ob_store.proofs.Runs.{each_may_begin}
+use Rattle.ob_image.specs.Stores.{store_of, loaded_cells, session_of}
+use Rattle.ob_image.specs.Runs.{MayBeginWith}
+use Rattle.ob_image.proofs.Loading.{each_loads_cells}
+use Rattle.ob_image.proofs.Runs.{each_may_begin}
 use Rattle.ob_image.proofs.Counted.{compiled_counts, compiled_laid}
 use Rattle.ob_image.proofs.Laid.{laid_put, put_long}
-use Rattle.ob_linked.specs.Compiled.{Known, AreCompiledFrom, AllFound, AreCompiled, IsReady, faces_at, runs_in, put_at, laid}
+use Rattle.ob_image.specs.Compiled.{Known, AreCompiledFrom, AllFound, AreCompiled, IsReady, faces_at, runs_in, put_at, laid}
 use Rattle.ob_link.proofs.Loads.{each_load}
-use Rattle.ob_linked.specs.Loading.{IsUnreached}
-use Rattle.ob_linked.proofs.Imports.{running_at}
-use Rattle.ob_linked.proofs.Loads.{code_loads}
-use Rattle.ob_linked.proofs.MayRun.{each_may_run}
-use Rattle.ob_linked.proofs.Running.{loaded_runs}
+use Rattle.ob_image.specs.Loading.{IsUnreached}
+use Rattle.ob_image.proofs.Imports.{running_at}
+use Rattle.ob_image.proofs.Loads.{code_loads}
+use Rattle.ob_image.proofs.MayRun.{each_may_run}
+use Rattle.ob_image.proofs.Running.{loaded_runs}
 use Rattle.ob_load.specs.declared.body.Beginning.{Beginning}
 use Rattle.ob_load.specs.declared.loading.Prepared.{Prepared}
 use Rattle.ob_load.specs.declared.task.Task.TheVariants.{Body}

@@ -24,7 +24,7 @@ use Rattle.ob_vm.specs.declared.run.Turned.TheVariants as slice
 use Rattle.ob_session.specs.Session.{Session, Module, program_of}
 use Rattle.ob_session.specs.Cells as cells
 use Rattle.ob_session.specs.Cells.{CellMeaning, CellOutcome, outcome_of, name_in, ran}
-use Rattle.ob_linked.specs.Compiled.{Known, AreCompiled}
+use Rattle.ob_image.specs.Compiled.{Known, AreCompiled}
 use Rattle.jk_language.specs.MachineState as kernel
 use Rattle.jk_language.specs.Runs.{HasTurned, line_given}
 use Rattle.jk_language.specs.declared.outcome.Outcome.TheVariants as outcome

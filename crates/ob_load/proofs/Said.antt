@@ -7,11 +7,11 @@ use Rattle.ob_mean.specs.Programs.{Command}
 use Rattle.ob_session.specs.Session.{Session, Import, Module, name_of, find_module, place_of, link_fault, with_module}
 use Rattle.ob_session.specs.Cells as cells
 use Rattle.ob_session.specs.Cells.{CommandName, Looked, Found, Missing, Ready, Runs, Faulty, all_ready, command_place, is_given, linked, looked_in, looked_by, looked_up, ready_with}
-use Rattle.ob_linked.specs.Compiled.{Known, face_in, links, put_at, FacesAgree}
-use Rattle.ob_linked.specs.CommandsCode.{IsCallable}
-use Rattle.ob_linked.specs.Loading.{WasKnown, AllWereKnown, KeysAgree}
-use Rattle.ob_linked.proofs.Agreeing.{agrees}
-use Rattle.ob_linked.proofs.Imports.{found_at}
+use Rattle.ob_image.specs.Compiled.{Known, face_in, links, put_at, FacesAgree}
+use Rattle.ob_image.specs.CommandsCode.{IsCallable}
+use Rattle.ob_image.specs.Loading.{WasKnown, AllWereKnown, KeysAgree}
+use Rattle.ob_image.proofs.Agreeing.{agrees}
+use Rattle.ob_image.proofs.Imports.{found_at}
 use Rattle.ob_load.specs.Commanded.{AllRunnable}
 use Rattle.ob_load.specs.Known.{IsSaid, AreSaid}
 use Rattle.ob_load.specs.Said.{face_said}

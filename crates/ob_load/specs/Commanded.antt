@@ -7,8 +7,8 @@ use Rattle.ob_gen.specs.Correct.{AllRun}
 use Rattle.ob_gen.specs.Generated.{IsGenerated}
 use Rattle.ob_vm.specs.Images.{IsRoomFor}
 use Rattle.ob_session.specs.Session.{Module}
-use Rattle.ob_linked.specs.Compiled.{Known, runs_in}
-use Rattle.ob_linked.specs.CommandsCode.{AllCallable, AreCallable, IsCallable, commands_tree}
+use Rattle.ob_image.specs.Compiled.{Known, runs_in}
+use Rattle.ob_image.specs.CommandsCode.{AllCallable, AreCallable, IsCallable, commands_tree}
 use Rattle.ob_load.specs.declared.commands.Calls.{Calls}
 
 -- one more module is imported, if it was not

@@ -10,7 +10,7 @@ use Rattle.ob_gen.specs.Correct.{Follows, MayBegin}
 use Rattle.ob_vm.specs.Images.{ImageState, MachineState, IsOf, AsksFor, machine_config}
 use Rattle.ob_session.specs.Session.{Module, program_of}
 use Rattle.ob_link.specs.Modules.{AllSolid, AllDistinct}
-use Rattle.ob_linked.specs.Compiled.{Known, AreCompiled, runs_in}
+use Rattle.ob_image.specs.Compiled.{Known, AreCompiled, runs_in}
 use Rattle.ob_load.specs.Known.{AreSaid}
 use Rattle.ob_load.specs.declared.task.Task.{Task}
 use Rattle.ob_load.specs.Tasks.{task_meaning, home_of}

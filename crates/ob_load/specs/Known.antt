@@ -4,7 +4,7 @@ use Rattle.ob_mean.specs.declared.module.TypedModule.{TypedModule}
 use Rattle.ob_mean.specs.WellFormed.{own_heading}
 use Rattle.ob_session.specs.Session.{Import, Module, key_of}
 use Rattle.ob_session.specs.Cells.{command_place}
-use Rattle.ob_linked.specs.Compiled.{Known}
+use Rattle.ob_image.specs.Compiled.{Known}
 use Rattle.ob_load.specs.Said.{face_said}
 
 -- the procedure that stands at this place among those that are exported takes and leaves nothing

@@ -6,8 +6,8 @@ use Rattle.ob_code.specs.Linked.{all_cells, runs_of}
 use Rattle.ob_code.specs.Machine.{Code}
 use Rattle.ob_vm.specs.Images.{IsRoomFor}
 use Rattle.ob_session.specs.Session.{Module, import_places}
-use Rattle.ob_store.specs.Stores.{loaded_cells}
-use Rattle.ob_linked.specs.Compiled.{Known, AreCompiled, runs_in}
+use Rattle.ob_image.specs.Stores.{loaded_cells}
+use Rattle.ob_image.specs.Compiled.{Known, AreCompiled, runs_in}
 use Rattle.ob_load.specs.declared.body.Beginning.{Beginning}
 use Rattle.ob_load.specs.declared.loading.Prepared.{Prepared}
 

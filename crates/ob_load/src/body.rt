@@ -3,8 +3,8 @@
 ghost use Rattle.std.specs.Prelude.{◌≡◌, ◌≤◌, [], None, IfOk, IfErr, length, vec_capacity};
 ghost use Rattle.ob_types.specs.Solid.{ExportsSolid};
 ghost use Rattle.ob_gen.specs.Generated.{IsGenerated};
-ghost use Rattle.ob_linked.specs.Compiled.{AllFound};
-ghost use Rattle.ob_linked.specs.Loading.{IsUnreached};
+ghost use Rattle.ob_image.specs.Compiled.{AllFound};
+ghost use Rattle.ob_image.specs.Loading.{IsUnreached};
 ghost use Rattle.ob_load.specs.Kept.{AreCheckable};
 ghost use Rattle.ob_load.specs.Known.{AreSaid, IsSaid};
 ghost use Rattle.ob_load.specs.Loading.{BodyMayBegin};
@@ -13,7 +13,7 @@ ghost use Rattle.ob_load.specs.Names.{NamesWithin};
 ghost use Rattle.ob_load.specs.Words.{InterfaceWords};
 ghost use Rattle.ob_mean.specs.WellFormed.{IsFaceOf, IsWellFormed};
 ghost use Rattle.ob_session.specs.Session.{installed, link_fault, name_of, place_of};
-ghost use Rattle.ob_store.specs.Stores.{session_of};
+ghost use Rattle.ob_image.specs.Stores.{session_of};
 
 use crate::given::GivenLines;
 use crate::loading::{Compiled, load};

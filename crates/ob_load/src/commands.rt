@@ -2,9 +2,9 @@
 
 ghost use Rattle.std.specs.Prelude.{◌≡◌, ◌≢◌, ℕ, ◌<◌, List, [], ◌∷◌, ◌++◌, length, vec_capacity, slice_get, IfSome, IfOk, IfErr, Some, None, EachIndex, slice_index, OnOk};
 ghost use Rattle.ob_code.specs.Machine.{Code};
-ghost use Rattle.ob_linked.specs.CommandsCode as code;
-ghost use Rattle.ob_linked.specs.CommandsCode.{IsCallable};
-ghost use Rattle.ob_linked.specs.Compiled.{face_in, AreCompiled, AreKnown};
+ghost use Rattle.ob_image.specs.CommandsCode as code;
+ghost use Rattle.ob_image.specs.CommandsCode.{IsCallable};
+ghost use Rattle.ob_image.specs.Compiled.{face_in, AreCompiled, AreKnown};
 ghost use Rattle.ob_load.specs.Commanded.{AllRunnable, AreCalled, AreReady, IsCodeOfCalls, WithHome};
 ghost use Rattle.ob_load.specs.MachineState.{begun_in};
 ghost use Rattle.ob_load.specs.Kept.{IsKept};
@@ -15,7 +15,7 @@ ghost use Rattle.ob_mean.specs.declared.statement.Action.TheVariants as action;
 ghost use Rattle.ob_mean.specs.declared.statement.TypedStatement.TheVariants as statement;
 ghost use Rattle.ob_mean.specs.Programs as programs;
 ghost use Rattle.ob_session.specs.Cells.{CommandName, Runs, all_ready};
-ghost use Rattle.ob_store.specs.Stores.{session_of};
+ghost use Rattle.ob_image.specs.Stores.{session_of};
 
 use crate::given::GivenLines;
 use crate::machine::Machine;

@@ -3,14 +3,14 @@
 ghost use Rattle.std.specs.Prelude.{◌≡◌, List, None, length, OnOk, OnErr, IfOk};
 ghost use Rattle.ob_code.specs.Linked.{all_cells};
 ghost use Rattle.ob_gen.specs.Generated.{IsGenerated};
-ghost use Rattle.ob_linked.specs.Compiled.{AllFound, AreCompiledFrom, Known};
-ghost use Rattle.ob_linked.specs.Compiled as linked;
-ghost use Rattle.ob_linked.specs.Loading.{IsUnreached};
+ghost use Rattle.ob_image.specs.Compiled.{AllFound, AreCompiledFrom, Known};
+ghost use Rattle.ob_image.specs.Compiled as linked;
+ghost use Rattle.ob_image.specs.Loading.{IsUnreached};
 ghost use Rattle.ob_load.specs.Known.{AreSaid, IsSaid};
 ghost use Rattle.ob_load.specs.Loading.{AreFlags, IsPrepared, BodyMayBegin};
 ghost use Rattle.ob_mean.specs.WellFormed.{IsFaceOf, IsWellFormed};
 ghost use Rattle.ob_session.specs.Session.{link_fault, name_of, place_of, with_module};
-ghost use Rattle.ob_store.specs.Stores as stores;
+ghost use Rattle.ob_image.specs.Stores as stores;
 
 use crate::body::Beginning;
 use ob_code::checked::Checked;

@@ -46,7 +46,7 @@ impl Model for Machine {
     ghost use Rattle.ob_mean.specs.contracts.shape.Shape as shape;
     ghost use Rattle.ob_mean.specs.contracts.statement.TypedStatement as statement;
     ghost use Rattle.ob_load.specs.ValueCode.{value_code};
-    ghost use Rattle.ob_store.specs.Stores.{store_of};
+    ghost use Rattle.ob_image.specs.Stores.{store_of};
     ghost use Rattle.ob_load.specs.MachineState.{MachineState, stands_at};
     ghost use Rattle.ob_load.specs.Kept.{IsHeld, IsRunning};
     ghost use Rattle.ob_load.specs.Names.{NamesWithin, HasRoom};

@@ -4,7 +4,7 @@ ghost use Rattle.std.specs.Prelude.{◌≡◌};
 ghost use Rattle.ob_load.specs.Kept.{AreCheckable, IsKept};
 ghost use Rattle.ob_load.specs.Names.{NamesWithin};
 ghost use Rattle.ob_session.specs.Session.{opening};
-ghost use Rattle.ob_store.specs.Stores.{session_of};
+ghost use Rattle.ob_image.specs.Stores.{session_of};
 
 use ob_code::instr::LinkedModule;
 use ob_image::KnownFaces;
@@ -31,7 +31,7 @@ impl Model for Session {
     ghost use Rattle.ob_mean.specs.contracts.statement.TypedStatement as statement;
     ghost use Rattle.ob_session.specs.Session as sessions;
     ghost use Rattle.ob_load.specs.ValueCode.{value_code};
-    ghost use Rattle.ob_store.specs.Stores.{store_of};
+    ghost use Rattle.ob_image.specs.Stores.{store_of};
     ghost use Rattle.ob_load.specs.Kept.{IsKept};
     ghost use Rattle.ob_load.specs.Names.{NamesWithin};
 

@@ -7,7 +7,7 @@ use jk_language::Language;
 use jk_log::What;
 use js_files::FileShelf;
 use js_shelf::{
-    Bytes, Device, DeviceFault, Item, Kind, MemoryShelf, Names, Place, Shelf, ShelfRefusal,
+    Device, DeviceFault, Item, Kind, MemoryShelf, Names, Opened, Place, Shelf, ShelfRefusal,
 };
 use json_form::Text;
 use nb_doc::read_notebook;
@@ -151,9 +151,9 @@ impl Device for Failing {
         Device::kind(&mut self.shelf, place)
     }
 
-    fn read(&mut self, place: &Place) -> Result<Bytes, DeviceFault> {
+    fn open(&mut self, place: &Place) -> Result<Opened, DeviceFault> {
         self.call()?;
-        self.shelf.read(place)
+        Device::open(&mut self.shelf, place)
     }
 
     fn names(&mut self, place: &Place) -> Result<Names, DeviceFault> {

@@ -8,6 +8,7 @@ use crate::joins::{fresh_kernel, publish_joins, publish_next};
 use jk_board::{Board, Follower, Followers, Publisher};
 use jk_core::Kernel;
 use jk_language::Language;
+use jk_queues::Inbox;
 use std::alloc::{AllocError, Global};
 use std::process::Abort;
 use std::sync::Wait;
@@ -104,10 +105,11 @@ where
 #[test]
 fn reader_beside_writer(rt: HostRuntime) -> Result<(), Fail> {
     let alloc = rt.alloc();
+    let Inbox { taker, .. } = Inbox::new(alloc)?;
     let Board {
         publisher,
         followers,
-    } = Board::<TestLanguage>::new(&rt, alloc)?;
+    } = Board::<TestLanguage>::new(&rt, alloc, &taker)?;
     let (publisher, done) = follow(rt, alloc, publisher, followers);
     publisher.end(&rt);
     done
@@ -139,10 +141,11 @@ fn pass_hundred<L: Language, R: Wait>(
 fn late_reader(rt: HostRuntime) -> Result<(), Fail> {
     let alloc = rt.alloc();
     let mut kernel = fresh_kernel::<TestLanguage>(alloc)?;
+    let Inbox { taker, .. } = Inbox::new(alloc)?;
     let Board {
         publisher,
         followers,
-    } = Board::<TestLanguage>::new(&rt, alloc)?;
+    } = Board::<TestLanguage>::new(&rt, alloc, &taker)?;
     let (publisher, last) = pass_hundred(&rt, alloc, &mut kernel, publisher, followers.one);
     publisher.end(&rt);
     assert_eq!(rt; last?, 103);

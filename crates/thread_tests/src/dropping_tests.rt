@@ -8,6 +8,7 @@ use crate::joins::{fresh_kernel, publish_each};
 use jk_board::{Board, Follower, Publisher, Refusal};
 use jk_core::Kernel;
 use jk_language::Language;
+use jk_queues::Inbox;
 use std::alloc::{AllocError, Global};
 use std::sync::Wait;
 use std::test::Fail;
@@ -74,10 +75,11 @@ fn kept_for_one<R: Wait>(
 ) -> Result<(usize, usize), AllocError>
     requires { count < 10000 }
 {
+    let Inbox { taker, .. } = Inbox::new(alloc)?;
     let Board {
         publisher,
         followers,
-    } = Board::<TestLanguage>::new(rt, alloc)?;
+    } = Board::<TestLanguage>::new(rt, alloc, &taker)?;
     let (follower, _) = followers.one.pass();
     let (publisher, kept) = kept_by(rt, alloc, publisher, follower, count, times);
     publisher.end(rt);
@@ -110,10 +112,11 @@ fn kept_while_unread(rt: HostRuntime) -> Result<(), Fail> {
 #[test]
 fn nothing_kept_for_nobody(rt: HostRuntime) -> Result<(), Fail> {
     let alloc = rt.alloc();
+    let Inbox { taker, .. } = Inbox::new(alloc)?;
     let Board {
         publisher,
         followers,
-    } = Board::<TestLanguage>::new(&rt, alloc)?;
+    } = Board::<TestLanguage>::new(&rt, alloc, &taker)?;
     let (publisher, kept) = kept_by(&rt, alloc, publisher, followers.one, 200, 0);
     let publisher = publisher.let_go(&rt, alloc);
     let left = publisher.kept();
@@ -161,10 +164,11 @@ fn rest_and_pass<L: Language, R: Wait>(
 #[test]
 fn lost_after_rest(rt: HostRuntime) -> Result<(), Fail> {
     let alloc = rt.alloc();
+    let Inbox { taker, .. } = Inbox::new(alloc)?;
     let Board {
         publisher,
         followers,
-    } = Board::<TestLanguage>::new(&rt, alloc)?;
+    } = Board::<TestLanguage>::new(&rt, alloc, &taker)?;
     let (publisher, done) = rest_and_pass(&rt, alloc, publisher, followers.two);
     publisher.end(&rt);
     let (lost, count) = done?;

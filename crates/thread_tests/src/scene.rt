@@ -262,7 +262,7 @@ where
     let Board {
         publisher,
         followers,
-    } = Board::<TestLanguage>::new(&rt, alloc)?;
+    } = Board::<TestLanguage>::new(&rt, alloc, &taker)?;
     let (follower, _) = followers.two.pass();
     let screen = Screen {
         follower,

@@ -50,6 +50,7 @@ returns-clause-turn g c not =
       full = c.leave-left.ensures.full c.listen-heard.ensures.full;
       seat = (c.leave-left.ensures.seat.0 ∙ c.listen-heard.ensures.seat.0, c.leave-left.ensures.seat.1 ∙ c.listen-heard.ensures.seat.1);
       got = f.0;
+      board = c.take-taken.ensures.board;
       found = f.1;
       front = s.0;
       first = sym f.2 ∙ s.1;

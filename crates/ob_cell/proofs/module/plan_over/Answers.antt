@@ -1,8 +1,8 @@
 use Rattle.std.proofs.Common.{Ok, map, rules, refl, sym, ◌∙◌, ap, subst}
-use Rattle.ob_scope.specs.Exports.{Modules as Loaded}
-use Rattle.ob_scope.specs.Rule.{gives}
-use Rattle.ob_check.specs.Modules.{module_at}
-use Rattle.ob_fit.specs.Solid.{EachSolid}
+use Rattle.ob_check_scope.specs.Exports.{Modules as Loaded}
+use Rattle.ob_check_scope.specs.Rule.{gives}
+use Rattle.ob_check_module.specs.Modules.{module_at}
+use Rattle.ob_check_laws.specs.Solid.{EachSolid}
 use Rattle.ob_session.specs.Session.{Module, link_fault}
 use Rattle.ob_session.specs.Cells.{OfModule}
 use Rattle.ob_compile.proofs.Checked.{each_compilable}

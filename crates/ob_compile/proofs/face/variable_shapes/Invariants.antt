@@ -1,5 +1,5 @@
 use Rattle.std.proofs.Common.{◌≡◌, ◌++◌, drop}
-use Rattle.ob_fit.specs.Fitting as spec
+use Rattle.ob_check_laws.specs.Fitting as spec
 use Rattle.ob_compile.proofs.face.variable_shapes.Given as goal
 
 abbrev pub invariant-loop-exported : goal.invariant-loop-exported

@@ -1,5 +1,5 @@
 use Rattle.std.proofs.Common.{◌≡◌, ◌++◌, drop}
-use Rattle.ob_fit.specs.Fitting as spec
+use Rattle.ob_check_laws.specs.Fitting as spec
 use Rattle.ob_compile.proofs.imports.faces_of.Given as goal
 
 abbrev pub invariant-loop-import : goal.invariant-loop-import

@@ -1,5 +1,5 @@
 use Rattle.std.proofs.Common.{◌≡◌, drop}
-use Rattle.ob_fit.specs.Fitting.{face_named}
+use Rattle.ob_check_laws.specs.Fitting.{face_named}
 use Rattle.ob_compile.proofs.imports.module_named.Given as goal
 
 abbrev pub invariant-loop-module : goal.invariant-loop-module

@@ -1,6 +1,6 @@
 use Rattle.std.proofs.Common.{ℤ, List, [], false, ap, sym, ◌∙◌, subst, Vec, Global, vec_capacity}
 use Rattle.ob_inout.specs.Reading.{Line}
-use Rattle.ob_store.specs.Stores.{store_of}
+use Rattle.ob_image.specs.Stores.{store_of}
 use Rattle.ob_load.specs.declared.task.Task.TheVariants.{Body}
 use Rattle.ob_load.specs.Kept.{IsRunning}
 use Rattle.ob_load.specs.MachineState.{stands_at}

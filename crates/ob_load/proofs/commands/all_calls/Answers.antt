@@ -1,7 +1,7 @@
 use Rattle.std.proofs.Common.{ℕ, ◌+◌, List, Some, take, sym, ap, ◌∙◌, subst, arith}
 use Rattle.ob_mean.specs.Programs.{Command}
-use Rattle.ob_linked.specs.Compiled.{runs_in}
-use Rattle.ob_linked.specs.CommandsCode.{AllCallable, IsCallable}
+use Rattle.ob_image.specs.Compiled.{runs_in}
+use Rattle.ob_image.specs.CommandsCode.{AllCallable, IsCallable}
 use Rattle.ob_load.proofs.Called.{callable_next, callable_with, run_with}
 use Rattle.ob_load.proofs.Said.{Callable, runnable_at}
 use Rattle.ob_load.proofs.commands.all_calls.Goals as goal

@@ -4,7 +4,7 @@ use Rattle.ob_code.specs.declared.instr.LinkedModule.{LinkedModule}
 use Rattle.ob_code.specs.Linked.{all_cells, runs_of, IsLinked}
 use Rattle.ob_code.specs.Machine.{Code, start}
 use Rattle.ob_vm.specs.Images as vm
-use Rattle.ob_store.specs.Stores.{store_of, session_of}
+use Rattle.ob_image.specs.Stores.{store_of, session_of}
 use Rattle.ob_load.specs.declared.task.Task.TheVariants.{Commands}
 use Rattle.ob_load.specs.Kept.{IsHeld, IsRunning}
 use Rattle.ob_load.specs.MachineState.{begun_in, stands_at}

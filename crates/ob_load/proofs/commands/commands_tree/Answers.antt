@@ -1,5 +1,5 @@
 use Rattle.std.proofs.Common.{◌∷◌, [], ◌++◌, sym, ap, ◌∙◌, take, arith}
-use Rattle.ob_linked.specs.CommandsCode.{calls_body}
+use Rattle.ob_image.specs.CommandsCode.{calls_body}
 use Rattle.ob_load.proofs.Called.{calls_next}
 use Rattle.ob_load.proofs.commands.commands_tree.Goals as goal
 

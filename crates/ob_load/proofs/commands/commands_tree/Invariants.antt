@@ -1,5 +1,5 @@
 use Rattle.std.proofs.Common.{◌≡◌, take}
-use Rattle.ob_linked.specs.CommandsCode.{calls_body}
+use Rattle.ob_image.specs.CommandsCode.{calls_body}
 use Rattle.ob_load.proofs.commands.commands_tree.Given as goal
 
 abbrev pub invariant-loop-call : goal.invariant-loop-call

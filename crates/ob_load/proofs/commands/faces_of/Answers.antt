@@ -1,6 +1,6 @@
 use Rattle.std.proofs.Common.{List, sym, subst, take, arith, ◌+◌}
 use Rattle.ob_mean.specs.declared.face.Face.{Face}
-use Rattle.ob_linked.specs.Compiled.{AreKnown}
+use Rattle.ob_image.specs.Compiled.{AreKnown}
 use Rattle.ob_load.proofs.Called.{known_next}
 use Rattle.ob_load.proofs.commands.faces_of.Goals as goal
 

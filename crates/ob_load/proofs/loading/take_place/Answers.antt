@@ -3,7 +3,7 @@ use Rattle.std.proofs.lemmas.List.{length-map}
 use Rattle.ob_types.specs.InterfaceTree.{InterfaceTree}
 use Rattle.ob_code.specs.Linked.{runs_of}
 use Rattle.ob_session.specs.Session.{name_of, place_of}
-use Rattle.ob_linked.proofs.Imports.{flags_run}
+use Rattle.ob_image.proofs.Imports.{flags_run}
 use Rattle.ob_load.proofs.Loaded.{within_known}
 use Rattle.ob_load.proofs.loading.take_place.Goals as goal
 

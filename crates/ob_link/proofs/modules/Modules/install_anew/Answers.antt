@@ -1,7 +1,7 @@
 use Rattle.std.proofs.Common.{rules, ◌≡◌, List, [], length, sym, ap, ap₂, ◌∙◌}
 use Rattle.ob_types.specs.InterfaceTree.{InterfaceTree}
-use Rattle.ob_scope.specs.Imports.{Modules, added}
-use Rattle.ob_scope.specs.LoadedTree.{LoadedTree}
+use Rattle.ob_check_scope.specs.Imports.{Modules, added}
+use Rattle.ob_check_scope.specs.LoadedTree.{LoadedTree}
 use Rattle.ob_session.specs.Session.{Module}
 use Rattle.ob_link.specs.Exchange.{put_back}
 use Rattle.ob_link.specs.Faults.{fault_row}

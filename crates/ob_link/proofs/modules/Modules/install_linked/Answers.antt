@@ -1,7 +1,7 @@
 use Rattle.std.proofs.Common.{rules, ◌≡◌, ℕ, List, [], ◌∷◌, ◌++◌, Option, None, length, sym, ◌∙◌, ap, subst}
 use Rattle.ob_types.specs.InterfaceTree.{InterfaceTree}
-use Rattle.ob_scope.specs.Imports.{Modules, added, module_place}
-use Rattle.ob_scope.specs.LoadedTree.{LoadedTree}
+use Rattle.ob_check_scope.specs.Imports.{Modules, added, module_place}
+use Rattle.ob_check_scope.specs.LoadedTree.{LoadedTree}
 use Rattle.ob_session.specs.Session.{Module, find_module}
 use Rattle.ob_link.specs.Exchange.{LinksBehind, without_last}
 use Rattle.ob_link.specs.Faults.{fault_row}

@@ -2,8 +2,8 @@ use Rattle.std.proofs.Common.{◌≡◌, ◌-◌, min, ap, sym, subst, ◌∙◌
 use Rattle.ob_code.specs.Linked.{all_cells, runs_of, IsLinked}
 use Rattle.ob_code.specs.Machine.{Code}
 use Rattle.ob_session.specs.Session.{Session}
-use Rattle.ob_store.specs.Stores.{store_of}
-use Rattle.ob_linked.specs.Compiled.{AreCompiled}
+use Rattle.ob_image.specs.Stores.{store_of}
+use Rattle.ob_image.specs.Compiled.{AreCompiled}
 use Rattle.ob_vm.specs.Images as vm
 use Rattle.ob_vm.specs.Slices.{SliceDone}
 use Rattle.ob_load.specs.Kept.{IsKept, IsHeld}

@@ -4,7 +4,7 @@ use Rattle.ob_inout.specs.Reading.{Line}
 use Rattle.ob_vm.specs.Images as vm
 use Rattle.ob_vm.specs.Slices.{StandsIn, SliceDone}
 use Rattle.jk_language.specs.Runs.{line_given}
-use Rattle.ob_store.specs.Stores.{store_of}
+use Rattle.ob_image.specs.Stores.{store_of}
 use Rattle.ob_load.specs.Kept.{IsRunning}
 use Rattle.ob_load.specs.MachineState.{MachineState, stands_at, state_of}
 use Rattle.ob_load.proofs.Finished.{stands_in_none}

@@ -1,7 +1,7 @@
 use Rattle.std.proofs.Common.{◌≡◌, subst, ◌∙◌}
 use Rattle.std.specs.Prelude.{string_bytes}
 use Rattle.jk_language.specs.Runs.{unshown}
-use Rattle.ob_store.specs.Stores.{store_of}
+use Rattle.ob_image.specs.Stores.{store_of}
 use Rattle.ob_load.specs.MachineState.{MachineState, state_of}
 use Rattle.ob_load.proofs.Machines.{unshown_is, taken_now}
 use Rattle.ob_load.proofs.machine.Machine.take_output.Goals as goal

@@ -8,7 +8,7 @@ use Rattle.jk_language.specs.Runs.{HasTurned}
 use Rattle.jk_language.specs.declared.outcome.Turned.TheVariants as turned
 use Rattle.ob_session.specs.Session.{Module}
 use Rattle.ob_session.specs.Cells.{name_in}
-use Rattle.ob_store.specs.Stores.{store_of}
+use Rattle.ob_image.specs.Stores.{store_of}
 use Rattle.ob_load.specs.MachineState.{MachineState, stands_at, state_of}
 use Rattle.ob_load.proofs.Machines.{ended, trapped, stopped, asked, refused, kept, held}
 use Rattle.ob_load.proofs.machine.Machine.turns.Goals as goal

@@ -1,7 +1,7 @@
 use Rattle.std.proofs.Common.{◌≡◌, ℤ, List, sym, ap, ◌∙◌, subst}
 use Rattle.ob_vm.specs.Images as vm
 use Rattle.ob_session.specs.Session.{Session}
-use Rattle.ob_store.specs.Stores.{store_of, session_of}
+use Rattle.ob_image.specs.Stores.{store_of, session_of}
 use Rattle.ob_session.specs.Cells.{Runs, all_ready}
 use Rattle.ob_load.specs.Commanded.{AllRunnable}
 use Rattle.ob_load.specs.declared.task.Task.TheVariants.{Commands}

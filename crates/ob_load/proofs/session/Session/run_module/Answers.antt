@@ -3,8 +3,8 @@ use Rattle.ob_types.specs.InterfaceTree.{InterfaceTree}
 use Rattle.ob_mean.specs.Values.{Value}
 use Rattle.ob_vm.specs.Images as vm
 use Rattle.ob_session.specs.Session.{Session, Module, installed, name_of, place_of, with_module}
-use Rattle.ob_store.specs.Stores.{loaded_cells, session_of}
-use Rattle.ob_linked.specs.Compiled.{Known}
+use Rattle.ob_image.specs.Stores.{loaded_cells, session_of}
+use Rattle.ob_image.specs.Compiled.{Known}
 use Rattle.ob_load.specs.declared.task.Task.TheVariants.{Body}
 use Rattle.ob_load.specs.Kept.{AreCheckable, IsKept}
 use Rattle.ob_load.specs.Known.{AreSaid}
