@@ -2,7 +2,7 @@
 
 use js_http::{
     Bytes, ErrorStatus, HttpRefusal, MAX_BODY_LEN, MAX_HEAD_LEN, Method, Response, Served, Stream,
-    Text, path_segments, query_value, read_request, serve_one, write_page, write_response,
+    Text, path_segments, query_value, read_request, serve_one, write_response,
 };
 use std::alloc::Global;
 use std::io;
@@ -316,10 +316,12 @@ fn a_page_and_its_beginning(rt: HostRuntime) -> Result<(), Fail> {
     let text =
         "HTTP/1.1 200 OK\r\nContent-Type: text/html\r\nContent-Length: 14\r\nConnection: close\r\n\r\n<p>\u{e9}, \u{2026}</p>";
     let mut writer = writer_of(rt.alloc(), 1000, 0);
-    write_page(&mut writer, "<p>\u{e9}, \u{2026}</p>")?;
+    let page = String::from_str(rt.alloc(), "<p>\u{e9}, \u{2026}</p>")?;
+    write_response(&mut writer, &Response::Page(Text::from(page)))?;
     assert_eq!(rt; writer.written.as_slice(), text.as_bytes());
     let mut writer = writer_of(rt.alloc(), 7, 4);
-    assert!(rt; write_page(&mut writer, "<p>").is_err());
+    let page = Text::from(String::from_str(rt.alloc(), "<p>")?);
+    assert!(rt; write_response(&mut writer, &Response::Page(page)).is_err());
     assert_eq!(rt; writer.written.as_slice(), b"HTTP/1.1 200 OK".as_slice());
     Ok(())
 }
@@ -341,6 +343,43 @@ fn a_refused_request_is_not_asked_about(rt: HostRuntime) -> Result<(), Fail> {
     let text =
         "HTTP/1.1 411 Length Required\r\nContent-Type: application/json\r\nContent-Length: 43\r\nConnection: close\r\n\r\n{\"message\":\"Length Required\",\"reason\":null}";
     assert_eq!(rt; writer.written.as_slice(), text.as_bytes());
+    Ok(())
+}
+
+/// What is written to a client whose bytes come in pieces of that length, and whose request is answered by 204.
+fn written_to(alloc: Global, bytes: &[u8], step: usize) -> io::Result<Vec<u8>> {
+    let mut stream = Stream {
+        reader: reader_of(bytes, step),
+        writer: writer_of(alloc, 1000, 0),
+    };
+    let _ = serve_one(alloc, &mut stream, |_request| Response::NoContent)?;
+    let Stream { reader: _, writer } = stream;
+    Ok(writer.written)
+}
+
+#[test]
+fn a_client_that_waits_is_told_that_its_body_may_come(rt: HostRuntime) -> Result<(), Fail> {
+    let answer = "HTTP/1.1 204 No Content\r\nConnection: close\r\n\r\n";
+    let waits = "PUT / HTTP/1.1\r\nExpect: 100-Continue\r\nContent-Length: 4\r\n\r\nbody";
+    let older = "PUT / HTTP/1.0\r\nExpect: 100-continue\r\nContent-Length: 4\r\n\r\nbody";
+    let refused = "PUT / HTTP/1.1\r\nExpect: 100-continue\r\n\r\nbody";
+    let mut told = String::from_str(rt.alloc(), "HTTP/1.1 100 Continue\r\n\r\n")?;
+    told.push_str(answer)?;
+    let first = waits.len() - 4;
+    assert_eq!(rt;
+        written_to(rt.alloc(), waits.as_bytes(), first)?.as_slice(),
+        told.as_bytes()
+    );
+    assert_eq!(rt;
+        written_to(rt.alloc(), waits.as_bytes(), 1000)?.as_slice(),
+        answer.as_bytes()
+    );
+    assert_eq!(rt;
+        written_to(rt.alloc(), older.as_bytes(), first)?.as_slice(),
+        answer.as_bytes()
+    );
+    let text = written_to(rt.alloc(), refused.as_bytes(), 20)?;
+    assert!(rt; text.starts_with(b"HTTP/1.1 411"));
     Ok(())
 }
 

@@ -9,7 +9,6 @@ use Rattle.js_http.specs.declared.refusal.HttpRefusal.{HttpRefusal}
 use Rattle.js_http.specs.declared.refusal.HttpRefusal.TheVariants.{BadRequest, HeaderFieldsTooLarge, NotImplemented, LengthRequired, ContentTooLarge, Memory, Ended}
 use Rattle.js_http.specs.Heads.{IsTooLong}
 use Rattle.js_http.specs.Reading.{ReadsSome, HasBody, LacksBody}
-use Rattle.js_http.specs.Requests.{Refuses, IsPartOfHead}
 use Rattle.std.proofs.lemmas.List.{take_all, drop_all}
 use Rattle.std.proofs.Math.ListN.{length-map}
 

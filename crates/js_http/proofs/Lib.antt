@@ -4,5 +4,6 @@ pub mod HeadLemmas
 pub mod NumberLemmas
 pub mod ReadLemmas
 pub mod RequestLemmas
+pub mod ServingLemmas
 pub mod TargetLemmas
 pub mod WritingLemmas

@@ -1,3 +1,5 @@
+pub mod Begun
+pub mod Expecting
 pub mod Framing
 pub mod Headers
 pub mod Heads

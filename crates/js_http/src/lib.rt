@@ -2,6 +2,7 @@
 //! they are cut, and one response to bytes.
 #![tactic(auto)]
 
+mod expecting;
 mod framing;
 mod head;
 mod header;
@@ -30,4 +31,4 @@ pub use response::{ErrorStatus, Response};
 pub use serve::{Served, Stream, serve_one};
 pub use target::{Segments, path_segments, query_value};
 pub use values::{Bytes, Text};
-pub use write::{write_page, write_response};
+pub use write::write_response;

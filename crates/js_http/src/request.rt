@@ -1,12 +1,14 @@
 //! One request from a stream.
-ghost use Rattle.std.specs.Prelude.{◌≡◌, ◌≢◌, ◌≤◌, ◌++◌, ℕ, List, length, IfSome, ◌⊎◌, ◌==◌};
+ghost use Rattle.std.specs.Prelude.{◌≡◌, ◌≢◌, ◌≤◌, ◌++◌, ℕ, List, length, IfSome, MatchResult, ◌⊎◌, ◌==◌};
 ghost use Rattle.std.specs.List.{before_first, after_first};
 ghost use Rattle.std.specs.Io.KnownBytes.{Consumes};
+ghost use Rattle.js_http.specs.Begun.{BeginsAt};
 ghost use Rattle.js_http.specs.Requests.{Answers, Refuses, BeginsRefused, IsRequest};
 ghost use Rattle.js_http.specs.declared.refusal.HttpRefusal.{HttpRefusal};
 ghost use Rattle.js_http.specs.declared.request.Request.{Request};
 
 use crate::framing::body_len;
+use crate::head::Head;
 use crate::read::{READ_LEN, read_body, read_head};
 use crate::{Bytes, Headers, HttpRefusal, Method, Text};
 use std::alloc::Global;
@@ -43,17 +45,55 @@ impl Request {
     }
 }
 
-// The request at the front of a stream, or why there is none.
-fn take_request<R: Read>(alloc: Global, reader: &mut R) -> Result<Request, HttpRefusal>
+/// A request whose head has come, and all that came with it.
+#[derive(Drop)]
+pub(crate) struct Begun {
+    pub(crate) head: Head,
+    pub(crate) received: Vec<u8>,
+    /// How long its body is.
+    pub(crate) len: u32,
+    room: Vec<u8>,
+    reads: u32,
+}
+
+/// Reads until the head of a request is whole, or is refused.
+pub(crate) fn begin_request<R: Read>(alloc: Global, reader: &mut R) -> Result<Begun, HttpRefusal>
     ensures { (taken : List ℕ)
         × Consumes (R.remaining reader.old) (R.remaining reader.new) taken
-        × (length taken ≤ 16793600) × Answers taken result }
+        × (length taken ≤ 16384) × MatchResult result (BeginsAt taken) (Refuses taken) }
 {
     let mut reads = 0;
     let mut room = Vec::new(alloc);
     room.resize(READ_LEN, 0)?;
     let (head, received) = read_head(alloc, reader, &mut room, &mut reads)?;
     let len = body_len(head.method.needs_length(), &head.headers)?;
+    Ok(Begun {
+        head,
+        received,
+        len,
+        room,
+        reads,
+    })
+}
+
+/// Reads what is left of a request that has begun.
+pub(crate) fn finish_request<R: Read>(
+    alloc: Global,
+    reader: &mut R,
+    begun: Begun,
+) -> Result<Request, HttpRefusal>
+    requires { BeginsAt begun.received.items begun }
+    ensures { (more : List ℕ)
+        × Consumes (R.remaining reader.old) (R.remaining reader.new) more
+        × (length more ≤ 16777216) × Answers (begun.received.items ++ more) result }
+{
+    let Begun {
+        head,
+        received,
+        len,
+        mut room,
+        mut reads,
+    } = begun;
     let body = read_body(
         alloc,
         reader,
@@ -68,6 +108,16 @@ fn take_request<R: Read>(alloc: Global, reader: &mut R) -> Result<Request, HttpR
         headers: head.headers,
         body: Bytes::from(body),
     })
+}
+
+// The request at the front of a stream, or why there is none.
+fn take_request<R: Read>(alloc: Global, reader: &mut R) -> Result<Request, HttpRefusal>
+    ensures { (taken : List ℕ)
+        × Consumes (R.remaining reader.old) (R.remaining reader.new) taken
+        × (length taken ≤ 16793600) × Answers taken result }
+{
+    let begun = begin_request(alloc, reader)?;
+    finish_request(alloc, reader, begun)
 }
 
 /// Reads one request from the front of a stream, and reads no more once it is whole or refused.

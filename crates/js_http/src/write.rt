@@ -9,8 +9,8 @@ use itoa::Buffer;
 use std::io;
 use std::io::{ErrorKind, Write};
 
-// Writes all the bytes, or stops at the first fault.
-fn write_bytes<W: Write>(writer: &mut W, bytes: &[u8]) -> io::Result<()>
+/// Writes all the bytes, or stops at the first fault.
+pub(crate) fn write_bytes<W: Write>(writer: &mut W, bytes: &[u8]) -> io::Result<()>
     ensures { WritesFront (W.contents writer.old) (W.contents writer.new) bytes.now result }
 {
     let mut rest = bytes;
@@ -136,8 +136,8 @@ fn write_protocol_switch<W: Write>(writer: &mut W, accept: &str, protocol: &str)
     )
 }
 
-/// Writes the response whose content is a page for a browser, as `write_response` writes one.
-pub fn write_page<W: Write>(writer: &mut W, page: &str) -> io::Result<()>
+// Writes the response whose content is a page for a browser.
+fn write_page<W: Write>(writer: &mut W, page: &str) -> io::Result<()>
     ensures { WritesFront (W.contents writer.old) (W.contents writer.new) (page_text page.now) result }
 {
     let mut buffer = Buffer::new();
@@ -177,5 +177,6 @@ pub fn write_response<W: Write>(writer: &mut W, response: &Response) -> io::Resu
         Response::Refused(status) => {
             write_content(writer, status.line(), status.content().as_bytes())
         }
+        Response::Page(page) => write_page(writer, page.as_str()),
     }
 }
