@@ -7,9 +7,7 @@ use crate::limits::Limits;
 use crate::telling::tell;
 use crossbeam_channel::{Sender, bounded};
 use jk_language::Language;
-use js_http::{
-    ErrorStatus, HttpRefusal, Request, Response, read_request, write_page, write_response,
-};
+use js_http::{ErrorStatus, Request, Response, Served, Stream, Text, serve_one, write_response};
 use js_paced::{Limited, end_of_answer};
 use js_rest::{Outcome, finish};
 use js_shelf::Opening;
@@ -71,7 +69,7 @@ fn make_crowd<R: Wait + Clock>(rt: &R, alloc: Global, most: u64) -> Crowd {
 /// Answers that the server is busy, and ends what is written.
 fn turn_away<R: Clock + Copy + Drop>(rt: &R, stream: &TcpStream) {
     if let Ok(mut limited) = Limited::new(*rt, stream, TURN, TURN) {
-        respond(
+        let _ = write_response(
             &mut limited,
             &Response::Refused(ErrorStatus::ServiceUnavailable),
         );
@@ -79,14 +77,39 @@ fn turn_away<R: Clock + Copy + Drop>(rt: &R, stream: &TcpStream) {
     }
 }
 
-/// Writes a response. Where that fails, nobody is there any more.
-fn respond<R: Clock + Drop>(stream: &mut Limited<'_, R>, response: &Response) {
-    let _ = write_response(stream, response);
+/// What is done once the response of a request was written.
+#[derive(Drop)]
+enum Next<L: Language> {
+    /// Nothing: the connection ends.
+    End,
+    /// The desk is told that its last response was written.
+    Stop,
+    /// A channel is served.
+    Channel(Upgrade<L>),
 }
 
-/// Writes the page for a browser. Where that fails, nobody is there any more.
-fn respond_page<R: Clock + Drop>(stream: &mut Limited<'_, R>, page: &str) {
-    let _ = write_page(stream, page);
+/// Who answers the request of a connection.
+trait Answers {
+    /// The response to a request.
+    fn answer(&mut self, request: Request) -> Response;
+}
+
+/// Asks the desk, and keeps what is done once the response was written.
+#[derive(Drop)]
+struct Asking<'a, L: Language, R> {
+    rt: &'a R,
+    alloc: Global,
+    calls: &'a Sender<Call<L>>,
+    page: &'a str,
+    next: Next<L>,
+}
+
+impl<L: Language, R: Wait> Answers for Asking<'_, L, R> {
+    fn answer(&mut self, request: Request) -> Response {
+        let (response, next) = answer_to(self.rt, self.alloc, self.calls, request, self.page);
+        self.next = next;
+        response
+    }
 }
 
 /// Serves one connection: reads its request, asks the desk, and writes the response or the page, or serves the channel. A channel
@@ -101,64 +124,111 @@ pub(crate) fn serve_connection<L: Language, R: Wait + Clock + Copy + Drop>(
 ) {
     let Guest { stream, ticket } = guest;
     let _ = stream.set_nodelay(true);
-    let Ok(mut limited) = Limited::new(*rt, &stream, limits.request, limits.write) else {
-        return;
+    let mut asking = Asking {
+        rt,
+        alloc,
+        calls,
+        page,
+        next: Next::End,
     };
-    match read_request(alloc, &mut limited) {
-        Ok(request) => match ask(rt, alloc, calls, request) {
-            Some(Reply::Response(response)) => respond(&mut limited, &response),
-            Some(Reply::Shown(about, opening)) => {
-                let response = shown(alloc, about, opening);
-                respond(&mut limited, &response);
-            }
-            Some(Reply::Last(response)) => {
-                respond(&mut limited, &response);
-                let _ = tell(rt, calls, Call::Written);
-            }
-            Some(Reply::Channel(response, upgrade)) => {
-                drop(ticket);
-                respond(&mut limited, &response);
-                let Upgrade {
-                    place,
-                    names,
-                    selector,
-                } = upgrade;
-                let line = Line {
-                    stream: &stream,
-                    patience: limits.write,
-                    selector,
-                };
-                serve_channel(rt, alloc, line, calls, place, names);
-                end_of_answer(*rt, &stream, REST);
-            }
-            Some(Reply::Page) => respond_page(&mut limited, page),
-            None => respond(
-                &mut limited,
-                &Response::Refused(ErrorStatus::InternalServerError),
-            ),
+    let served = serve_request(rt, alloc, limits, &stream, &mut asking);
+    match asking.next {
+        Next::End => if is_refused(served) {
+            end_of_answer(*rt, &stream, REST);
         },
-        Err(refusal) => refuse(rt, &stream, &mut limited, refusal),
+        Next::Stop => {
+            let _ = tell(rt, calls, Call::Written);
+        }
+        Next::Channel(upgrade) => {
+            drop(ticket);
+            serve_upgraded(rt, alloc, limits, &stream, calls, upgrade);
+        }
     }
 }
 
-/// Answers that no request was read. What still comes of it is read and dropped, so that the answer arrives.
-fn refuse<R: Clock + Copy + Drop>(
+/// Reads the request of a connection, and writes the response that is answered to it, or that of its refusal. There is nothing
+/// where the other side is gone.
+fn serve_request<R: Clock + Copy + Drop, A: Answers>(
     rt: &R,
+    alloc: Global,
+    limits: Limits,
     stream: &TcpStream,
-    limited: &mut Limited<'_, R>,
-    refusal: HttpRefusal,
-) {
-    if let Some(status) = refusal.status() {
-        respond(limited, &Response::Refused(status));
-        end_of_answer(*rt, stream, REST);
+    asking: &mut A,
+) -> Option<Served> {
+    let reader = Limited::new(*rt, stream, limits.request, limits.write).ok()?;
+    let writer = Limited::new(*rt, stream, limits.request, limits.write).ok()?;
+    let mut halves = Stream { reader, writer };
+    serve_one(alloc, &mut halves, |request| asking.answer(request)).ok()
+}
+
+/// Whether a refusal was answered before the request was read. What still comes of such a request is read and dropped, so that the
+/// answer arrives.
+fn is_refused(served: Option<Served>) -> bool {
+    match served {
+        Some(Served::Unanswered(refusal)) => refusal.status().is_some(),
+        _ => false,
     }
+}
+
+/// Serves the channel that a connection became, until it ends.
+fn serve_upgraded<L: Language, R: Wait + Clock + Copy + Drop>(
+    rt: &R,
+    alloc: Global,
+    limits: Limits,
+    stream: &TcpStream,
+    calls: &Sender<Call<L>>,
+    upgrade: Upgrade<L>,
+) {
+    let Upgrade {
+        place,
+        names,
+        selector,
+    } = upgrade;
+    let line = Line {
+        stream,
+        patience: limits.write,
+        selector,
+    };
+    serve_channel(rt, alloc, line, calls, place, names);
+    end_of_answer(*rt, stream, REST);
+}
+
+/// The response to a request, and what is done once it was written.
+fn answer_to<L: Language, R: Wait>(
+    rt: &R,
+    alloc: Global,
+    calls: &Sender<Call<L>>,
+    request: Request,
+    page: &str,
+) -> (Response, Next<L>) {
+    match ask(rt, alloc, calls, request) {
+        Some(Reply::Response(response)) => (response, Next::End),
+        Some(Reply::Shown(about, opening)) => (shown(alloc, about, opening), Next::End),
+        Some(Reply::Last(response)) => (response, Next::Stop),
+        Some(Reply::Channel(response, upgrade)) => (response, Next::Channel(upgrade)),
+        Some(Reply::Page) => (page_response(alloc, page), Next::End),
+        None => (failed(), Next::End),
+    }
+}
+
+/// The response that has the page.
+fn page_response(alloc: Global, page: &str) -> Response {
+    match String::from_str(alloc, page) {
+        Ok(page) => Response::Page(Text::from(page)),
+        Err(_) => failed(),
+    }
+}
+
+/// The response where memory was refused.
+fn failed() -> Response {
+    Response::Refused(ErrorStatus::InternalServerError)
 }
 
 /// The response that shows a file, which is read here: other requests are answered meanwhile.
 fn shown(alloc: Global, about: About, opening: Opening) -> Response {
     match finish(alloc, Outcome::Shown(about, opening)) {
         Answer::Reply(response) => response,
-        _ => Response::Refused(ErrorStatus::InternalServerError),
+        _ => failed(),
     }
 }
 
