@@ -14,6 +14,8 @@ mod modules;
 #[cfg(test)]
 mod programs;
 #[cfg(test)]
+mod records;
+#[cfg(test)]
 mod replays;
 #[cfg(test)]
 mod requests;
