@@ -100,9 +100,9 @@ fn statements_that_break_a_rule(rt: HostRuntime) -> Result<(), Fail> {
         ("CASE x OF 1 .. 3: | 5, 2 .. 2: END", Code::Label),
         ("CASE x OF 2 .. 1: END", Code::Label),
         ("PACK(x, y)", Code::LeftOut),
-        ("r(R).a := 1", Code::LeftOut),
-        ("x := r(R).a", Code::LeftOut),
-        ("t := r IS R", Code::LeftOut),
+        ("r(R).a := 1", Code::Types),
+        ("x := r(R).a", Code::Types),
+        ("t := r IS R", Code::Types),
         ("t := n IS R", Code::UnknownName),
         ("Z(R) := 1", Code::ReadOnly),
     ] {
@@ -118,7 +118,7 @@ fn declarations_and_procedures(rt: HostRuntime) -> Result<(), Fail> {
         ("CONST c = 1 DIV 0;", Some(Code::NotConstant)),
         ("VAR a: ARRAY 0 OF INTEGER;", Some(Code::Size)),
         ("VAR r: REAL;", Some(Code::LeftOut)),
-        ("CONST c = 1 IS INTEGER;", Some(Code::LeftOut)),
+        ("CONST c = 1 IS INTEGER;", Some(Code::NotConstant)),
         ("IMPORT N;", Some(Code::NotLoaded)),
         ("IMPORT A;", Some(Code::ImportsItself)),
         ("PROCEDURE P(i: INTEGER); BEGIN P(i) END P;", None),
@@ -220,6 +220,22 @@ fn places_of_faults(rt: HostRuntime) -> Result<(), Fail> {
             "MODULE A; TYPE T = RECORD END; PROCEDURE P; END P; BEGIN P(T) := 1 END A.",
             (Code::ReadOnly, 1, 58),
         ),
+        (
+            "MODULE A; TYPE T = RECORD a: INTEGER END; U = RECORD (T) b: INTEGER END; W = RECORD (U) c: INTEGER END; VAR t: T; u: U; w: W; PROCEDURE P(r: T); BEGIN ASSERT(r IS U) END P; END A.",
+            (Code::Types, 1, 159),
+        ),
+        (
+            "MODULE A; TYPE T = RECORD a: INTEGER END; U = RECORD (T) b: INTEGER END; W = RECORD (U) c: INTEGER END; VAR t: T; u: U; w: W; PROCEDURE P(VAR r: T); BEGIN r(U) END P; END A.",
+            (Code::Types, 1, 156),
+        ),
+        (
+            "MODULE A; TYPE T = RECORD a: INTEGER END; U = RECORD (T) b: INTEGER END; W = RECORD (U) c: INTEGER END; VAR t: T; u: U; w: W; PROCEDURE P(VAR r: U); BEGIN r(T).a := 1 END P; END A.",
+            (Code::Types, 1, 158),
+        ),
+        (
+            "MODULE A; PROCEDURE P; CONST c = 1 IS INTEGER; END P; END A.",
+            (Code::NotConstant, 1, 34),
+        ),
     ] {
         assert_eq!(rt; place_of(rt.alloc(), text)?, Some(place), "{text}");
     }
@@ -248,6 +264,45 @@ fn records_that_extend_others(rt: HostRuntime) -> Result<(), Fail> {
         ("S(x)", Some(Code::Parameters)),
     ] {
         assert_eq!(rt; extension_code(rt.alloc(), body)?, code, "{body}");
+    }
+    Ok(())
+}
+
+/// The code of the body of a procedure after these types: of a VAR parameter, a value and an array.
+fn guarded_code(alloc: Global, body: &str) -> Result<Option<Code>, Refused> {
+    let inside = format!(in alloc;
+        "{EXTENSIONS} PROCEDURE G(VAR r: T; v: T; VAR y: ARRAY OF T); BEGIN {body} END G;"
+    )?;
+    module_code(alloc, inside.as_str())
+}
+
+#[test]
+fn tests_and_guards(rt: HostRuntime) -> Result<(), Fail> {
+    for (body, code) in [
+        ("r(U).b := 1; r(U)(W).c := r(U).b; r(T).a := 1", None),
+        (
+            "ASSERT(r IS U); ASSERT((r IS T) & ~(r IS W)); ASSERT(r(U) IS W)",
+            None,
+        ),
+        (
+            "Q(r(U)); Q(r(W)); P(r(U)); t := r(U); u := r(W); r(U) := w",
+            None,
+        ),
+        ("r(U)", Some(Code::Types)),
+        ("r(U)(T).a := 1", Some(Code::Types)),
+        ("ASSERT(r(U) IS T)", Some(Code::Types)),
+        ("r(INTEGER).a := 1", Some(Code::Types)),
+        ("r(t).a := 1", Some(Code::Types)),
+        ("ASSERT(r IS X)", Some(Code::UnknownName)),
+        ("ASSERT(v IS U)", Some(Code::Types)),
+        ("t := v(U)", Some(Code::Types)),
+        ("ASSERT(u IS W)", Some(Code::Types)),
+        ("ASSERT((r) IS U)", Some(Code::Types)),
+        ("ASSERT(y[0] IS U)", Some(Code::Types)),
+        ("y[0](U).b := 1", Some(Code::Types)),
+        ("Q(r)", Some(Code::Parameters)),
+    ] {
+        assert_eq!(rt; guarded_code(rt.alloc(), body)?, code, "{body}");
     }
     Ok(())
 }

@@ -262,7 +262,7 @@ fn target_code(alloc: Global, statement: &str) -> Result<(Option<Code>, bool), R
     let (d, _) = assigned(&module)?;
     let imports = Imports::empty(alloc);
     match target(site_of(alloc, &imports, &scope), Variables::new(alloc), d) {
-        Ok((of, _, _)) => Ok((None, is_char(&of))),
+        Ok((of, _, _, _)) => Ok((None, is_char(&of))),
         Err(rejected) => Ok((fault_in(told(rejected)), false)),
     }
 }

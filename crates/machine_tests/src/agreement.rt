@@ -142,6 +142,11 @@ fn data(rt: HostRuntime) -> Result<(), Fail> {
 }
 
 #[test]
+fn extensions(rt: HostRuntime) -> Result<(), Fail> {
+    assert_agreed(&rt, &programs::EXTENSIONS)
+}
+
+#[test]
 fn calls(rt: HostRuntime) -> Result<(), Fail> {
     assert_agreed(&rt, &programs::CALLS)
 }

@@ -3,8 +3,8 @@
 use crate::compiled::code_comes_to;
 use crate::reference::Seen;
 use ob_base::{Items, Shared, SharedItems, Text};
-use ob_code::instr::{CodeModule, Entry, Extent, Instr, Line, NameKind, Procedure, Root, TypeName};
-use ob_mean::{Callee, Outcome, TrapKind};
+use ob_code::instr::{CodeModule, Entry, Extent, Instr, Line, NameKind, Procedure, Root};
+use ob_mean::{Callee, Outcome, TrapKind, TypeName};
 use ob_reference_store::stop::NoAnswer;
 use ob_verify::validate::validate;
 use std::alloc::{AllocError, Global};

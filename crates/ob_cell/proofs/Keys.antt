@@ -1,6 +1,7 @@
 -- The key of a module whose names are words says its face.
 use Rattle.std.proofs.Common.{◌≡◌, ℕ, zero, suc, ◌+◌, ◌*◌, ◌/◌, ◌%◌, ◌<◌, ◌≤◌, ◌^◌, ℤ, pos, negsuc, Bool, true, false, cond, List, [], ◌∷◌, ◌++◌, Option, Some, None, is_some, refl, sym, ap, ◌∙◌, subst, arith, append_assoc}
-use Rattle.std.specs.Prelude.{codes, encode_utf8, nat_lt, ◌==◌, ◌&&◌}
+use Rattle.std.specs.Prelude.{codes, encode_utf8, nat_le, nat_lt, ◌==◌, ◌&&◌}
+use Rattle.std.specs.List.{list_all}
 use Rattle.std.specs.Char.{digit_value, is_ascii_alphanumeric}
 use Rattle.std.specs.Fmt.{decimal, signed_decimal, digits, digits_onto, digit_glyph}
 use Rattle.std.specs.Str.Parse.{AllDigits, digits_value_after}
@@ -26,14 +27,17 @@ use Rattle.ob_types.specs.declared.structure.RecordName.{RecordName}
 use Rattle.ob_types.specs.declared.structure.RecordType.{RecordType'}
 use Rattle.ob_types.specs.InterfaceText.{name_text, basic_text, enclosing_text, record_name_text, mark_text, label_text, type_text, fields_text, hex_digit, hex_text, constant_text, kind_text, formals_text, result_text, signature_text, object_text, exports_text, interface_text}
 use Rattle.ob_types.specs.InterfaceTree.{InterfaceTree}
+use Rattle.ob_types.specs.Types.{max_cells}
 use Rattle.ob_mean.specs.declared.face.Face.{Face}
 use Rattle.ob_mean.specs.declared.face.Heading.{Heading}
 use Rattle.ob_mean.specs.declared.module.Parameter.{Parameter}
 use Rattle.ob_mean.specs.declared.shape.Shape.{Shape}
 use Rattle.ob_mean.specs.declared.shape.Shape.TheVariants as shape
-use Rattle.ob_check_module.specs.Shapes.{shape_of, shapes_of, parameter_of, parameters_of}
+use Rattle.ob_check_kinds.specs.Shapes.{shape_of, shapes_of, parameter_of, parameters_of}
+use Rattle.ob_check_kinds.specs.Declarable.{is_word, are_words, is_labelled, is_plain, are_plain}
+use Rattle.ob_check_laws.specs.Agreeing.{SaysTypes}
 use Rattle.ob_check_laws.specs.Fitting.{variable_shape, variable_shapes, procedure_heading, procedure_headings, heading_of, face_of_interface}
-use Rattle.ob_load.specs.Said.{Read, BasicType, OpenType, OtherType, read_shape, read_parameter, Around, OfArray, OfOpen, OfField, OfVariable, OfTypeName, OfFormal, At, Line, Rest, Word, Name, Procedure, Formals, Formal as FormalAt, Result, Type', Length, RecordName as RecordNameAt, Fields, FieldName, Field, Variable, behind, in_field, field_begins, next, added, read, Reader, no_face, face_said}
+use Rattle.ob_load.specs.Said.{Read, BasicType, OpenType, ArrayType, RecordType, read_shape, read_parameter, Around, OfArray, OfOpen, OfField, OfVariable, OfTypeName, OfFormal, At, Line, Rest, Word, Name, Procedure, Formals, Formal as FormalAt, Result, Type', Length, RecordName as RecordNameAt, Fields, FieldName, Field, Variable, behind, in_field, field_begins, next, added, read, Reader, no_face, face_said, shape_at, shape_said}
 use Rattle.ob_load.specs.Words.{IsWord, AreWords, RecordWords, TypeWords, RowWords, FormalWords, ObjectWords, ExportWords, InterfaceWords}
 
 -- ---- texts one after the other
@@ -174,9 +178,9 @@ decimal_without k n lt = onto_without k lt 64 n [] tt
 
 abbrev pub read_of : ObType → Read
 read_of (OfBasic b) = BasicType
-read_of (Array' n p (more_of-ObType element end_of-ObType)) = OtherType (shape.Array n (shape_of element))
+read_of (Array' n p (more_of-ObType element end_of-ObType)) = ArrayType (shape.Array n (shape_of element))
 read_of (Open' p (more_of-ObType element end_of-ObType)) = OpenType (shape_of element)
-read_of (Record (RecordType' name k fields)) = OtherType (shape.Record (shapes_of fields))
+read_of (Record (RecordType' name k fields)) = RecordType (shape.Record (shapes_of fields))
 
 shape_is : (t : ObType) → read_shape (read_of t) ≡ shape_of t
 shape_is (OfBasic b) = refl
@@ -214,7 +218,7 @@ marked false ss around f = refl
 
 name_first : (x : ℕ) (ss : List Shape) (around : List Around) (f : Face) → is_ascii_alphanumeric x ≡ true → at (next x (Fields ss around)) (added x (Fields ss around) f) ≡ at (FieldName ss around) f
 name_first x ss around f word = same_reader (next x (Fields ss around)) (FieldName ss around) (added x (Fields ss around) f) f
-    (ap (λ b. cond b (behind (OtherType (shape.Record ss)) around) (field_begins x ss around)) (apart 41 x refl word)
+    (ap (λ b. cond b (behind (RecordType (shape.Record ss)) around) (field_begins x ss around)) (apart 41 x refl word)
     ∙ ap (λ b. cond b (Type' (OfField ss ∷ around)) (in_field x ss around)) (apart 94 x refl word)
     ∙ ap (λ b. cond b (Type' (OfField ss ∷ around)) (FieldName ss around)) (apart 58 x refl word))
     (either_same (x == 10) f)
@@ -241,15 +245,15 @@ mutual
   type_read : (t : ObType) → TypeWords t → (around : List Around) (f : Face) → read (type_text t) (Type' around, f) ≡ (behind (read_of t) around, f)
   type_read (OfBasic b) h around f = basic_read b around f
   type_read (Array' n p (more_of-ObType element end_of-ObType)) h around f =
-      seq (codes "A" ++ decimal n ++ codes " ") (type_text element) (at (Type' around) f) (at (Type' (OfArray n ∷ around)) f) (at (behind (OtherType (shape.Array n (shape_of element))) around) f)
+      seq (codes "A" ++ decimal n ++ codes " ") (type_text element) (at (Type' around) f) (at (Type' (OfArray n ∷ around)) f) (at (behind (ArrayType (shape.Array n (shape_of element))) around) f)
       (seq (codes "A" ++ decimal n) (codes " ") (at (Type' around) f) (at (Length n around) f) (at (Type' (OfArray n ∷ around)) f)
       (seq (codes "A") (decimal n) (at (Type' around) f) (at (Length 0 around) f) (at (Length n around) f) refl (length_read around n f h.0))
       refl)
-      (type_read element h.1 (OfArray n ∷ around) f ∙ ap (λ s. at (behind (OtherType (shape.Array n s)) around) f) (shape_is element))
+      (type_read element h.1 (OfArray n ∷ around) f ∙ ap (λ s. at (behind (ArrayType (shape.Array n s)) around) f) (shape_is element))
   type_read (Open' p (more_of-ObType element end_of-ObType)) h around f =
       type_read element h (OfOpen ∷ around) f ∙ ap (λ s. at (behind (OpenType s) around) f) (shape_is element)
   type_read (Record (RecordType' name k fields)) h around f =
-      seq (codes "R" ++ record_name_text name ++ codes "(" ++ fields_text fields) (codes ")") (at (Type' around) f) (at (Fields (shapes_of fields) around) f) (at (behind (OtherType (shape.Record (shapes_of fields))) around) f)
+      seq (codes "R" ++ record_name_text name ++ codes "(" ++ fields_text fields) (codes ")") (at (Type' around) f) (at (Fields (shapes_of fields) around) f) (at (behind (RecordType (shape.Record (shapes_of fields))) around) f)
       (seq (codes "R" ++ record_name_text name ++ codes "(") (fields_text fields) (at (Type' around) f) (at (Fields [] around) f) (at (Fields (shapes_of fields) around) f)
       (seq (codes "R" ++ record_name_text name) (codes "(") (at (Type' around) f) (at (RecordNameAt around) f) (at (Fields [] around) f)
       (seq (codes "R") (record_name_text name) (at (Type' around) f) (at (RecordNameAt around) f) (at (RecordNameAt around) f) refl (to_fields around (record_name_text name) (record_without name h.0) f))
@@ -416,3 +420,49 @@ key_says i h =
     refl)
     (exports_read i.exports h.exports no_face))
     ∙ exports_face i.exports no_face
+
+-- ---- what the name of a type says
+
+all_plain : (names : List (List ℕ)) → list_all is_word names ≡ true → AreWords names
+all_plain [] h = tt
+all_plain (n ∷ ns) h = (first_holds (is_word n) (list_all is_word ns) h, all_plain ns (second_holds (is_word n) (list_all is_word ns) h))
+
+record_plain : (r : RecordName) → are_words r ≡ true → RecordWords r
+record_plain r h =
+    let both = first_holds (is_word r.module_name && list_all is_word r.enclosing) (is_word r.declared) h in
+    record {
+      home = first_holds (is_word r.module_name) (list_all is_word r.enclosing) both;
+      enclosing = all_plain r.enclosing (second_holds (is_word r.module_name) (list_all is_word r.enclosing) both);
+      declared = second_holds (is_word r.module_name && list_all is_word r.enclosing) (is_word r.declared) h;
+    }
+
+label_plain : (name : List ℕ) (of : ObType) → is_labelled name of ≡ true → IsWord name
+label_plain [] of h = refl
+label_plain (c ∷ cs) of h = h
+
+short : (n : ℕ) → nat_le n max_cells ≡ true → n < 2 ^ 64
+short n h = grind (arith, nat_tests, h)
+
+mutual
+  type_plain : (t : ObType) → is_plain t ≡ true → TypeWords t
+  type_plain (OfBasic b) h = tt
+  type_plain (Array' n p (more_of-ObType e end_of-ObType)) h = (
+    short n (second_holds (nat_le 1 n) (nat_le n max_cells) (first_holds (nat_le 1 n && nat_le n max_cells) (is_plain e) h)),
+    type_plain e (second_holds (nat_le 1 n && nat_le n max_cells) (is_plain e) h),
+  )
+  type_plain (Open' p (more_of-ObType e end_of-ObType)) h = type_plain e h
+  type_plain (Record (RecordType' name k fields)) h =
+      (record_plain name (first_holds (are_words name) (are_plain fields) h), row_plain fields (second_holds (are_words name) (are_plain fields) h))
+
+  row_plain : {k : _} (fields : Row_of-Field k) → are_plain fields ≡ true → RowWords fields
+  row_plain end_of-Field h = tt
+  row_plain (more_of-Field name exported of rest) h =
+      let both = first_holds (is_labelled name of && is_plain of) (are_plain rest) h in (
+        label_plain name of (first_holds (is_labelled name of) (is_plain of) both),
+        type_plain of (second_holds (is_labelled name of) (is_plain of) both),
+        row_plain rest (second_holds (is_labelled name of && is_plain of) (are_plain rest) h),
+      )
+
+pub names_say : SaysTypes shape_said
+unfolding shape_said
+names_say t h = ap (λ (r : Reader). shape_at r.0) (type_read t (type_plain t h) (OfVariable ∷ []) no_face) ∙ shape_is t

@@ -30,9 +30,12 @@ use Rattle.ob_check_scope.specs.Rule.{gives}
 use Rattle.ob_check_module.specs.CheckedTree.{CheckedTree}
 use Rattle.ob_check_module.specs.declared.checked.Imported.{Imported}
 use Rattle.ob_check_module.specs.Modules.{with_key, imported_by, all_imported, module_at}
-use Rattle.ob_check_module.specs.Shapes.{parameters_of}
+use Rattle.ob_check_kinds.specs.Shapes.{parameters_of}
 use Rattle.ob_check_laws.specs.Fitting as fit
 use Rattle.ob_check_laws.specs.Fitting.{procedure_heading, procedure_headings, heading_of, face_of_interface}
+use Rattle.ob_check_laws.specs.Solid.{EachSolid}
+use Rattle.ob_check_laws.proofs.Modules.{each_tree_agrees}
+use Rattle.ob_gen.specs.TypesAgree.{TypesAgree}
 use Rattle.ob_session.specs.Session.{Import, Module, name_of, find_module, place_of}
 use Rattle.ob_session.specs.Links.{Reached, First, Behind, Through}
 use Rattle.ob_session.specs.Reaches.{reached_by}
@@ -42,10 +45,10 @@ use Rattle.ob_link.proofs.Chains.{each_reaches}
 use Rattle.ob_image.specs.Loading.{IsUnreached}
 use Rattle.ob_image.proofs.Imports.{found_at}
 use Rattle.ob_load.specs.Known.{IsPlainAt, HasCommands}
-use Rattle.ob_load.specs.Said.{face_said}
+use Rattle.ob_load.specs.Said.{face_said, shape_said}
 use Rattle.ob_load.specs.Words.{InterfaceWords, AllWords}
 use Rattle.ob_cell.specs.Texts as meaning
-use Rattle.ob_cell.proofs.Keys.{key_says}
+use Rattle.ob_cell.proofs.Keys.{key_says, names_say}
 use Rattle.ob_cell.proofs.Spelled.{Each, text_words}
 use Rattle.ob_cell.proofs.WordTypes.{LoadedWords, some_same, nothing}
 use Rattle.ob_cell.proofs.WordModules.{checked_block, checked_words}
@@ -280,9 +283,10 @@ pub record LoadsRight (modules : List Module) (seen : Loaded) (c : CheckedTree) 
   pub unreached : IsUnreached modules (name_of (meaning.module_of c)) (map meaning.import_of c.imports)
   pub words : InterfaceWords c.interface
   pub faces : fit.faces_of seen c.imports ≡ map (λ (i : Import). face_said i.key) (map meaning.import_of c.imports)
+  pub types : TypesAgree shape_said c.tree
 
-pub loads_right : (modules : List Module) (m : tree.Module) (loaded : Loaded) (c : CheckedTree) → AllWords modules → (text : List ℕ) → IsCellOf text (cells.Module m) → loaded ≡ map (meaning.loaded_as modules m.name.name) modules → gives (module_at loaded m) c → LoadsRight modules loaded c
-loads_right modules m loaded c words text is same h =
+pub loads_right : (modules : List Module) (m : tree.Module) (loaded : Loaded) (c : CheckedTree) → AllWords modules → EachSolid loaded → (text : List ℕ) → IsCellOf text (cells.Module m) → loaded ≡ map (meaning.loaded_as modules m.name.name) modules → gives (module_at loaded m) c → LoadsRight modules loaded c
+loads_right modules m loaded c words solid text is same h =
     let around = map (meaning.loaded_as modules m.name.name) modules in
     let known = loaded_words modules modules m.name.name words in
     let spelled = text_words text m is in
@@ -294,4 +298,5 @@ loads_right modules m loaded c words text is same h =
           (unreached modules m.name.name (map meaning.import_of (all_imported around b.block)) (all_apart modules m.name.name b.block b.right)));
       words = checked_words around known m c spelled rules;
       faces = subst (λ is. fit.faces_of around is ≡ map (λ (i : Import). face_said i.key) (map meaning.import_of is)) (sym b.imports) (said_all around known m.name.name b.block b.right);
+      types = each_tree_agrees shape_said names_say around m c (subst EachSolid same solid) rules;
     })

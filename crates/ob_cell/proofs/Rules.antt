@@ -122,8 +122,8 @@ tree_is : (text : List ℕ) (m : tree.Module) → IsTreeOf text (cells.Module m)
 unfolding IsTreeOf
 tree_is text m h = h
 
-pub right : (modules : List Module) (m : tree.Module) (loaded : Loaded) (c : CheckedTree) → AllWords modules → (text : List ℕ) → IsTreeOf text (cells.Module m) → loaded ≡ map (meaning.loaded_as modules m.name.name) modules → gives (module_at loaded m) c → LoadsRight modules loaded c
-right modules m loaded c words text is same h = loads_right modules m loaded c words text (tree_is text m is) same h
+pub right : (modules : List Module) (m : tree.Module) (loaded : Loaded) (c : CheckedTree) → AllWords modules → EachSolid loaded → (text : List ℕ) → IsTreeOf text (cells.Module m) → loaded ≡ map (meaning.loaded_as modules m.name.name) modules → gives (module_at loaded m) c → LoadsRight modules loaded c
+right modules m loaded c words solid text is same h = loads_right modules m loaded c words solid text (tree_is text m is) same h
 
 pub loadable : (modules : List Module) (own : List ℕ) (loaded : Loaded) (c : CheckedTree) (p : Planned) → loaded ≡ map (meaning.loaded_as modules own) modules → AllLoaded loaded c.imports → p.module ≡ meaning.module_of c → IsCompiled p → p.faces ≡ fit.faces_of loaded c.imports → link_fault modules (map meaning.import_of c.imports) ≡ None → LoadsRight modules loaded c → IsLoadable modules p
 loadable modules own loaded c p same all is compiled faces links right =
@@ -143,5 +143,6 @@ loadable modules own loaded c p same all is compiled faces links right =
         face = compiled.said ∙ ap (λ (x : Module). face_of_interface x.interface) is ∙ sym (key_says c.interface right.words);
         faces = faces ∙ right.faces;
         commands = has_commands (meaning.module_of c) (subst (λ (x : Module). IsFaceOf (face_of_interface x.interface) x.tree) is (subst (λ (f : Face). IsFaceOf f p.module.tree) compiled.said compiled.face));
+        types = right.types;
       });
     }

@@ -8,6 +8,7 @@ use Rattle.ob_scan.specs.declared.token.Span.{Span}
 use Rattle.ob_tree.specs.declared.tree.Sign.{Sign}
 use Rattle.ob_tree.specs.declared.tree.Expr.{Expr, out-Expr}
 use Rattle.ob_tree.specs.declared.tree.Related.{Related, out-Related}
+use Rattle.ob_tree.specs.declared.tree.Relation.{Relation}
 use Rattle.ob_tree.specs.declared.tree.Simple.{Simple, out-Simple}
 use Rattle.ob_tree.specs.declared.tree.AddedTerm.{AddedTerm, out-AddedTerm}
 use Rattle.ob_tree.specs.declared.tree.Term.{Term, out-Term}
@@ -209,19 +210,23 @@ module _ (inner : Expr → Rule Folded) (deeper : Factor → Rule Folded) (ms : 
       Then (term_rule (out-Simple x).first) (λ v.
       Then (signed (out-Simple x).sign v) (λ w. through added_term w (out-Simple x).others))
 
-  -- a relation to another sum; IS is left out
-  abbrev pub related_layer : Folded → RelatedLayer → Rule Folded
-  related_layer v (Related-F.By relation span x) =
-      Needs (relates (relation_of relation) v) code.Types (
-      Then (simple_rule x) (λ w. there (related_of (relation_of relation) v w) code.Types))
-  related_layer v (Related-F.Is span q) = Breaks code.LeftOut
+  -- a relation of what stands before it to another sum
+  unfoldable pub relation : Folded → Relation → Simple → Rule Folded
+  relation v r x =
+      Needs (relates (relation_of r) v) code.Types (
+      Then (simple_rule x) (λ w. there (related_of (relation_of r) v w) code.Types))
 
-  unfoldable pub related : Folded → Option Related → Rule Folded
-  related v None = Given v
-  related v (Some r) = related_layer v (out-Related r)
+  -- a test of a type is no constant
+  abbrev pub related_layer : Simple → RelatedLayer → Rule Folded
+  related_layer x (Related-F.By r span y) = Then (simple_rule x) (λ v. relation v r y)
+  related_layer x (Related-F.Is span q) = Breaks code.NotConstant
+
+  unfoldable pub related : Simple → Option Related → Rule Folded
+  related x None = simple_rule x
+  related x (Some r) = related_layer x (out-Related r)
 
   unfoldable pub expr_rule : Expr → Rule Folded
-  expr_rule e = Then (simple_rule (out-Expr e).left) (λ v. related v (out-Expr e).right)
+  expr_rule e = related (out-Expr e).left (out-Expr e).right
 
 -- what nests in an expression: one that nests deeper has no size
 unfoldable mutual

@@ -1,2 +1,3 @@
 pub mod Folding
 pub mod Constants
+pub mod NamedTypes

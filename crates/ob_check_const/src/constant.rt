@@ -24,7 +24,8 @@ use ob_check_scope::scope::Scope;
 use ob_check_scope::site::Site;
 use ob_scan::Span;
 use ob_tree::tree::{
-    AddedTerm, Designator, Expr, Factor, NextFactor, Related, Selector, Sign, Simple, Term,
+    AddedTerm, Designator, Expr, Factor, NextFactor, Related, Relation, Selector, Sign, Simple,
+    Term,
 };
 use ob_types::{Constant, Object};
 use std::alloc::Global;
@@ -286,32 +287,41 @@ fn signed(sign: Option<(Sign, Span)>, value: Folded) -> Result<Folded, Rejected>
     }
 }
 
-/// Two sums with a relation between them, or one alone.
+/// Two sums with a relation between them, or one alone. A test of a type is no constant: 15 at the first token.
 #[cycle(constant)]
-#[tactic(auto, unfolding(crate::specs::Constants::expr_rule, crate::specs::Constants::expr_at))]
+#[tactic(auto, unfolding(crate::specs::Constants::expr_rule, crate::specs::Constants::expr_at, crate::specs::Constants::related))]
 fn expr(site: Site<'_>, e: &Expr) -> Result<Folded, Rejected>
     ensures { Judges (spec.expr_at site.entry.imports.now site.entry.scope.now site.entry.levels e.now) result }
 {
-    let left = simple(site, &e.left)?;
-    related(site, left, &e.right)
+    match &e.right {
+        None => simple(site, &e.left),
+        Some(Related::By(relation, span, right)) => {
+            let left = simple(site, &e.left)?;
+            related(site, left, *relation, *span, right)
+        }
+        Some(Related::Is(_, _)) => {
+            Err(Rejected::Rule(broken(RuleCode::NotConstant, e.first_token())))
+        }
+    }
 }
 
+/// A relation of what stands before it to another sum.
 #[cycle(constant)]
-#[tactic(auto, unfolding(crate::specs::Constants::related))]
-fn related(site: Site<'_>, left: Folded, right: &Option<Related>) -> Result<Folded, Rejected>
-    ensures { Judges (spec.related (spec.inner_at site.entry.imports.now site.entry.scope.now site.entry.levels) (spec.deeper_at site.entry.imports.now site.entry.scope.now site.entry.levels) site.entry.imports.now site.entry.scope.now left right.now) result }
+#[tactic(auto, unfolding(crate::specs::Constants::relation))]
+fn related(
+    site: Site<'_>,
+    left: Folded,
+    relation: Relation,
+    span: Span,
+    right: &Simple,
+) -> Result<Folded, Rejected>
+    ensures { Judges (spec.relation (spec.inner_at site.entry.imports.now site.entry.scope.now site.entry.levels) (spec.deeper_at site.entry.imports.now site.entry.scope.now site.entry.levels) site.entry.imports.now site.entry.scope.now left relation right.now) result }
 {
-    match right {
-        None => Ok(left),
-        Some(Related::By(relation, span, right)) => {
-            if !relates(*relation, &left) {
-                return Err(Rejected::Rule(broken(RuleCode::Types, *span)));
-            }
-            let other = simple(site, right)?;
-            fitting(related_of(*relation, &left, &other), RuleCode::Types, *span)
-        }
-        Some(Related::Is(span, _)) => Err(Rejected::Rule(broken(RuleCode::LeftOut, *span))),
+    if !relates(relation, &left) {
+        return Err(Rejected::Rule(broken(RuleCode::Types, span)));
     }
+    let other = simple(site, right)?;
+    fitting(related_of(relation, &left, &other), RuleCode::Types, span)
 }
 
 #[cycle(constant)]

@@ -1,5 +1,6 @@
-//! The static rules of constants.
+//! The static rules of constants, and of names of types.
 #![tactic(auto)]
 
 pub mod constant;
 pub mod folding;
+pub mod named_type;

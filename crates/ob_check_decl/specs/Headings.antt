@@ -28,7 +28,7 @@ use Rattle.ob_check_decl.specs.Declarations.{is_new, has_mark, new_name}
 use Rattle.ob_check_scope.specs.Exports.{Modules}
 use Rattle.ob_check_scope.specs.Rule.{Rule, Given, Breaks, Then, Needs, through}
 use Rattle.ob_check_scope.specs.Scope.{with_entry, in_heading, entered}
-use Rattle.ob_check_decl.specs.WrittenTypes.{type_named}
+use Rattle.ob_check_const.specs.NamedTypes.{type_named}
 
 -- ---- types of formal parameters
 

@@ -3,27 +3,26 @@
 ghost use Rattle.std.specs.Prelude.{◌≡◌, ◌<◌, ◌++◌, [], length, map, reverse, option_copied, IfOk};
 ghost use Rattle.ob_check_scope.specs.Rule.{Judges, through};
 ghost use Rattle.ob_check_scope.specs.Scope.{in_heading};
+ghost use Rattle.ob_check_const.specs.NamedTypes.{type_named};
 ghost use Rattle.ob_check_decl.specs.WrittenTypes as spec;
 ghost use Rattle.ob_types.specs.declared.structure.ObType.{out-ObType};
 ghost use Rattle.ob_types.specs.Types.{chain};
 
 use ob_base::{Items, Shared, SharedItems, Text};
 use ob_check_const::constant::constant;
-use ob_check_scope::block::{Block, Entry};
+use ob_check_const::named_type::{is_record, name_of_type, qualified, type_named};
+use ob_check_scope::block::Block;
 use ob_check_scope::imports::Imports;
 use ob_check_scope::names::Names;
-use ob_check_scope::predeclared::{
-    Predeclared, absent, input_named, is_input, is_output, output_named,
-};
 use ob_check_scope::rejected::{Rejected, broken, open};
 use ob_check_scope::rule::RuleCode;
 use ob_check_scope::scope::Scope;
 use ob_check_scope::site::Site;
 use ob_scan::Span;
-use ob_tree::tree::{Expr, Ident, IdentDef, Qualident, TypeExpr, TypedNames};
+use ob_tree::tree::{Expr, IdentDef, Qualident, TypeExpr, TypedNames};
 use ob_types::{
-    Constant, Field, MAX_CELLS, MAX_LEVELS, ObType, Object, RecordName, RecordType, base_of,
-    is_admitted, levels, zero_size,
+    Constant, Field, MAX_CELLS, MAX_LEVELS, ObType, RecordName, RecordType, base_of, is_admitted,
+    levels, zero_size,
 };
 use std::alloc::{AllocError, Global};
 
@@ -43,121 +42,22 @@ pub struct Fields {
     pub records: u32,
 }
 
-/// The type that a name is which nothing declares.
-#[tactic(auto, unfolding(crate::specs::WrittenTypes::predeclared_type))]
-fn predeclared_type(predeclared: Predeclared, span: Span) -> Result<ObType, Rejected>
-    ensures { Judges (spec.predeclared_type predeclared) result }
-{
-    match predeclared {
-        Predeclared::Basic(basic) => Ok(ObType::Basic(basic)),
-        _ => Err(Rejected::Rule(broken(absent(predeclared), span))),
-    }
-}
-
-/// The type that a name alone stands for.
-#[tactic(auto, unfolding(crate::specs::WrittenTypes::own_type))]
-fn own_type(entry: Option<&Entry>, predeclared: Predeclared, span: Span) -> Result<ObType, Rejected>
-    ensures { Judges (spec.own_type (option_copied entry.entry) predeclared) result }
-{
-    match entry {
-        Some(Entry::TypeName(of)) => Ok(of.another()?),
-        Some(_) => Err(Rejected::Rule(broken(RuleCode::Types, span))),
-        None => predeclared_type(predeclared, span),
-    }
-}
-
-fn object_type(object: &Object, span: Span) -> Result<ObType, Rejected>
-    ensures { Judges (spec.object_type object.now) result }
-{
-    match object {
-        Object::TypeName(of) => Ok(of.another()?),
-        _ => Err(Rejected::Rule(broken(RuleCode::Types, span))),
-    }
-}
-
-/// What is broken where a name of In or Out has to stand for a type.
-fn no_type(exported: bool) -> RuleCode
-    ensures { result ≡ spec.no_type exported }
-{
-    if exported {
-        RuleCode::Types
-    } else {
-        RuleCode::NotExported
-    }
-}
-
-/// The type that a name of another module stands for.
-#[tactic(auto, unfolding(crate::specs::WrittenTypes::other_type))]
-fn other_type(
-    modules: &Imports,
-    entry: Option<&Entry>,
-    predeclared: Predeclared,
-    first: Span,
-    name: &Ident,
-) -> Result<ObType, Rejected>
-    ensures { Judges (spec.other_type modules.now (option_copied entry.entry) predeclared name.now.name) result }
-{
-    match entry {
-        Some(Entry::Module(_, place)) => match modules.exported_at(*place, &name.name) {
-            Some(object) => object_type(object, name.span),
-            None => Err(Rejected::Rule(broken(RuleCode::NotExported, name.span))),
-        },
-        Some(Entry::In) => {
-            let code = no_type(is_input(input_named(&name.name)));
-            Err(Rejected::Rule(broken(code, name.span)))
-        }
-        Some(Entry::Out) => {
-            let code = no_type(is_output(output_named(&name.name)));
-            Err(Rejected::Rule(broken(code, name.span)))
-        }
-        Some(_) => Err(Rejected::Rule(broken(RuleCode::Types, first))),
-        None => Err(Rejected::Rule(broken(absent(predeclared), first))),
-    }
-}
-
-/// The type that a name stands for, by what its first part stands for.
-#[tactic(auto, unfolding(crate::specs::WrittenTypes::qualified))]
-fn qualified(
-    modules: &Imports,
-    entry: Option<&Entry>,
-    predeclared: Predeclared,
-    name: &Qualident,
-) -> Result<ObType, Rejected>
-    ensures { Judges (spec.qualified modules.now (option_copied entry.entry) predeclared name.now.second) result }
-{
-    let first = name.first.span;
-    match &name.second {
-        None => own_type(entry, predeclared, first),
-        Some(second) => other_type(modules, entry, predeclared, first, second),
-    }
-}
-
-/// The type that a name stands for. 10 and 21 where nothing declares it, 12 where it is no type's, 18 where its module doesn't
-/// export it.
-#[tactic(auto, unfolding(crate::specs::WrittenTypes::type_named))]
-fn type_named(modules: &Imports, scope: &Scope, name: &Qualident) -> Result<ObType, Rejected>
-    ensures { Judges (spec.type_named modules.now scope.now name.now) result }
-{
-    let first = &name.first.name;
-    qualified(modules, scope.seen(first), scope.outer(first), name)
-}
-
 /// The type that a name stands for in a heading, after these parameters. The codes are those of any name of a type.
-#[tactic(auto, unfolding(crate::specs::WrittenTypes::type_named))]
+#[tactic(auto, unfolding(ob_check_const::specs::NamedTypes::type_named))]
 pub(crate) fn type_in_heading(
     modules: &Imports,
     scope: &Scope,
     parameters: &Block,
     name: &Qualident,
 ) -> Result<ObType, Rejected>
-    ensures { Judges (spec.type_named modules.now (in_heading scope.now parameters.now) name.now) result }
+    ensures { Judges (type_named modules.now (in_heading scope.now parameters.now) name.now) result }
 {
     let first = &name.first.name;
     qualified(
         modules,
         scope.seen_in_heading(parameters, first),
         scope.outer_in_heading(parameters, first),
-        name,
+        name_of_type(name),
     )
 }
 
@@ -313,15 +213,6 @@ fn cells_with(taken: u32, count: usize, of: &ObType) -> Option<u32>
     Some(total as u32)
 }
 
-fn is_record(of: &ObType) -> bool
-    ensures { result ≡ spec.is_record of.now }
-{
-    match of {
-        ObType::Record(_) => true,
-        ObType::Basic(_) | ObType::Array(_, _) | ObType::Open(_) => false,
-    }
-}
-
 fn push_names(alloc: Global, first: Names, fields: &[Field]) -> Result<Names, AllocError>
     ensures { IfOk result (λ names. names ≡ first ++ spec.names_of fields.now) }
 {
@@ -405,7 +296,7 @@ fn begun(
             records,
         }),
         Some(name) => {
-            let of = type_named(site.imports, site.scope, name)?;
+            let of = type_named(site.imports, site.scope, name_of_type(name))?;
             extended(site.alloc, records, of, span, name.first.span)
         }
     }
@@ -424,7 +315,7 @@ pub fn written_type(
 {
     match t {
         TypeExpr::Named(name) => {
-            let of = type_named(site.imports, site.scope, name)?;
+            let of = type_named(site.imports, site.scope, name_of_type(name))?;
             Ok(Written { of, records })
         }
         TypeExpr::Array(span, lengths, element) => {

@@ -4,9 +4,10 @@
 use Rattle.std.specs.Prelude.{ℕ, zero, suc, List, [], ◌∷◌, ◌++◌, Bool, Option, Some, None, is_some}
 use Rattle.ob_check_scope.specs.declared.rule.RuleCode.TheVariants as code
 use Rattle.ob_scan.specs.declared.token.Span.{Span}
-use Rattle.ob_tree.specs.declared.tree.Sign.{Sign}
 use Rattle.ob_tree.specs.declared.tree.Expr.{Expr, out-Expr}
+use Rattle.ob_tree.specs.declared.tree.Qualident.{Qualident}
 use Rattle.ob_tree.specs.declared.tree.Related.{Related, out-Related}
+use Rattle.ob_tree.specs.declared.tree.Relation.{Relation}
 use Rattle.ob_tree.specs.declared.tree.Simple.{Simple, out-Simple}
 use Rattle.ob_tree.specs.declared.tree.AddedTerm.{AddedTerm, out-AddedTerm}
 use Rattle.ob_tree.specs.declared.tree.Term.{Term, out-Term}
@@ -40,39 +41,12 @@ use Rattle.ob_check_operand.specs.Operands.{Variables, number_of, truth_of, valu
 use Rattle.ob_check_operand.specs.Joining.{add_joining, mul_joining, may_join, with_operand, sum_of, product_of, signed, negated}
 use Rattle.ob_check_operand.specs.Relations.{relation_of, may_relate, related}
 use Rattle.ob_check_operand.specs.Functions.{takes, shift_of, one_of, two_of}
-use Rattle.ob_check_operand.specs.Selecting.{Selected, selected, indexed}
+use Rattle.ob_check_operand.specs.Selecting.{Selected, selected, indexed, guarded, tested}
 use Rattle.ob_check_operand.specs.Named.{Meant, Callable, Writable}
 use Rattle.ob_check_operand.specs.Named as meaning
 use Rattle.ob_check_operand.specs.Names.{read_at, written_at, called_at}
 use Rattle.ob_check_operand.specs.Passing.{variable_argument, value_passed}
-
--- ---- a designator alone
-
-abbrev pub designator_in : FactorLayer → Option Written
-designator_in (Factor-F.Integer n span) = None
-designator_in (Factor-F.Text t span) = None
-designator_in (Factor-F.Truth b span) = None
-designator_in (Factor-F.Value d) = Some d
-designator_in (Factor-F.Call d es) = None
-designator_in (Factor-F.Parens span e) = None
-designator_in (Factor-F.Not span f) = None
-
-abbrev pub factor_alone : Factor → List NextFactor → Option Written
-factor_alone f [] = designator_in (out-Factor f)
-factor_alone f (x ∷ xs) = None
-
-abbrev pub term_alone : Option (Sign × Span) → Term → List AddedTerm → Option Written
-term_alone None t [] = factor_alone (out-Term t).first (out-Term t).others
-term_alone None t (x ∷ xs) = None
-term_alone (Some p) t xs = None
-
-abbrev pub simple_alone : Simple → Option Related → Option Written
-simple_alone x None = term_alone (out-Simple x).sign (out-Simple x).first (out-Simple x).others
-simple_alone x (Some r) = None
-
--- the designator that an expression is, without parentheses or operators
-unfoldable pub alone : Expr → Option Written
-alone e = simple_alone (out-Expr e).left (out-Expr e).right
+use Rattle.ob_check_expr.specs.Alone.{LoneVariable, alone, guard_in, lone_variable, lone_sum}
 
 -- ---- expressions
 
@@ -85,18 +59,37 @@ Joining = Joined × Variables
 abbrev pub Inner : Type 1
 Inner = Variables → Expr → Rule Typed
 
-module _ (inner : Variables → Expr → Rule Typed) (s : Scope) where
+module _ (inner : Variables → Expr → Rule Typed) (ms : Modules) (s : Scope) where
   -- what a name stands for
   unfoldable pub meant_rule : Meant → Variables → Rule Typed
   meant_rule (meaning.Constant c) vs = Given (operand_of_constant c, vs)
   meant_rule meaning.InputDone vs = Given (operand.Value basic.Boolean typed.InputDone, vs)
-  meant_rule (meaning.Variable t v xs) vs =
-      Then (through (selected inner s) (t, designator.Whole v, vs) xs) (λ p. Given (operand_of_variable p.0 p.1, p.2))
+  meant_rule (meaning.Variable t v told xs) vs =
+      Then (through (selected inner ms s) (t, designator.Whole v, vs, told) xs) (λ p. Given (operand_of_variable p.0 p.1, p.2))
+
+  -- a variable that is read
+  unfoldable pub variable_rule : Meant → Variables → Rule Selected
+  variable_rule (meaning.Constant c) vs = Breaks code.Types
+  variable_rule meaning.InputDone vs = Breaks code.Types
+  variable_rule (meaning.Variable t v told xs) vs = through (selected inner ms s) (t, designator.Whole v, vs, told) xs
 
   -- a variable that is written
-  unfoldable pub target_rule : Modules → Variables → Written → Rule Selected
-  target_rule ms vs d =
-      Then (written_at ms s d) (λ w. through (selected inner s) (w.0, designator.Whole w.1, vs) w.2)
+  unfoldable pub target_rule : Variables → Written → Rule Selected
+  target_rule vs d =
+      Then (written_at ms s d) (λ w. through (selected inner ms s) (w.0, designator.Whole w.1, vs, w.2) w.3)
+
+  -- a guard behind it that is read as actual parameters
+  unfoldable pub after_guard : Option Qualident → Selected → Rule Selected
+  after_guard None at = Given at
+  after_guard (Some q) at = guarded ms s at q
+
+  -- a variable alone, guarded or not, that is read
+  unfoldable pub lone_read : Variables → LoneVariable → Rule Selected
+  lone_read vs x = Then (read_at ms s x.0) (λ m. Then (variable_rule m vs) (λ p. after_guard x.1 p))
+
+  -- and one that is written
+  unfoldable pub lone_written : Variables → LoneVariable → Rule Selected
+  lone_written vs x = Then (target_rule vs x.0) (λ p. after_guard x.1 p)
 
 -- Functions that are declared before any module, of one value and of two. Their actual parameters are judged from left to
 -- right, and their number after them.
@@ -154,13 +147,19 @@ module _ (inner : Variables → Expr → Rule Typed) (passed : Formal → Variab
   call_rule (meaning.Output o) line vs es = Breaks code.Parameters
 
 module _ (inner : Variables → Expr → Rule Typed) (deeper : Variables → Factor → Rule Typed) (passed : Formal → Variables → Expr → Rule (Argument × Variables)) (ms : Modules) (s : Scope) where
+  -- what looks like a call, where it is a guarded variable and where it is none
+  unfoldable pub call_or_guard : Variables → Written → List Expr → Option Qualident → Rule Typed
+  call_or_guard vs d es None =
+      Then (called_at ms s d) (λ f. call_rule inner passed f (out-Designator d).name.span.line vs es)
+  call_or_guard vs d es (Some q) =
+      Then (lone_read inner ms s vs (d, Some q)) (λ p. Given (operand_of_variable p.0 p.1, p.2))
+
   abbrev pub factor_layer : Variables → FactorLayer → Rule Typed
   factor_layer vs (Factor-F.Integer n span) = Given (operand.Value basic.Integer (typed.Constant n), vs)
   factor_layer vs (Factor-F.Text t span) = Given (operand.Text t, vs)
   factor_layer vs (Factor-F.Truth b span) = Given (operand.Value basic.Boolean (typed.Constant (truth_number b)), vs)
-  factor_layer vs (Factor-F.Value d) = Then (read_at ms s d) (λ m. meant_rule inner s m vs)
-  factor_layer vs (Factor-F.Call d es) =
-      Then (called_at ms s d) (λ f. call_rule inner passed f (out-Designator d).name.span.line vs es)
+  factor_layer vs (Factor-F.Value d) = Then (read_at ms s d) (λ m. meant_rule inner ms s m vs)
+  factor_layer vs (Factor-F.Call d es) = call_or_guard vs d es (guard_in s d es)
   factor_layer vs (Factor-F.Parens span e) = inner vs e
   factor_layer vs (Factor-F.Not span f) = Then (deeper vs f) (λ v. Then (negated span.line v.0) (λ x. Given (x, v.1)))
 
@@ -192,37 +191,44 @@ module _ (inner : Variables → Expr → Rule Typed) (deeper : Variables → Fac
       Then (signed (out-Simple x).sign v.0) (λ w.
       Then (through added_term (joined.One w, v.1) (out-Simple x).others) (λ j. Given (sum_of j.0, j.1))))
 
-  -- a relation to another sum; IS is left out
-  abbrev pub related_layer : Typed → RelatedLayer → Rule Typed
-  related_layer v (Related-F.By relation span x) =
-      Needs (may_relate (relation_of relation) v.0) code.Types (
-      Then (simple_rule v.1 x) (λ w.
-      related (relation_of relation) span.line w.1 v.0 w.0))
-  related_layer v (Related-F.Is span q) = Breaks code.LeftOut
+  -- a relation of what stands before it to another sum
+  unfoldable pub relation_rule : Typed → Relation → Span → Simple → Rule Typed
+  relation_rule v r span x =
+      Needs (may_relate (relation_of r) v.0) code.Types (
+      Then (simple_rule v.1 x) (λ w. related (relation_of r) span.line w.1 v.0 w.0))
 
-  unfoldable pub related_rule : Typed → Option Related → Rule Typed
-  related_rule v None = Given v
-  related_rule v (Some r) = related_layer v (out-Related r)
+  -- IS: of a variable alone
+  unfoldable pub test_rule : Variables → Simple → Option LoneVariable → Qualident → Rule Typed
+  test_rule vs x None q = Then (simple_rule vs x) (λ v. Breaks code.Types)
+  test_rule vs x (Some d) q = Then (lone_read inner ms s vs d) (λ p. tested ms s p q)
+
+  -- what stands to the right of a sum
+  abbrev pub related_layer : Variables → Simple → RelatedLayer → Rule Typed
+  related_layer vs x (Related-F.By r span y) = Then (simple_rule vs x) (λ v. relation_rule v r span y)
+  related_layer vs x (Related-F.Is span q) = test_rule vs x (lone_sum s x) q
+
+  unfoldable pub related_rule : Variables → Simple → Option Related → Rule Typed
+  related_rule vs x None = simple_rule vs x
+  related_rule vs x (Some r) = related_layer vs x (out-Related r)
 
   unfoldable pub expr_rule : Variables → Expr → Rule Typed
-  expr_rule vs e = Then (simple_rule vs (out-Expr e).left) (λ v. related_rule v (out-Expr e).right)
+  expr_rule vs e = related_rule vs (out-Expr e).left (out-Expr e).right
 
 -- an actual parameter: a variable for VAR, else an expression
-module _ (target : Variables → Written → Rule Selected) where
-  unfoldable pub variable_actual : ObType → Variables → Option Written → Rule (Argument × Variables)
+module _ (target : Variables → LoneVariable → Rule Selected) where
+  unfoldable pub variable_actual : ObType → Variables → Option LoneVariable → Rule (Argument × Variables)
   variable_actual formal vs None = Breaks code.ReadOnly
-  variable_actual formal vs (Some d) =
-      Then (target vs d) (λ p. variable_argument p.2 formal p.0 p.1)
+  variable_actual formal vs (Some d) = Then (target vs d) (λ p. variable_argument kind.Variable formal p)
 
-module _ (expr : Variables → Expr → Rule Typed) where
+module _ (expr : Variables → Expr → Rule Typed) (s : Scope) where
   unfoldable pub value_actual : ObType → Variables → Expr → Rule (Argument × Variables)
   value_actual formal vs e =
-      Then (expr vs e) (λ v. value_passed v.1 formal (first_of e).line (is_some (alone e)) v.0)
+      Then (expr vs e) (λ v. value_passed v.1 formal (first_of e).line (is_some (lone_variable s e)) v.0)
 
-module _ (expr : Variables → Expr → Rule Typed) (target : Variables → Written → Rule Selected) where
+module _ (expr : Variables → Expr → Rule Typed) (target : Variables → LoneVariable → Rule Selected) (s : Scope) where
   unfoldable pub actual_rule : FormalKind → ObType → Variables → Expr → Rule (Argument × Variables)
-  actual_rule kind.Variable formal vs e = variable_actual target formal vs (alone e)
-  actual_rule kind.Value formal vs e = value_actual expr formal vs e
+  actual_rule kind.Variable formal vs e = variable_actual target formal vs (lone_variable s e)
+  actual_rule kind.Value formal vs e = value_actual expr s formal vs e
 
 -- ---- what nests: indexes and parentheses, `~`, and lists of actual parameters. What nests deeper has no size
 unfoldable mutual
@@ -237,7 +243,7 @@ unfoldable mutual
   pub passed_at : Modules → Scope → ℕ → Formal → Variables → Expr → Rule (Argument × Variables)
   passed_at ms s zero f vs e = Breaks code.Size
   passed_at ms s (suc n) f vs e =
-      actual_rule (expr_rule (inner_at ms s n) (deeper_at ms s n) (passed_at ms s n) ms s) (target_rule (inner_at ms s n) s ms)
+      actual_rule (expr_rule (inner_at ms s n) (deeper_at ms s n) (passed_at ms s n) ms s) (lone_written (inner_at ms s n) ms s) s
       f.kind f.of vs e
 
 -- ---- at a place where so many more constructs may nest
@@ -246,20 +252,29 @@ unfoldable mutual
 abbrev pub expr_within : Modules → Scope → ℕ → Variables → Expr → Rule Typed
 expr_within ms s n = expr_rule (inner_at ms s n) (deeper_at ms s n) (passed_at ms s n) ms s
 
-abbrev pub target_within : Modules → Scope → ℕ → Variables → Written → Rule Selected
-target_within ms s n = target_rule (inner_at ms s n) s ms
+abbrev pub target_within : Modules → Scope → ℕ → Variables → LoneVariable → Rule Selected
+target_within ms s n = lone_written (inner_at ms s n) ms s
+
+abbrev pub variable_at : Modules → Scope → ℕ → Meant → Variables → Rule Selected
+variable_at ms s n = variable_rule (inner_at ms s n) ms s
+
+abbrev pub after_guard_at : Modules → Scope → ℕ → Option Qualident → Selected → Rule Selected
+after_guard_at ms s n = after_guard (inner_at ms s n) ms s
+
+abbrev pub lone_read_at : Modules → Scope → ℕ → Variables → LoneVariable → Rule Selected
+lone_read_at ms s n = lone_read (inner_at ms s n) ms s
 
 abbrev pub next_passed_at : Modules → Scope → ℕ → Passing → Expr → Rule Passing
 next_passed_at ms s n = next_passed (passed_at ms s n)
 
 abbrev pub selected_at : Modules → Scope → ℕ → Selected → Selector → Rule Selected
-selected_at ms s n = selected (inner_at ms s n) s
+selected_at ms s n = selected (inner_at ms s n) ms s
 
 abbrev pub indexed_at : Modules → Scope → ℕ → Selected → Expr → Rule Selected
 indexed_at ms s n = indexed (inner_at ms s n)
 
 abbrev pub meant_at : Modules → Scope → ℕ → Meant → Variables → Rule Typed
-meant_at ms s n = meant_rule (inner_at ms s n) s
+meant_at ms s n = meant_rule (inner_at ms s n) ms s
 
 abbrev pub one_taken_at : Modules → Scope → ℕ → Function → ℕ → Bool → Typed → List Expr → Rule Typed
 one_taken_at ms s n = one_taken (inner_at ms s n)
@@ -288,8 +303,14 @@ added_term_at ms s n = added_term (inner_at ms s n) (deeper_at ms s n) (passed_a
 abbrev pub simple_at : Modules → Scope → ℕ → Variables → Simple → Rule Typed
 simple_at ms s n = simple_rule (inner_at ms s n) (deeper_at ms s n) (passed_at ms s n) ms s
 
-abbrev pub related_at : Modules → Scope → ℕ → Typed → Option Related → Rule Typed
-related_at ms s n = related_rule (inner_at ms s n) (deeper_at ms s n) (passed_at ms s n) ms s
+abbrev pub relation_at : Modules → Scope → ℕ → Typed → Relation → Span → Simple → Rule Typed
+relation_at ms s n = relation_rule (inner_at ms s n) (deeper_at ms s n) (passed_at ms s n) ms s
+
+abbrev pub test_at : Modules → Scope → ℕ → Variables → Simple → Option LoneVariable → Qualident → Rule Typed
+test_at ms s n = test_rule (inner_at ms s n) (deeper_at ms s n) (passed_at ms s n) ms s
+
+abbrev pub call_or_guard_at : Modules → Scope → ℕ → Variables → Written → List Expr → Option Qualident → Rule Typed
+call_or_guard_at ms s n = call_or_guard (inner_at ms s n) (deeper_at ms s n) (passed_at ms s n) ms s
 
 -- an expression
 unfoldable pub expr_at : Modules → Scope → ℕ → Variables → Expr → Rule Typed
@@ -297,7 +318,7 @@ expr_at ms s n vs e = expr_rule (inner_at ms s n) (deeper_at ms s n) (passed_at 
 
 -- a variable that may be written, with its type
 unfoldable pub target_at : Modules → Scope → ℕ → Variables → Written → Rule Selected
-target_at ms s n vs d = target_rule (inner_at ms s n) s ms vs d
+target_at ms s n vs d = target_rule (inner_at ms s n) ms s vs d
 
 -- the actual parameters of a call
 unfoldable pub actuals_at : Modules → Scope → ℕ → List Formal → Variables → List Expr → Rule ((List Argument) × Variables)

@@ -1,26 +1,30 @@
 //! Expressions, variables that are written, and actual parameters.
 
-ghost use Rattle.std.specs.Prelude.{◌≡◌, suc, [], option_copied, is_some, IfOk, OnErr, IfErr};
-ghost use Rattle.ob_check_scope.specs.Rule.{Judges, through};
-ghost use Rattle.ob_tree.specs.declared.tree.Factor.{out-Factor};
+ghost use Rattle.std.specs.Prelude.{◌≡◌, suc, false, [], option_map, is_some, IfOk, OnErr, IfErr};
+ghost use Rattle.ob_check_scope.specs.Rule.{Judges, Given, Then, through};
+ghost use Rattle.ob_mean.specs.declared.expression.Designator.TheVariants as designator;
+ghost use Rattle.ob_tree.specs.declared.tree.Expr.{out-Expr};
+ghost use Rattle.ob_check_const.specs.NamedTypes.{written};
 ghost use Rattle.ob_check_operand.specs.Judging.{result_map};
 ghost use Rattle.ob_check_operand.specs.Named.{meant, callable};
 ghost use Rattle.ob_check_operand.specs.Selecting as selecting;
+ghost use Rattle.ob_check_expr.specs.Alone.{lone};
 ghost use Rattle.ob_check_expr.specs.Expressions as spec;
 
+use crate::alone::{Lone, guard_in, is_alone, lone_sum, lone_variable};
 use ob_base::{Boxed, Items};
+use ob_check_const::named_type::{NameOfType, name_of_type};
 use ob_check_operand::functions::{one_of, shift_of, takes, two_of};
 use ob_check_operand::joining::{
     Joined, add_joining, may_join, mul_joining, negated, product_of, signed, sum_of, with_operand,
 };
 use ob_check_operand::names::{Called, Named, procedure, read, written};
 use ob_check_operand::operand::{
-    Operand, fitting, number_of, operand_of_constant, operand_of_variable, truth_number, truth_of,
-    value_for,
+    Operand, number_of, operand_of_constant, operand_of_variable, truth_number,
 };
 use ob_check_operand::passing::{value_passed, variable_argument};
 use ob_check_operand::relations::{may_relate, related, relation_of};
-use ob_check_operand::selecting::{element_of, field_of};
+use ob_check_operand::selecting::{Selected, element_of, field_of, guarded, tested as type_tested};
 use ob_check_scope::Site;
 use ob_check_scope::predeclared::Function;
 use ob_check_scope::rejected::{Rejected, broken, open};
@@ -29,70 +33,16 @@ use ob_check_strings::Variables;
 use ob_mean::{Argument, Callee, Designator, TypedExpr};
 use ob_scan::Span;
 use ob_tree::tree::{
-    AddedTerm, Designator as Written, Expr, Factor, NextFactor, Related, Selector, Sign, Simple,
-    Term,
+    AddedTerm, Designator as Written, Expr, Factor, Ident, NextFactor, Qualident, Related,
+    Relation, Selector, Simple, Term,
 };
 use ob_types::{Basic, Formal, FormalKind, ObType, Signature};
+use std::alloc::Global;
+use std::mem::drop;
 
-fn designator_in(f: &Factor) -> Option<&Written>
-    ensures { option_copied result ≡ spec.designator_in (out-Factor f.now) }
-{
-    match f {
-        Factor::Value(d) => Some(d),
-        Factor::Integer(_, _)
-        | Factor::Text(_, _)
-        | Factor::Truth(_, _)
-        | Factor::Call(_, _)
-        | Factor::Parens(_, _)
-        | Factor::Not(_, _) => None,
-    }
-}
-
-fn factor_alone<'a>(f: &'a Factor, others: &[NextFactor]) -> Option<&'a Written>
-    ensures { option_copied result ≡ spec.factor_alone f.now others.now }
-{
-    match others {
-        [] => designator_in(f),
-        [_, ..] => None,
-    }
-}
-
-fn term_alone<'a>(
-    sign: Option<(Sign, Span)>,
-    t: &'a Term,
-    others: &[AddedTerm],
-) -> Option<&'a Written>
-    ensures { option_copied result ≡ spec.term_alone sign t.now others.now }
-{
-    match (sign, others) {
-        (None, []) => factor_alone(&t.first, t.others.as_slice()),
-        (None, [_, ..]) | (Some(_), _) => None,
-    }
-}
-
-/// The designator that an expression is, without parentheses or operators.
-#[tactic(auto, unfolding(crate::specs::Expressions::alone))]
-pub fn alone(e: &Expr) -> Option<&Written>
-    ensures { option_copied result ≡ spec.alone e.now }
-{
-    match &e.right {
-        Some(_) => None,
-        None => term_alone(e.left.sign, &e.left.first, e.left.others.as_slice()),
-    }
-}
-
-fn is_alone(e: &Expr) -> bool
-    ensures { result ≡ is_some (spec.alone e.now) }
-{
-    match alone(e) {
-        Some(_) => true,
-        None => false,
-    }
-}
-
-/// Two sums with a relation between them, or one alone.
+/// Two sums with a relation between them, a test of a type, or one sum alone.
 #[cycle(expression)]
-#[tactic(auto, unfolding(crate::specs::Expressions::expr_rule, crate::specs::Expressions::expr_at))]
+#[tactic(auto, unfolding(crate::specs::Expressions::expr_rule, crate::specs::Expressions::expr_at, crate::specs::Expressions::related_rule))]
 pub fn expr(
     site: Site<'_>,
     variables: Variables,
@@ -100,31 +50,65 @@ pub fn expr(
 ) -> Result<(Operand, Variables), Rejected>
     ensures { Judges (spec.expr_at site.entry.imports.now site.entry.scope.now site.entry.levels variables e.now) result }
 {
-    let (left, variables) = simple(site, variables, &e.left)?;
-    relation(site, left, variables, &e.right)
+    match &e.right {
+        None => simple(site, variables, &e.left),
+        Some(Related::By(by, span, right)) => {
+            let left = simple(site, variables, &e.left)?;
+            relation(site, left, *by, *span, right)
+        }
+        Some(Related::Is(_, name)) => {
+            let tested = lone_sum(site.scope, &e.left);
+            test(site, variables, e, tested, name)
+        }
+    }
 }
 
+/// A relation of what stands before it to another sum.
 #[cycle(expression)]
-#[tactic(auto, unfolding(crate::specs::Expressions::related_rule))]
+#[tactic(auto, unfolding(crate::specs::Expressions::relation_rule))]
 fn relation(
     site: Site<'_>,
-    left: Operand,
-    variables: Variables,
-    right: &Option<Related>,
+    left: (Operand, Variables),
+    by: Relation,
+    span: Span,
+    right: &Simple,
 ) -> Result<(Operand, Variables), Rejected>
-    ensures { Judges (spec.related_at site.entry.imports.now site.entry.scope.now site.entry.levels (left, variables) right.now) result }
+    ensures { Judges (spec.relation_at site.entry.imports.now site.entry.scope.now site.entry.levels left by span right.now) result }
 {
-    match right {
-        None => Ok((left, variables)),
-        Some(Related::By(relation, span, right)) => {
-            let relation = relation_of(*relation);
-            if !may_relate(relation, &left) {
-                return Err(Rejected::Rule(broken(RuleCode::Types, *span)));
-            }
-            let (other, variables) = simple(site, variables, right)?;
-            related(site.alloc, relation, *span, variables, left, other)
+    let (left, variables) = left;
+    let by = relation_of(by);
+    if !may_relate(by, &left) {
+        drop(left);
+        return Err(Rejected::Rule(broken(RuleCode::Types, span)));
+    }
+    let (other, variables) = simple(site, variables, right)?;
+    related(site.alloc, by, span, variables, left, other)
+}
+
+/// IS in an expression: a test of what stands before it, which is the variable `tested` alone. 12 at its first token where it is none.
+#[cycle(expression)]
+#[tactic(auto, unfolding(crate::specs::Expressions::test_rule))]
+fn test(
+    site: Site<'_>,
+    variables: Variables,
+    e: &Expr,
+    tested: Option<Lone<'_>>,
+    name: &Qualident,
+) -> Result<(Operand, Variables), Rejected>
+    ensures { Judges (spec.test_at site.entry.imports.now site.entry.scope.now site.entry.levels variables (out-Expr e.now).left (option_map lone tested.entry) name.now) result }
+{
+    let span = e.first_token();
+    match tested {
+        Some(variable) => {
+            let at = lone_read(site, variables, variable)?;
+            type_tested(site, at, name_of_type(name), span)
         }
-        Some(Related::Is(span, _)) => Err(Rejected::Rule(broken(RuleCode::LeftOut, *span))),
+        None => {
+            let (left, variables) = simple(site, variables, &e.left)?;
+            drop(left);
+            drop(variables);
+            Err(Rejected::Rule(broken(RuleCode::Types, span)))
+        }
     }
 }
 
@@ -171,6 +155,7 @@ fn added_term(
     ensures { Judges (spec.added_term_at site.entry.imports.now site.entry.scope.now site.entry.levels (left, variables) x.now) (result_map (λ p. (p.0, p.1)) result) }
 {
     if !may_join(add_joining(x.operator), &left) {
+        drop(left);
         return Err(Rejected::Rule(broken(RuleCode::Types, x.span)));
     }
     let (right, variables) = term(site, variables, &x.term)?;
@@ -216,6 +201,7 @@ fn next_factor(
     ensures { Judges (spec.next_factor_at site.entry.imports.now site.entry.scope.now site.entry.levels (left, variables) x.now) (result_map (λ p. (p.0, p.1)) result) }
 {
     if !may_join(mul_joining(x.operator), &left) {
+        drop(left);
         return Err(Rejected::Rule(broken(RuleCode::Types, x.span)));
     }
     let (right, variables) = factor(site, variables, &x.factor)?;
@@ -247,13 +233,42 @@ fn factor(
             value_named(site, variables, named)
         }
         Factor::Call(d, actuals) => {
-            let function = procedure(site.imports, site.scope, d)?;
-            call(site, variables, function, d.name.span, actuals.as_slice())
+            let actuals = actuals.as_slice();
+            let guard = guard_in(site.scope, d, actuals);
+            call_or_guard(site, variables, d, actuals, guard)
         }
         Factor::Parens(span, e) => nested(site, *span, variables, e.get()),
         Factor::Not(span, f) => {
             let (operand, variables) = deeper(site, *span, variables, f.get())?;
             Ok((negated(site.alloc, *span, operand)?, variables))
+        }
+    }
+}
+
+/// What looks like a call, and the name of the type where it is a guard.
+#[cycle(expression)]
+#[tactic(auto, unfolding(crate::specs::Expressions::call_or_guard))]
+fn call_or_guard(
+    site: Site<'_>,
+    variables: Variables,
+    d: &Written,
+    actuals: &[Expr],
+    guard: Option<NameOfType<'_>>,
+) -> Result<(Operand, Variables), Rejected>
+    ensures { Judges (spec.call_or_guard_at site.entry.imports.now site.entry.scope.now site.entry.levels variables d.now actuals.now (option_map written guard.entry)) result }
+{
+    match guard {
+        None => {
+            let function = procedure(site.imports, site.scope, d)?;
+            call(site, variables, function, d.name.span, actuals)
+        }
+        Some(name) => {
+            let variable = Lone {
+                variable: d,
+                guard: Some(name),
+            };
+            let (of, place, variables, _) = lone_read(site, variables, variable)?;
+            Ok((operand_of_variable(&of, place)?, variables))
         }
     }
 }
@@ -274,96 +289,161 @@ fn value_named(
             let value = TypedExpr::InputDone;
             Ok((Operand::Value(Basic::Boolean, value), variables))
         }
-        Named::Variable(of, variable, behind) => {
-            let whole = Designator::Whole(variable);
-            let (of, place, variables) = selected(site, of, whole, variables, behind)?;
-            Ok((operand_of_variable(of, place)?, variables))
+        Named::Variable(of, variable, told, behind) => {
+            let whole = (of.another()?, Designator::Whole(variable), variables, told);
+            let (of, place, variables, _) = selected(site, whole, behind)?;
+            Ok((operand_of_variable(&of, place)?, variables))
         }
     }
 }
 
+/// The variable that a name stands for, which is read, or a part of it. 12 at `span` where it is none.
+#[cycle(expression)]
+#[tactic(auto, unfolding(crate::specs::Expressions::variable_rule))]
+fn variable_named(
+    site: Site<'_>,
+    variables: Variables,
+    named: Named,
+    span: Span,
+) -> Result<Selected, Rejected>
+    ensures { Judges (spec.variable_at site.entry.imports.now site.entry.scope.now site.entry.levels (meant named.entry) variables) result }
+{
+    match named {
+        Named::Constant(_) | Named::InputDone => {
+            Err(Rejected::Rule(broken(RuleCode::Types, span)))
+        }
+        Named::Variable(of, variable, told, behind) => {
+            let whole = (of.another()?, Designator::Whole(variable), variables, told);
+            selected(site, whole, behind)
+        }
+    }
+}
+
+/// A guard behind a variable that is read as actual parameters.
+#[tactic(auto, unfolding(crate::specs::Expressions::after_guard))]
+fn after_guard(
+    site: Site<'_>,
+    guard: Option<NameOfType<'_>>,
+    at: Selected,
+) -> Result<Selected, Rejected>
+    ensures { Judges (spec.after_guard_at site.entry.imports.now site.entry.scope.now site.entry.levels (option_map written guard.entry) at) result }
+{
+    match guard {
+        None => Ok(at),
+        Some(name) => guarded(site, at, name),
+    }
+}
+
+/// A variable alone, guarded or not, that is read.
+#[cycle(expression)]
+#[tactic(auto, unfolding(crate::specs::Expressions::lone_read))]
+fn lone_read(site: Site<'_>, variables: Variables, x: Lone<'_>) -> Result<Selected, Rejected>
+    ensures { Judges (spec.lone_read_at site.entry.imports.now site.entry.scope.now site.entry.levels variables (lone x.entry)) result }
+{
+    let named = read(site.imports, site.scope, x.variable)?;
+    let at = variable_named(site, variables, named, x.variable.name.span)?;
+    after_guard(site, x.guard, at)
+}
+
 /// What selectors select.
 #[cycle(expression)]
-fn selected<'a>(
-    site: Site<'_>,
-    of: &'a ObType,
-    whole: Designator,
-    variables: Variables,
-    selectors: &[Selector],
-) -> Result<(&'a ObType, Designator, Variables), Rejected>
-    ensures { Judges (through (spec.selected_at site.entry.imports.now site.entry.scope.now site.entry.levels) (of.now, whole, variables) selectors.now) (result_map (λ p. (p.0.now, p.1, p.2)) result) }
+fn selected(site: Site<'_>, whole: Selected, selectors: &[Selector]) -> Result<Selected, Rejected>
+    ensures { Judges (through (spec.selected_at site.entry.imports.now site.entry.scope.now site.entry.levels) whole selectors.now) result }
 {
-    let mut so_far = (of, whole, variables);
+    let mut so_far = whole;
     for selector in selectors {
-        let (of, place, variables) = so_far;
-        so_far = next_selected(site, of, place, variables, selector)?;
+        so_far = next_selected(site, so_far, selector)?;
     }
     Ok(so_far)
+}
+
+/// The type of a field, and its place.
+fn field_at(
+    site: Site<'_>,
+    of: &ObType,
+    name: &Ident,
+    place: Designator,
+) -> Result<(ObType, Designator), Rejected>
+    ensures { Judges (selecting.field_of site.entry.scope.now of.now name.now.name place) result }
+{
+    let (field, part) = field_of(site.alloc, site.scope, of, name, place)?;
+    match field.another() {
+        Ok(field) => Ok((field, part)),
+        Err(_) => {
+            drop(part);
+            Err(Rejected::Memory)
+        }
+    }
+}
+
+/// What the name of a field selects.
+fn field_selected(site: Site<'_>, at: Selected, name: &Ident) -> Result<Selected, Rejected>
+    ensures { Judges (Then (selecting.field_of site.entry.scope.now at.0 name.now.name at.1) (λ p. Given (p.0, p.1, at.2, false))) result }
+{
+    let (of, place, variables, _) = at;
+    let (field, part) = field_at(site, &of, name, place)?;
+    Ok((field, part, variables, false))
 }
 
 /// What one selector more selects.
 #[cycle(expression)]
 #[tactic(auto, unfolding(ob_check_operand::specs::Selecting::selected))]
-fn next_selected<'a>(
-    site: Site<'_>,
-    of: &'a ObType,
-    place: Designator,
-    variables: Variables,
-    selector: &Selector,
-) -> Result<(&'a ObType, Designator, Variables), Rejected>
-    ensures { Judges (spec.selected_at site.entry.imports.now site.entry.scope.now site.entry.levels (of.now, place, variables) selector.now) (result_map (λ p. (p.0.now, p.1, p.2)) result) }
+fn next_selected(site: Site<'_>, at: Selected, selector: &Selector) -> Result<Selected, Rejected>
+    ensures { Judges (spec.selected_at site.entry.imports.now site.entry.scope.now site.entry.levels at selector.now) result }
 {
     match selector {
-        Selector::Field(name) => {
-            let (of, part) = field_of(site.alloc, site.scope, of, name, place)?;
-            Ok((of, part, variables))
-        }
-        Selector::Index(indexes) => elements(site, of, place, variables, indexes.as_slice()),
-        Selector::Guard(name) => { Err(Rejected::Rule(broken(RuleCode::LeftOut, name.first.span))) }
+        Selector::Field(name) => field_selected(site, at, name),
+        Selector::Index(indexes) => elements(site, at, indexes.as_slice()),
+        Selector::Guard(name) => guarded(site, at, name_of_type(name)),
     }
 }
 
 /// What indexes select.
 #[cycle(expression)]
-fn elements<'a>(
-    site: Site<'_>,
-    of: &'a ObType,
-    place: Designator,
-    variables: Variables,
-    indexes: &[Expr],
-) -> Result<(&'a ObType, Designator, Variables), Rejected>
-    ensures { Judges (through (spec.indexed_at site.entry.imports.now site.entry.scope.now site.entry.levels) (of.now, place, variables) indexes.now) (result_map (λ p. (p.0.now, p.1, p.2)) result) }
+fn elements(site: Site<'_>, at: Selected, indexes: &[Expr]) -> Result<Selected, Rejected>
+    ensures { Judges (through (spec.indexed_at site.entry.imports.now site.entry.scope.now site.entry.levels) at indexes.now) result }
 {
-    let mut so_far = (of, place, variables);
+    let mut so_far = at;
     for e in indexes {
-        let (of, place, variables) = so_far;
-        so_far = element(site, of, place, variables, e)?;
+        so_far = element(site, so_far, e)?;
     }
     Ok(so_far)
+}
+
+/// The element of an array at a place. A trap names the line.
+fn element_at(
+    alloc: Global,
+    place: Designator,
+    line: usize,
+    index: TypedExpr,
+) -> Result<Designator, Rejected>
+    ensures { Judges (Given (designator.Element place line index)) result }
+{
+    let array = Boxed::new(alloc, place)?;
+    Ok(Designator::Element(array, line, Boxed::new(alloc, index)?))
 }
 
 /// What one index more selects.
 #[cycle(expression)]
 #[tactic(auto, unfolding(ob_check_operand::specs::Selecting::indexed))]
-fn element<'a>(
-    site: Site<'_>,
-    of: &'a ObType,
-    place: Designator,
-    variables: Variables,
-    e: &Expr,
-) -> Result<(&'a ObType, Designator, Variables), Rejected>
-    ensures { Judges (spec.indexed_at site.entry.imports.now site.entry.scope.now site.entry.levels (of.now, place, variables) e.now) (result_map (λ p. (p.0.now, p.1, p.2)) result) }
+fn element(site: Site<'_>, at: Selected, e: &Expr) -> Result<Selected, Rejected>
+    ensures { Judges (spec.indexed_at site.entry.imports.now site.entry.scope.now site.entry.levels at e.now) result }
 {
+    let (array, place, variables, _) = at;
     let span = e.first_token();
-    let of = element_of(of, span)?;
+    let of = element_of(&array, span)?.another()?;
+    drop(array);
     let (operand, variables) = nested(site, span, variables, e)?;
-    let index = fitting(number_of(operand), RuleCode::Types, span)?;
-    let part = Designator::Element(
-        Boxed::new(site.alloc, place)?,
-        span.line,
-        Boxed::new(site.alloc, index)?,
-    );
-    Ok((of, part, variables))
+    match number_of(operand) {
+        Some(index) => {
+            let part = element_at(site.alloc, place, span.line, index)?;
+            Ok((of, part, variables, false))
+        }
+        None => {
+            drop(place);
+            Err(Rejected::Rule(broken(RuleCode::Types, span)))
+        }
+    }
 }
 
 /// A call that gives a value. What is called stands at `span`.
@@ -429,6 +509,7 @@ fn predeclared_call(
             let alone = is_alone(one);
             let (value, variables) = nested(site, span, variables, one)?;
             if !takes(function, alone, &value) {
+                drop(value);
                 return Err(Rejected::Rule(broken(RuleCode::Parameters, one.first_token())));
             }
             one_taken(site, function, alone, (value, variables), span, behind)
@@ -458,6 +539,7 @@ fn one_taken(
         [two, behind @ ..] => {
             let second = two.first_token();
             if shift_of(function).is_none() {
+                drop(left);
                 return Err(Rejected::Rule(broken(RuleCode::Parameters, second)));
             }
             let (right, variables) = nested(site, span, variables, two)?;
@@ -466,10 +548,12 @@ fn one_taken(
                     let value = two_of(site.alloc, function, span, left, right, second)?;
                     Ok((value, variables))
                 }
-                [three, ..] => Err(Rejected::Rule(broken(
-                    RuleCode::Parameters,
-                    three.first_token(),
-                ))),
+                [three, ..] => {
+                    // By calls, since both have many parts to be let go.
+                    drop(left);
+                    drop(right);
+                    Err(Rejected::Rule(broken(RuleCode::Parameters, three.first_token())))
+                }
             }
         }
     }
@@ -571,34 +655,33 @@ fn actual_of_kind(
     formal: &ObType,
     e: &Expr,
 ) -> Result<(Argument, Variables), Rejected>
-    ensures { Judges (spec.actual_rule (spec.expr_within site.entry.imports.now site.entry.scope.now site.entry.levels) (spec.target_within site.entry.imports.now site.entry.scope.now site.entry.levels) kind formal.now variables e.now) result }
+    ensures { Judges (spec.actual_rule (spec.expr_within site.entry.imports.now site.entry.scope.now site.entry.levels) (spec.target_within site.entry.imports.now site.entry.scope.now site.entry.levels) site.entry.scope.now kind formal.now variables e.now) result }
 {
     match kind {
         FormalKind::Variable => {
-            let d = alone(e);
-            let span = e.first_token();
-            variable_actual(site, variables, formal, d, span)
+            let variable = lone_variable(site.scope, e);
+            variable_actual(site, variables, formal, variable, e.first_token())
         }
         FormalKind::Value => value_actual(site, variables, formal, e),
     }
 }
 
 #[cycle(expression)]
-#[tactic(auto, unfolding(crate::specs::Expressions::variable_actual, crate::specs::Expressions::target_at))]
+#[tactic(auto, unfolding(crate::specs::Expressions::variable_actual))]
 fn variable_actual(
     site: Site<'_>,
     variables: Variables,
     formal: &ObType,
-    d: Option<&Written>,
+    variable: Option<Lone<'_>>,
     span: Span,
 ) -> Result<(Argument, Variables), Rejected>
-    ensures { Judges (spec.variable_actual (spec.target_within site.entry.imports.now site.entry.scope.now site.entry.levels) formal.now variables (option_copied d.entry)) result }
+    ensures { Judges (spec.variable_actual (spec.target_within site.entry.imports.now site.entry.scope.now site.entry.levels) formal.now variables (option_map lone variable.entry)) result }
 {
-    match d {
+    match variable {
         None => Err(Rejected::Rule(broken(RuleCode::ReadOnly, span))),
-        Some(d) => {
-            let (of, place, variables) = target_part(site, variables, d)?;
-            variable_argument(site.alloc, variables, formal, of, place, span)
+        Some(variable) => {
+            let at = lone_written(site, variables, variable)?;
+            variable_argument(site.alloc, FormalKind::Variable, formal, at, span)
         }
     }
 }
@@ -611,14 +694,14 @@ fn value_actual(
     formal: &ObType,
     e: &Expr,
 ) -> Result<(Argument, Variables), Rejected>
-    ensures { Judges (spec.value_actual (spec.expr_within site.entry.imports.now site.entry.scope.now site.entry.levels) formal.now variables e.now) result }
+    ensures { Judges (spec.value_actual (spec.expr_within site.entry.imports.now site.entry.scope.now site.entry.levels) site.entry.scope.now formal.now variables e.now) result }
 {
     let (operand, variables) = expr(site, variables, e)?;
     value_passed(
         site.alloc,
         variables,
         formal,
-        is_alone(e),
+        lone_variable(site.scope, e).is_some(),
         operand,
         e.first_token(),
     )
@@ -627,16 +710,27 @@ fn value_actual(
 /// A variable that may be written, or a part of one.
 #[cycle(expression)]
 #[tactic(auto, unfolding(crate::specs::Expressions::target_at, crate::specs::Expressions::target_rule))]
-pub fn target_part<'a>(
-    site: Site<'a>,
-    variables: Variables,
-    d: &'a Written,
-) -> Result<(&'a ObType, Designator, Variables), Rejected>
-    ensures { Judges (spec.target_at site.entry.imports.now site.entry.scope.now site.entry.levels variables d.now) (result_map (λ p. (p.0.now, p.1, p.2)) result) }
+pub fn target(site: Site<'_>, variables: Variables, d: &Written) -> Result<Selected, Rejected>
+    ensures { Judges (spec.target_at site.entry.imports.now site.entry.scope.now site.entry.levels variables d.now) result }
 {
     let target = written(site.imports, site.scope, d)?;
-    let whole = Designator::Whole(target.variable);
-    selected(site, target.of, whole, variables, target.behind)
+    let whole = (
+        target.of.another()?,
+        Designator::Whole(target.variable),
+        variables,
+        target.told,
+    );
+    selected(site, whole, target.behind)
+}
+
+/// A variable alone, guarded or not, that may be written.
+#[cycle(expression)]
+#[tactic(auto, unfolding(crate::specs::Expressions::lone_written, crate::specs::Expressions::target_at))]
+fn lone_written(site: Site<'_>, variables: Variables, x: Lone<'_>) -> Result<Selected, Rejected>
+    ensures { Judges (spec.target_within site.entry.imports.now site.entry.scope.now site.entry.levels variables (lone x.entry)) result }
+{
+    let at = target(site, variables, x.variable)?;
+    after_guard(site, x.guard, at)
 }
 
 #[cycle(expression)]

@@ -2,8 +2,9 @@
 //! typed ones.
 #![tactic(auto)]
 
+mod alone;
 mod expression;
 mod value;
 
-pub use expression::{actual, expr};
-pub use value::{actuals, assigned_value, basic_value, guard, number, target, truth};
+pub use expression::{actual, expr, target};
+pub use value::{actuals, assigned_value, basic_value, guard, number, truth};

@@ -4,29 +4,17 @@ ghost use Rattle.std.specs.Prelude.{◌≡◌};
 ghost use Rattle.ob_check_scope.specs.Rule.{Judges};
 ghost use Rattle.ob_check_expr.specs.Expressions as spec;
 
-use crate::expression::{all_passed, expr, target_part};
+use crate::expression::{all_passed, expr};
 use ob_base::Items;
 use ob_check_operand::operand::{Operand, fitting, number_of, truth_of, value_for};
 use ob_check_scope::Site;
 use ob_check_scope::rejected::Rejected;
 use ob_check_scope::rule::RuleCode;
 use ob_check_strings::Variables;
-use ob_mean::{Argument, Designator, TypedExpr};
+use ob_mean::{Argument, TypedExpr};
 use ob_scan::Span;
-use ob_tree::tree::{Designator as Written, Expr};
-use ob_types::{Basic, Formal, ObType};
-
-/// A variable that may be written, or a part of one, with its type.
-pub fn target(
-    site: Site<'_>,
-    variables: Variables,
-    d: &Written,
-) -> Result<(ObType, Designator, Variables), Rejected>
-    ensures { Judges (spec.target_at site.entry.imports.now site.entry.scope.now site.entry.levels variables d.now) result }
-{
-    let (of, place, variables) = target_part(site, variables, d)?;
-    Ok((of.another()?, place, variables))
-}
+use ob_tree::tree::Expr;
+use ob_types::{Basic, Formal};
 
 /// The actual parameters of a call, as many as there are formal ones. The called name stands at `span`.
 #[tactic(auto, unfolding(crate::specs::Expressions::actuals_at))]

@@ -28,7 +28,7 @@ use Rattle.ob_mean.specs.declared.statement.InputCall.TheVariants as incoming
 use Rattle.ob_mean.specs.declared.statement.OutputCall.TheVariants as outgoing
 use Rattle.ob_mean.specs.declared.statement.Reader.{Reader}
 use Rattle.ob_mean.specs.declared.statement.Reader.TheVariants as reader
-use Rattle.ob_mean.specs.WellFormed.{Names, Of, ExprFits, IndexesFit, IsPassed, IsBasic, IsText, IsRead, ActionFits, object_of, called}
+use Rattle.ob_mean.specs.WellFormed.{Names, IsBasic, IsText, IsRead, object_of, called}
 use Rattle.ob_check_scope.specs.declared.predeclared.InputName.{InputName}
 use Rattle.ob_check_scope.specs.declared.predeclared.InputName.TheVariants as in_name
 use Rattle.ob_check_scope.specs.declared.predeclared.OutputName.{OutputName}
@@ -45,17 +45,18 @@ use Rattle.ob_check_operand.specs.Operands.{Variables}
 use Rattle.ob_check_operand.specs.Named.{Callable}
 use Rattle.ob_check_operand.specs.Selecting.{part_as}
 use Rattle.ob_check_operand.specs.Named as meaning
-use Rattle.ob_check_stmt.specs.Assignments.{basic_of, is_open, is_left_out_copy, structured_assigned, assigned, assignment}
+use Rattle.ob_check_stmt.specs.Assignments.{basic_of, is_open, structured_assigned, assigned, assignment}
 use Rattle.ob_check_stmt.specs.Calls.{call_with, procedure_call, call_of, call}
 use Rattle.ob_check_stmt.specs.StandardCalls.{value_formal, variable_formal, reader_formal, place_passed, value_passed, none_left, without_actuals, number_inside, truth_inside, place_at, scalar_at, read_call, in_call, out_char, out_string, out_width, out_int, out_call, adjusted_by, adjusted, asserted, predeclared_call}
-use Rattle.ob_check_module.specs.Shapes.{shape_of, parameters_of}
-use Rattle.ob_check_module.proofs.ShapeForms.{parameter_open}
+use Rattle.ob_check_kinds.specs.Shapes.{shape_of, parameters_of}
+use Rattle.ob_check_kinds.proofs.ShapeForms.{parameter_open}
 use Rattle.ob_check_laws.specs.Fitting.{Suits, OperandFits, ScopeFits, StartsWith, heading_of}
 use Rattle.ob_check_laws.proofs.Bases.{part_fits}
 use Rattle.ob_check_laws.proofs.Expressions.{at_fits, target_at_fits, passed_fits, actuals_fit, value_for_fits, number_at_fits, truth_at_fits}
 use Rattle.ob_check_laws.proofs.Read.{CallableFits, called_fits}
 use Rattle.ob_check_laws.proofs.Rules.{there_is}
 use Rattle.ob_check_laws.proofs.Suiting.{never, nothing, closed_suits, elements_suit, char_basic}
+use Rattle.ob_check_laws.specs.Formed.{ExprFits, IndexesFit, IsPassed, ActionFits}
 
 -- an action, where the variables begin with these
 abbrev pub ActionIs : Names → Variables → Action × Variables → Type 0
@@ -134,18 +135,24 @@ unfolding place_passed
 basic_place names (argument.Place e) d h g = subst (λ x. IndexesFit names x × IsBasic (object_of names x)) h g
 basic_place names (argument.Open e) d h g = absurd g
 basic_place names (argument.Value e) d h g = absurd h
+basic_place names (argument.Typed e kind levels) d h g = absurd h
+basic_place names (argument.Again e levels) d h g = absurd h
 
 text_place : (names : Names) (a : Argument) (d : Designator) → gives (place_passed a) d → IsPassed names a (parameter.Open shape.Basic) → IndexesFit names d × IsText (object_of names d)
 unfolding place_passed
 text_place names (argument.Place e) d h g = absurd g
 text_place names (argument.Open e) d h g = subst (λ x. IndexesFit names x × IsText (object_of names x)) h g
 text_place names (argument.Value e) d h g = absurd h
+text_place names (argument.Typed e kind levels) d h g = absurd h
+text_place names (argument.Again e levels) d h g = absurd h
 
 passed_value : (names : Names) (a : Argument) (x : TypedExpr) → gives (value_passed a) x → IsPassed names a parameter.Value → ExprFits names x
 unfolding value_passed
 passed_value names (argument.Value e) x h g = subst (ExprFits names) h g
 passed_value names (argument.Place e) x h g = absurd h
 passed_value names (argument.Open e) x h g = absurd h
+passed_value names (argument.Typed e kind levels) x h g = absurd h
+passed_value names (argument.Again e levels) x h g = absurd h
 
 module _ (ms : Modules) (names : Names) (s : Scope) (scope : ScopeFits ms names s) (n : ℕ) where
   basic_at : (vs : Variables) (b : Basic) (e : Expr) (p : Designator × Variables) → gives (place_at ms s n vs (variable_formal b) e) p → StartsWith names.variables p.1 → (IndexesFit names p.0 × IsBasic (object_of names p.0)) × StartsWith names.variables vs

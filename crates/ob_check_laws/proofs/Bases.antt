@@ -1,42 +1,31 @@
 -- The bases of a record type, one after the other, and what stands at them in a variable.
-use Rattle.std.proofs.Common.{◌≡◌, inl, ℕ, zero, suc, Bool, true, false, cond, List, [], ◌∷◌, Option, Some, None, option_map, slice_get, refl, sym, ap, ◌∙◌, subst}
+use Rattle.std.proofs.Common.{◌≡◌, inl, ℕ, Bool, true, false, cond, List, [], ◌∷◌, Option, Some, None, option_map, slice_get, refl, sym, ap, ◌∙◌, subst}
 use Rattle.std.specs.Str.{bytes_eq}
 use Rattle.ob_types.specs.declared.structure.Field.{Field}
-use Rattle.ob_types.specs.declared.structure.RecordType.{RecordType, RecordType', out-RecordType}
+use Rattle.ob_types.specs.declared.structure.RecordType.{RecordType, out-RecordType}
 use Rattle.ob_types.specs.declared.structure.ObType.{ObType, end_of-ObType, more_of-ObType, out-ObType}
 use Rattle.ob_types.specs.declared.structure.ObType.TheVariants.{Basic as OfBasic, Array', Open', Record}
 use Rattle.ob_types.specs.declared.structure.ObType.TheBlock as block
 use Rattle.ob_types.specs.declared.structure.ObType.TheBlock.{Row_of-Field, end_of-Field, more_of-Field}
-use Rattle.ob_types.specs.Types.{same, chain, base_in, base_of, base_named, base_among}
+use Rattle.ob_types.specs.Types.{same, chain, base_of, base_named, base_among}
 use Rattle.ob_types.specs.Solid.{IsSolid, FieldsSolid}
 use Rattle.ob_types.proofs.Equations.{base_record}
 use Rattle.ob_types.proofs.SameType.{same_true}
 use Rattle.ob_mean.specs.declared.expression.Designator.{Designator}
 use Rattle.ob_mean.specs.declared.expression.Designator.TheVariants as designator
-use Rattle.ob_mean.specs.WellFormed.{Names, Object, Of, IndexesFit, field_in, field_shape, object_of, shape_object}
+use Rattle.ob_mean.specs.WellFormed.{Names, Of, field_in, field_shape, is_told, object_of, shape_object}
 use Rattle.ob_check_scope.specs.declared.scope.Scope.{Scope}
 use Rattle.ob_check_scope.specs.Rule.{gives}
 use Rattle.ob_check_operand.specs.Selecting.{FoundField, own_layer, nearest, field_along, field_from, field_of, seen_field, part_as}
 use Rattle.ob_check_operand.proofs.Chains.{field_from_base, field_step, part_from_base, part_step}
-use Rattle.ob_check_module.specs.Shapes.{shape_of, shapes_in}
-use Rattle.ob_check_module.proofs.ShapeForms.{shape_record}
+use Rattle.ob_check_kinds.specs.Shapes.{shape_of, shapes_in}
+use Rattle.ob_check_kinds.proofs.KindFits.{along}
+use Rattle.ob_check_kinds.proofs.ShapeForms.{shape_record}
 use Rattle.ob_check_laws.specs.Fitting.{Suits}
-use Rattle.ob_check_laws.proofs.Forms.{field_fits, field_object}
+use Rattle.ob_check_laws.proofs.Forms.{field_fits, field_object, field_told}
 use Rattle.ob_check_laws.proofs.Suiting.{nothing, some_same, closed_suits, record_fields, record_not_open, found_field}
 use Rattle.ob_check_laws.proofs.Solid.{record_solid, found_solid}
-
--- what holds of a type where it holds of its base holds of each
-mutual
-  pub along : (P : ObType → Type 0) → ((t : ObType) → ((b : ObType) → base_of t ≡ Some b → P b) → P t) → (t : ObType) → P t
-  along P step (OfBasic x) = step (OfBasic x) (λ b e. nothing b e)
-  along P step (Array' n p x) = step (Array' n p x) (λ b e. nothing b e)
-  along P step (Open' p x) = step (Open' p x) (λ b e. nothing b e)
-  along P step (Record (RecordType' name k fields)) = step (Record (RecordType' name k fields)) (below P step fields)
-
-  below : (P : ObType → Type 0) → ((t : ObType) → ((b : ObType) → base_of t ≡ Some b → P b) → P t) → {k : _} (fields : Row_of-Field k) (b : ObType) → base_in fields ≡ Some b → P b
-  below P step end_of-Field b e = nothing b e
-  below P step (more_of-Field [] exported of rest) b e = subst P (some_same of b e) (along P step of)
-  below P step (more_of-Field (c ∷ cs) exported of rest) b e = nothing b e
+use Rattle.ob_check_laws.specs.Formed.{IndexesFit}
 
 -- a base is the first field
 named_is : (name : List ℕ) (of b : ObType) → base_named name of ≡ Some b → of ≡ b
@@ -106,19 +95,19 @@ own_suits names (Record r) name p d h g s = by (field_from 0 (out-RecordType r).
         (part_object names r d q.0 g ∙ ap shape_object (found_field (out-RecordType r).fields name q e), found_solid 0 (out-RecordType r).fields name q (subst (λ x. x) (record_solid r) s) e)
 
 abbrev FieldFits : Names → List ℕ → ObType → Type 0
-FieldFits names name t = (d : Designator) (q : FoundField) → field_along (chain t) name d ≡ Some q → IndexesFit names d → Suits t (object_of names d) → IsSolid t → IndexesFit names q.2 × (object_of names q.2 ≡ Some (Of (shape_of q.1.of))) × IsSolid q.1.of
+FieldFits names name t = (d : Designator) (q : FoundField) → field_along (chain t) name d ≡ Some q → IndexesFit names d → Suits t (object_of names d) → IsSolid t → IndexesFit names q.2 × (object_of names q.2 ≡ Some (Of (shape_of q.1.of))) × IsSolid q.1.of × (is_told names q.2 ≡ false)
 
-field_below : (names : Names) (name : List ℕ) (t : ObType) → ((b : ObType) → base_of t ≡ Some b → FieldFits names name b) → (o : Option ObType) → base_of t ≡ o → (d : Designator) (q : FoundField) → field_from_base o name d ≡ Some q → IndexesFit names d → Suits t (object_of names d) → IsSolid t → IndexesFit names q.2 × (object_of names q.2 ≡ Some (Of (shape_of q.1.of))) × IsSolid q.1.of
+field_below : (names : Names) (name : List ℕ) (t : ObType) → ((b : ObType) → base_of t ≡ Some b → FieldFits names name b) → (o : Option ObType) → base_of t ≡ o → (d : Designator) (q : FoundField) → field_from_base o name d ≡ Some q → IndexesFit names d → Suits t (object_of names d) → IsSolid t → IndexesFit names q.2 × (object_of names q.2 ≡ Some (Of (shape_of q.1.of))) × IsSolid q.1.of × (is_told names q.2 ≡ false)
 field_below names name t more None k d q h g s v = nothing q h
 field_below names name t more (Some b) k d q h g s v =
     more b k (designator.Field d 0) q h (field_fits names d 0 g) (inl (base_object names t b d k s)) (base_solid t b k v)
 
-field_here : (names : Names) (name : List ℕ) (t : ObType) → ((b : ObType) → base_of t ≡ Some b → FieldFits names name b) → (o : Option (List ℕ × ℕ × Field)) → own_layer (out-ObType t) name ≡ o → (d : Designator) (q : FoundField) → nearest d o (field_from_base (base_of t) name d) ≡ Some q → IndexesFit names d → Suits t (object_of names d) → IsSolid t → IndexesFit names q.2 × (object_of names q.2 ≡ Some (Of (shape_of q.1.of))) × IsSolid q.1.of
+field_here : (names : Names) (name : List ℕ) (t : ObType) → ((b : ObType) → base_of t ≡ Some b → FieldFits names name b) → (o : Option (List ℕ × ℕ × Field)) → own_layer (out-ObType t) name ≡ o → (d : Designator) (q : FoundField) → nearest d o (field_from_base (base_of t) name d) ≡ Some q → IndexesFit names d → Suits t (object_of names d) → IsSolid t → IndexesFit names q.2 × (object_of names q.2 ≡ Some (Of (shape_of q.1.of))) × IsSolid q.1.of × (is_told names q.2 ≡ false)
 field_here names name t more None k d q h g s v = field_below names name t more (base_of t) refl d q h g s v
 field_here names name t more (Some p) k d q h g s v =
     let f = own_suits names t name p d k s v in
-    subst (λ (x : FoundField). IndexesFit names x.2 × (object_of names x.2 ≡ Some (Of (shape_of x.1.of))) × IsSolid x.1.of) (some_same (p.0, p.2, designator.Field d p.1) q h)
-    (field_fits names d p.1 g, f.0, f.1)
+    subst (λ (x : FoundField). IndexesFit names x.2 × (object_of names x.2 ≡ Some (Of (shape_of x.1.of))) × IsSolid x.1.of × (is_told names x.2 ≡ false)) (some_same (p.0, p.2, designator.Field d p.1) q h)
+    (field_fits names d p.1 g, f.0, f.1, field_told names d p.1)
 
 along_fits : (names : Names) (name : List ℕ) (t : ObType) → FieldFits names name t
 along_fits names name = along (FieldFits names name) (λ t more d q h g s v. field_here names name t more (own_layer (out-ObType t) name) refl d q (sym (field_step t name d) ∙ h) g s v)
@@ -128,12 +117,12 @@ unfolding seen_field
 seen_is home own None p h = absurd h
 seen_is home own (Some q) p h = (q, refl, h.1)
 
-pub field_suits : (names : Names) (s : Scope) (t : ObType) (name : List ℕ) (d : Designator) (p : ObType × Designator) → gives (field_of s t name d) p → IndexesFit names d → Suits t (object_of names d) → IsSolid t → IndexesFit names p.1 × (object_of names p.1 ≡ Some (Of (shape_of p.0))) × IsSolid p.0
+pub field_suits : (names : Names) (s : Scope) (t : ObType) (name : List ℕ) (d : Designator) (p : ObType × Designator) → gives (field_of s t name d) p → IndexesFit names d → Suits t (object_of names d) → IsSolid t → IndexesFit names p.1 × (object_of names p.1 ≡ Some (Of (shape_of p.0))) × IsSolid p.0 × (is_told names p.1 ≡ false)
 unfolding block.hidden-the_row-ObType-0 denote.Hole.Carrier.hidden block.shown-the_row-ObType-0 denote.Hole.Carrier.shown out-ObType denote.Hole.Carrier.out field_of
 field_suits names s (OfBasic x) name d p h g k v = absurd h
 field_suits names s (Array' n w (more_of-ObType x end_of-ObType)) name d p h g k v = absurd h
 field_suits names s (Open' w (more_of-ObType x end_of-ObType)) name d p h g k v = absurd h
 field_suits names s (Record r) name d p h g k v =
     let q = seen_is s.module_name (bytes_eq (out-RecordType r).name.module_name s.module_name) (field_along (chain (Record r)) name d) p h in
-    subst (λ (x : ObType × Designator). IndexesFit names x.1 × (object_of names x.1 ≡ Some (Of (shape_of x.0))) × IsSolid x.0) q.2
+    subst (λ (x : ObType × Designator). IndexesFit names x.1 × (object_of names x.1 ≡ Some (Of (shape_of x.0))) × IsSolid x.0 × (is_told names x.1 ≡ false)) q.2
     (along_fits names name (Record r) d q.0 q.1 g k v)

@@ -15,7 +15,7 @@ use Rattle.ob_mean.specs.declared.module.Parameter.{Parameter}
 use Rattle.ob_mean.specs.declared.module.Parameter.TheVariants as parameter
 use Rattle.ob_mean.specs.declared.shape.Shape.{Shape}
 use Rattle.ob_mean.specs.declared.shape.Shape.TheVariants as shape
-use Rattle.ob_mean.specs.WellFormed.{Names, Of, variable_object, module_object, own_object, value_object, named_object, shape_object, own_heading}
+use Rattle.ob_mean.specs.WellFormed.{Names, Of, is_extended, is_told_variable, variable_object, module_object, own_object, value_object, named_object, shape_object, own_heading}
 use Rattle.ob_check_scope.specs.declared.block.Declared.{Declared}
 use Rattle.ob_check_scope.specs.declared.block.Entry.{Entry}
 use Rattle.ob_check_scope.specs.declared.block.Entry.TheVariants as entry
@@ -30,8 +30,9 @@ use Rattle.ob_check_decl.specs.Headings.{kind_of, standing_of, no_parameters, pa
 use Rattle.ob_check_scope.specs.Rule.{gives}
 use Rattle.ob_check_scope.specs.Scope.{seen, nearer, seen_inside, nearest, is_seen_inside, in_heading}
 use Rattle.ob_check_module.specs.Procedures.{own_shape, own_shapes}
-use Rattle.ob_check_module.specs.Shapes.{shape_of, parameter_of, parameters_of}
-use Rattle.ob_check_laws.specs.Fitting.{Suits, EntryFits, ScopeFits, StartsWith, heading_of, loaded_face}
+use Rattle.ob_check_kinds.specs.Shapes.{shape_of, parameter_of, parameters_of}
+use Rattle.ob_check_operand.specs.Names.{tells}
+use Rattle.ob_check_laws.specs.Fitting.{Suits, EntryFits, ScopeFits, StartsWith, heading_of, loaded_face, TellsRight}
 use Rattle.ob_check_laws.proofs.Grows.{part, same}
 use Rattle.ob_check_laws.proofs.Rules.{if_some, joined_none, joined_thrice, starts_reads, through_keeps}
 use Rattle.ob_types.specs.Solid.{IsSolid}
@@ -52,7 +53,8 @@ placed base (standing.ReadOnly i) = variable.ByParameter i
 abbrev pub EntryOf : Modules → Names → ℕ → Entry → Type 0
 EntryOf ms names base (entry.Constant c) = Unit {0}
 EntryOf ms names base (entry.TypeName t) = IsSolid t
-EntryOf ms names base (entry.Variable t place) = Suits t (variable_object names (placed base place)) × IsSolid t
+EntryOf ms names base (entry.Variable t place) =
+    Suits t (variable_object names (placed base place)) × IsSolid t × TellsRight t (tells place) (is_told_variable names (placed base place))
 EntryOf ms names base (entry.Procedure p n) = own_heading (slice_get names.procedures n) ≡ Some (heading_of p)
 EntryOf ms names base entry.In = Unit {0}
 EntryOf ms names base entry.Out = Unit {0}
@@ -79,8 +81,8 @@ within names ps own = record { faces = names.faces; variables = names.variables;
 pub outer_of : (ms : Modules) (names : Names) (ps : List Parameter) (own : List Shape) (base : ℕ) (e : Entry) → EntryOf ms (within names ps own) base e → OuterOf ms names base e
 outer_of ms names ps own base (entry.Constant c) h = tt
 outer_of ms names ps own base (entry.TypeName t) h = h
-outer_of ms names ps own base (entry.Variable t (standing.Exported i)) h = h
-outer_of ms names ps own base (entry.Variable t (standing.Own i)) h = h
+outer_of ms names ps own base (entry.Variable t (standing.Exported i)) h = (h.0, h.1)
+outer_of ms names ps own base (entry.Variable t (standing.Own i)) h = (h.0, h.1)
 outer_of ms names ps own base (entry.Variable t (standing.Local i)) h = h.1
 outer_of ms names ps own base (entry.Variable t (standing.ByParameter i)) h = h.1
 outer_of ms names ps own base (entry.Variable t (standing.ReadOnly i)) h = h.1
@@ -92,8 +94,8 @@ outer_of ms names ps own base (entry.Module i place) h = h
 of_outer : (ms : Modules) (names : Names) (ps : List Parameter) (own : List Shape) (base : ℕ) (e : Entry) → is_seen_inside e ≡ true → OuterOf ms names base e → EntryOf ms (within names ps own) base e
 of_outer ms names ps own base (entry.Constant c) k h = tt
 of_outer ms names ps own base (entry.TypeName t) k h = h
-of_outer ms names ps own base (entry.Variable t (standing.Exported i)) k h = h
-of_outer ms names ps own base (entry.Variable t (standing.Own i)) k h = h
+of_outer ms names ps own base (entry.Variable t (standing.Exported i)) k h = (h.0, h.1, λ r. refl)
+of_outer ms names ps own base (entry.Variable t (standing.Own i)) k h = (h.0, h.1, λ r. refl)
 of_outer ms names ps own base (entry.Variable t (standing.Local i)) k h = never k
 of_outer ms names ps own base (entry.Variable t (standing.ByParameter i)) k h = never k
 of_outer ms names ps own base (entry.Variable t (standing.ReadOnly i)) k h = never k
@@ -202,14 +204,14 @@ own_behind (p ∷ ps) own j (suc i) h = own_behind ps own j i (omega arith)
 
 parameter_entry : (ms : Modules) (names : Names) (base : ℕ) (var : Bool) (t : ObType) (i : ℕ) (ps : List Parameter) (own : List Shape) → IsSolid t → slice_get ps i ≡ Some (parameter_of (kind_of var) t) → EntryOf ms (within names ps own) base (entry.Variable t (standing_of var t i))
 unfolding block.hidden-the_row-ObType-0 denote.Hole.Carrier.hidden
-parameter_entry ms names base true (OfBasic b) i ps own s h = (inl (ap named_object h), s)
-parameter_entry ms names base true (Array' n p (more_of-ObType x end_of-ObType)) i ps own s h = (inl (ap named_object h), s)
-parameter_entry ms names base true (Open' p (more_of-ObType x end_of-ObType)) i ps own s h = (inr (x, refl, ap named_object h), s)
-parameter_entry ms names base true (Record r) i ps own s h = (inl (ap named_object h), s)
-parameter_entry ms names base false (OfBasic b) i ps own s h = (inl (own_value ps own i h), s)
-parameter_entry ms names base false (Array' n p (more_of-ObType x end_of-ObType)) i ps own s h = (inl (ap named_object h), s)
-parameter_entry ms names base false (Open' p (more_of-ObType x end_of-ObType)) i ps own s h = (inr (x, refl, ap named_object h), s)
-parameter_entry ms names base false (Record r) i ps own s h = (inl (ap named_object h), s)
+parameter_entry ms names base true (OfBasic b) i ps own s h = (inl (ap named_object h), s, λ r. never r)
+parameter_entry ms names base true (Array' n p (more_of-ObType x end_of-ObType)) i ps own s h = (inl (ap named_object h), s, λ r. never r)
+parameter_entry ms names base true (Open' p (more_of-ObType x end_of-ObType)) i ps own s h = (inr (x, refl, ap named_object h), s, λ r. never r)
+parameter_entry ms names base true (Record r) i ps own s h = (inl (ap named_object h), s, λ k. sym (ap is_extended h))
+parameter_entry ms names base false (OfBasic b) i ps own s h = (inl (own_value ps own i h), s, λ r. never r)
+parameter_entry ms names base false (Array' n p (more_of-ObType x end_of-ObType)) i ps own s h = (inl (ap named_object h), s, λ r. never r)
+parameter_entry ms names base false (Open' p (more_of-ObType x end_of-ObType)) i ps own s h = (inr (x, refl, ap named_object h), s, λ r. never r)
+parameter_entry ms names base false (Record r) i ps own s h = (inl (ap named_object h), s, λ k. sym (ap is_extended h))
 
 parameters_more : (fs : List Formal) (f : Formal) → parameters_of (fs ++ f ∷ []) ≡ parameters_of fs ++ parameter_of f.kind f.of ∷ []
 parameters_more [] f = refl

@@ -22,7 +22,7 @@ use Rattle.ob_mean.specs.declared.expression.Callee.{Callee}
 use Rattle.ob_mean.specs.declared.expression.Designator.TheVariants as designator
 use Rattle.ob_mean.specs.declared.expression.TypedExpr.{TypedExpr}
 use Rattle.ob_mean.specs.declared.module.Parameter.{Parameter}
-use Rattle.ob_mean.specs.WellFormed.{Names, ExprFits, IndexesFit, ListPassed, object_of, called, shape_object}
+use Rattle.ob_mean.specs.WellFormed.{Names, is_told, object_of, called, shape_object}
 use Rattle.ob_check_scope.specs.declared.predeclared.Function.{Function}
 use Rattle.ob_check_scope.specs.declared.scope.Scope.{Scope}
 use Rattle.ob_check_const.specs.Constants.{FactorLayer, SelectorLayer, RelatedLayer}
@@ -36,19 +36,25 @@ use Rattle.ob_check_operand.specs.Joining.{mul_joining, add_joining}
 use Rattle.ob_check_operand.specs.Relations.{relation_of}
 use Rattle.ob_check_operand.specs.Functions.{one_of}
 use Rattle.ob_check_operand.specs.Selecting.{Selected, selected, indexed, selector_layer, element_of}
+use Rattle.ob_check_expr.specs.Alone.{LoneVariable, alone, guard_in, lone_sum, lone_variable}
+use Rattle.ob_tree.specs.declared.tree.Qualident.{Qualident}
+use Rattle.ob_tree.specs.declared.tree.Relation.{Relation}
+use Rattle.ob_scan.specs.declared.token.Span.{Span}
 use Rattle.ob_check_operand.specs.Named.{Meant, Callable}
 use Rattle.ob_check_operand.specs.Named as meaning
-use Rattle.ob_check_expr.specs.Expressions.{Typed, Joining, Passing, alone, meant_rule, target_rule, two_taken, one_taken, predeclared_rule, one_passed, next_passed, none_left, all_passed, function_rule, call_rule, factor_layer, factor_rule, next_factor, term_rule, added_term, simple_rule, related_layer, related_rule, expr_rule, variable_actual, value_actual, actual_rule, inner_at, deeper_at, passed_at, expr_at, target_at, actuals_at, is_value, value_at, value_for_at, guard_at, number_at, truth_at}
-use Rattle.ob_check_module.specs.Shapes.{parameters_of}
-use Rattle.ob_check_laws.specs.Fitting.{Suits, OperandFits, ScopeFits, StartsWith}
+use Rattle.ob_check_expr.specs.Expressions.{Typed, Joining, Passing, meant_rule, variable_rule, after_guard, lone_read, lone_written, call_or_guard, relation_rule, test_rule, target_rule, two_taken, one_taken, predeclared_rule, one_passed, next_passed, none_left, all_passed, function_rule, call_rule, factor_layer, factor_rule, next_factor, term_rule, added_term, simple_rule, related_layer, related_rule, expr_rule, variable_actual, value_actual, actual_rule, inner_at, deeper_at, passed_at, expr_at, target_at, actuals_at, is_value, value_at, value_for_at, guard_at, number_at, truth_at}
+use Rattle.ob_check_kinds.specs.Shapes.{parameters_of}
+use Rattle.ob_check_laws.specs.Fitting.{Suits, TellsRight, OperandFits, ScopeFits, StartsWith}
 use Rattle.ob_check_laws.proofs.Bases.{field_suits}
-use Rattle.ob_check_laws.proofs.Forms.{function_fits, element_fits, element_object}
+use Rattle.ob_check_laws.proofs.Forms.{function_fits, element_fits, element_object, element_told}
+use Rattle.ob_check_laws.proofs.Guards.{SelectedFits, guarded_is, tested_is}
 use Rattle.ob_check_laws.proofs.Operands.{TypedFits, PassedFits, JoinedFits, number_fits, truth_fits, value_fits, constant_fits, variable_operand, operand_joined, sum_fits, product_fits, signed_fits, negated_fits, one_fits, two_fits, related_fits, variable_argument_fits, value_passed_fits}
 use Rattle.ob_check_laws.proofs.Read.{MeantFits, CallableFits, read_fits, written_fits, called_fits}
 use Rattle.ob_check_laws.proofs.Rules.{joined_none, there_is, through_keeps, joined as one_behind}
 use Rattle.ob_types.specs.Solid.{IsSolid}
 use Rattle.ob_check_laws.proofs.Solid.{element_solid}
 use Rattle.ob_check_laws.proofs.Suiting.{elements_suit, some_same, nothing}
+use Rattle.ob_check_laws.specs.Formed.{ExprFits, IndexesFit, ListPassed}
 
 -- ---- what holds of the rules for what is inside
 
@@ -63,10 +69,6 @@ EachPassed names passed = (f : Formal) (vs : Variables) (e : Expr) (p : Argument
 
 -- ---- designators
 
-abbrev pub SelectedFits : Names → Variables → Selected → Type 0
-SelectedFits names vs p =
-    StartsWith names.variables p.2 → IndexesFit names p.1 × Suits p.0 (object_of names p.1) × StartsWith names.variables vs × IsSolid p.0
-
 module _ (names : Names) (inner : Variables → Expr → Rule Typed) (fits : InnerFits names inner) where
   indexed_fits : (start : Variables) (at : Selected) (e : Expr) (p : Selected) → gives (indexed inner at e) p → SelectedFits names start at → SelectedFits names start p
   unfolding indexed
@@ -76,41 +78,64 @@ module _ (names : Names) (inner : Variables → Expr → Rule Typed) (fits : Inn
       let q = subst (λ x. StartsWith names.variables x.2) (sym i.2) s in
       let inside = fits at.2 e v.0 v.1 q in
       let k = g inside.1 in
-      subst (λ x. IndexesFit names x.1 × Suits x.0 (object_of names x.1) × StartsWith names.variables start × IsSolid x.0) i.2 (
+      subst (λ (x : Selected). IndexesFit names x.1 × Suits x.0 (object_of names x.1) × StartsWith names.variables start × IsSolid x.0 × TellsRight x.0 x.3 (is_told names x.1)) i.2 (
         element_fits names at.1 (first_of e).line i.0 k.0 (number_fits names v.0.0 i.0 (there_is (number_of v.0.0) code.Types i.0 i.1) inside.0),
         inl (element_object names at.1 (first_of e).line i.0 ∙ ap shape_object (elements_suit at.0 h.0 (object_of names at.1) (there_is (element_of at.0) code.Types h.0 h.1) k.1)),
         k.2,
         element_solid at.0 h.0 (there_is (element_of at.0) code.Types h.0 h.1) k.3,
+        λ r. sym (element_told names at.1 (first_of e).line i.0),
       )
 
-  layer_fits : (s : Scope) (start : Variables) (at : Selected) (l : SelectorLayer) (p : Selected) → gives (selector_layer inner s at l) p → SelectedFits names start at → SelectedFits names start p
-  layer_fits s start at (Selector-F.Field f) p h g t =
+  layer_fits : (ms : Modules) (s : Scope) (start : Variables) (at : Selected) (l : SelectorLayer) (p : Selected) → gives (selector_layer inner ms s at l) p → SelectedFits names start at → SelectedFits names start p
+  layer_fits ms s start at (Selector-F.Field f) p h g t =
       let q = subst (λ x. StartsWith names.variables x.2) (sym h.2) t in
       let k = g q in
-      let p = field_suits names s at.0 f.name at.1 h.0 h.1 k.0 k.1 k.3 in
-      subst (λ x. IndexesFit names x.1 × Suits x.0 (object_of names x.1) × StartsWith names.variables start × IsSolid x.0) h.2 (p.0, inl p.1, k.2, p.2)
-  layer_fits s start at (Selector-F.Index es) p h g t =
+      let f = field_suits names s at.0 f.name at.1 h.0 h.1 k.0 k.1 k.3 in
+      subst (λ (x : Selected). IndexesFit names x.1 × Suits x.0 (object_of names x.1) × StartsWith names.variables start × IsSolid x.0 × TellsRight x.0 x.3 (is_told names x.1)) h.2 (f.0, inl f.1, k.2, f.2, λ r. sym f.3)
+  layer_fits ms s start at (Selector-F.Index es) p h g t =
       through_keeps (SelectedFits names start) (indexed inner) (λ a e b k c. indexed_fits start a e b k c) at es p h g t
-  layer_fits s start at (Selector-F.Guard q) p h g t = absurd h
+  layer_fits ms s start at (Selector-F.Guard q) p h g t = guarded_is names ms s start at q p h g t
 
-  selected_fits : (s : Scope) (start : Variables) (at : Selected) (x : Selector) (p : Selected) → gives (selected inner s at x) p → SelectedFits names start at → SelectedFits names start p
+  selected_fits : (ms : Modules) (s : Scope) (start : Variables) (at : Selected) (x : Selector) (p : Selected) → gives (selected inner ms s at x) p → SelectedFits names start at → SelectedFits names start p
   unfolding selected
-  selected_fits s start at x p h g = layer_fits s start at (out-Selector x) p h g
+  selected_fits ms s start at x p h g = layer_fits ms s start at (out-Selector x) p h g
 
-  meant_fits : (s : Scope) (m : Meant) (vs : Variables) (p : Typed) → gives (meant_rule inner s m vs) p → MeantFits names m → TypedFits names vs p
+  meant_fits : (ms : Modules) (s : Scope) (m : Meant) (vs : Variables) (p : Typed) → gives (meant_rule inner ms s m vs) p → MeantFits names m → TypedFits names vs p
   unfolding meant_rule
-  meant_fits s (meaning.Constant c) vs p h g t = (subst (λ x. OperandFits names x.0) h (constant_fits names c), subst (λ x. StartsWith names.variables x.1) (sym h) t)
-  meant_fits s meaning.InputDone vs p h g t = (subst (λ x. OperandFits names x.0) h tt, subst (λ x. StartsWith names.variables x.1) (sym h) t)
-  meant_fits s (meaning.Variable t v xs) vs p h g u =
+  meant_fits ms s (meaning.Constant c) vs p h g t = (subst (λ x. OperandFits names x.0) h (constant_fits names c), subst (λ x. StartsWith names.variables x.1) (sym h) t)
+  meant_fits ms s meaning.InputDone vs p h g t = (subst (λ x. OperandFits names x.0) h tt, subst (λ x. StartsWith names.variables x.1) (sym h) t)
+  meant_fits ms s (meaning.Variable t v told xs) vs p h g u =
       let q = subst (λ x. StartsWith names.variables x.1) (sym h.2) u in
-      let k = through_keeps (SelectedFits names vs) (selected inner s) (λ a e b k c. selected_fits s vs a e b k c) (t, designator.Whole v, vs) xs h.0 h.1 (λ w. (tt, g.0, w, g.1)) q in
+      let k = through_keeps (SelectedFits names vs) (selected inner ms s) (λ a e b k c. selected_fits ms s vs a e b k c) (t, designator.Whole v, vs, told) xs h.0 h.1 (λ w. (tt, g.0, w, g.1, g.2)) q in
       (subst (λ x. OperandFits names x.0) h.2 (variable_operand names h.0.0 h.0.1 k.0 k.1 k.3), k.2)
 
-  pub target_fits : (ms : Modules) (s : Scope) → ScopeFits ms names s → (vs : Variables) (d : Written) (p : Selected) → gives (target_rule inner s ms vs d) p → SelectedFits names vs p
+  pub target_fits : (ms : Modules) (s : Scope) → ScopeFits ms names s → (vs : Variables) (d : Written) (p : Selected) → gives (target_rule inner ms s vs d) p → SelectedFits names vs p
   unfolding target_rule
   target_fits ms s scope vs d p h =
-      through_keeps (SelectedFits names vs) (selected inner s) (λ a e b k c. selected_fits s vs a e b k c) (h.0.0, designator.Whole h.0.1, vs) h.0.2 p h.2
-      (λ w. (tt, (written_fits ms names s d h.0 scope h.1).0, w, (written_fits ms names s d h.0 scope h.1).1))
+      let g = written_fits ms names s d h.0 scope h.1 in
+      through_keeps (SelectedFits names vs) (selected inner ms s) (λ a e b k c. selected_fits ms s vs a e b k c) (h.0.0, designator.Whole h.0.1, vs, h.0.2) h.0.3 p h.2
+      (λ w. (tt, g.0, w, g.1, g.2))
+
+  variable_fits : (ms : Modules) (s : Scope) (m : Meant) (vs : Variables) (p : Selected) → gives (variable_rule inner ms s m vs) p → MeantFits names m → SelectedFits names vs p
+  unfolding variable_rule
+  variable_fits ms s (meaning.Constant c) vs p h g = absurd h
+  variable_fits ms s meaning.InputDone vs p h g = absurd h
+  variable_fits ms s (meaning.Variable t v told xs) vs p h g =
+      through_keeps (SelectedFits names vs) (selected inner ms s) (λ a e b k c. selected_fits ms s vs a e b k c) (t, designator.Whole v, vs, told) xs p h (λ w. (tt, g.0, w, g.1, g.2))
+
+  after_fits : (ms : Modules) (s : Scope) (start : Variables) (q : Option Qualident) (at p : Selected) → gives (after_guard inner ms s q at) p → SelectedFits names start at → SelectedFits names start p
+  unfolding after_guard
+  after_fits ms s start None at p h g = subst (SelectedFits names start) h g
+  after_fits ms s start (Some q) at p h g = guarded_is names ms s start at q p h g
+
+  lone_read_fits : (ms : Modules) (s : Scope) → ScopeFits ms names s → (vs : Variables) (x : LoneVariable) (p : Selected) → gives (lone_read inner ms s vs x) p → SelectedFits names vs p
+  unfolding lone_read
+  lone_read_fits ms s scope vs x p h =
+      after_fits ms s vs x.1 (h.2).0 p (h.2).2 (variable_fits ms s h.0 vs (h.2).0 (h.2).1 (read_fits ms names s x.0 h.0 scope h.1))
+
+  lone_written_fits : (ms : Modules) (s : Scope) → ScopeFits ms names s → (vs : Variables) (x : LoneVariable) (p : Selected) → gives (lone_written inner ms s vs x) p → SelectedFits names vs p
+  unfolding lone_written
+  lone_written_fits ms s scope vs x p h = after_fits ms s vs x.1 h.0 p h.2 (target_fits ms s scope vs x.0 h.0 h.1)
 
   -- ---- predeclared functions
 
@@ -190,12 +215,19 @@ module _ (ms : Modules) (names : Names) (s : Scope) (scope : ScopeFits ms names 
   same_variables : (vs : Variables) (o : Operand) (p : Typed) → (o, vs) ≡ p → OperandFits names o → TypedFits names vs p
   same_variables vs o p e h t = (subst (λ x. OperandFits names x.0) e h, subst (λ x. StartsWith names.variables x.1) (sym e) t)
 
+  or_guard_fits : (vs : Variables) (d : Written) (es : List Expr) (q : Option Qualident) (p : Typed) → gives (call_or_guard inner deeper passed ms s vs d es q) p → TypedFits names vs p
+  unfolding call_or_guard
+  or_guard_fits vs d es None p h t = call_fits h.0 (out-Designator d).name.span.line vs es p (called_fits ms names s d h.0 scope h.1) h.2 t
+  or_guard_fits vs d es (Some q) p h t =
+      let k = lone_read_fits names inner inside ms s scope vs (d, Some q) h.0 h.1 (subst (λ (x : Typed). StartsWith names.variables x.1) (sym h.2) t) in
+      (subst (λ (x : Typed). OperandFits names x.0) h.2 (variable_operand names h.0.0 h.0.1 k.0 k.1 k.3), k.2)
+
   layer_of_factor : (vs : Variables) (l : FactorLayer) (p : Typed) → gives (factor_layer inner deeper passed ms s vs l) p → TypedFits names vs p
   layer_of_factor vs (Factor-F.Integer n span) p h t = same_variables vs _ p h tt t
   layer_of_factor vs (Factor-F.Text cs span) p h t = same_variables vs _ p h tt t
   layer_of_factor vs (Factor-F.Truth b span) p h t = same_variables vs _ p h tt t
-  layer_of_factor vs (Factor-F.Value d) p h t = meant_fits names inner inside s h.0 vs p h.2 (read_fits ms names s d h.0 scope h.1) t
-  layer_of_factor vs (Factor-F.Call d es) p h t = call_fits h.0 (out-Designator d).name.span.line vs es p (called_fits ms names s d h.0 scope h.1) h.2 t
+  layer_of_factor vs (Factor-F.Value d) p h t = meant_fits names inner inside ms s h.0 vs p h.2 (read_fits ms names s d h.0 scope h.1) t
+  layer_of_factor vs (Factor-F.Call d es) p h t = or_guard_fits vs d es (guard_in s d es) p h t
   layer_of_factor vs (Factor-F.Parens span e) p h t = inside vs e p h t
   layer_of_factor vs (Factor-F.Not span f) p h t =
       let x = h.2 in
@@ -243,46 +275,55 @@ module _ (ms : Modules) (names : Names) (s : Scope) (scope : ScopeFits ms names 
       (λ u. let f = term_fits vs (out-Simple x).first h.0 h.1 u in (signed_fits names (out-Simple x).sign h.0.0 w.0 w.1 f.0, f.1)) q in
       (subst (λ y. OperandFits names y.0) j.2 (sum_fits names j.0.0 k.0), k.1)
 
-  related_layer_fits : (vs : Variables) (v : Typed) (l : RelatedLayer) (p : Typed) → gives (related_layer inner deeper passed ms s v l) p → TypedFits names vs v → TypedFits names vs p
-  related_layer_fits vs v (Related-F.By relation span x) p needed g t =
+  relation_fits : (vs : Variables) (v : Typed) (r : Relation) (span : Span) (x : Simple) (p : Typed) → gives (relation_rule inner deeper passed ms s v r span x) p → TypedFits names vs v → TypedFits names vs p
+  unfolding relation_rule
+  relation_fits vs v r span x p needed g t =
       let h = needed.1 in
-      let k = related_fits names (relation_of relation) span.line h.0.1 v.0 h.0.0 p h.2 t in
+      let k = related_fits names (relation_of r) span.line h.0.1 v.0 h.0.0 p h.2 t in
       let w = simple_fits v.1 x h.0 h.1 k.1 in
       let l = g w.1 in
       (k.0 l.0 w.0, l.1)
-  related_layer_fits vs v (Related-F.Is span q) p h g t = absurd h
 
-  relation_fits : (vs : Variables) (v : Typed) (r : Option Related) (p : Typed) → gives (related_rule inner deeper passed ms s v r) p → TypedFits names vs v → TypedFits names vs p
+  test_fits : (vs : Variables) (x : Simple) (d : Option LoneVariable) (q : Qualident) (p : Typed) → gives (test_rule inner deeper passed ms s vs x d q) p → TypedFits names vs p
+  unfolding test_rule
+  test_fits vs x None q p h t = absurd h.2
+  test_fits vs x (Some d) q p h t = tested_is names ms s vs h.0 q p h.2 (lone_read_fits names inner inside ms s scope vs d h.0 h.1) t
+
+  related_layer_fits : (vs : Variables) (x : Simple) (l : RelatedLayer) (p : Typed) → gives (related_layer inner deeper passed ms s vs x l) p → TypedFits names vs p
+  related_layer_fits vs x (Related-F.By r span y) p h = relation_fits vs h.0 r span y p h.2 (simple_fits vs x h.0 h.1)
+  related_layer_fits vs x (Related-F.Is span q) p h = test_fits vs x (lone_sum s x) q p h
+
+  to_right_fits : (vs : Variables) (x : Simple) (r : Option Related) (p : Typed) → gives (related_rule inner deeper passed ms s vs x r) p → TypedFits names vs p
   unfolding related_rule
-  relation_fits vs v None p h g t = subst (TypedFits names vs) h g t
-  relation_fits vs v (Some r) p h g t = related_layer_fits vs v (out-Related r) p h g t
+  to_right_fits vs x None p h = simple_fits vs x p h
+  to_right_fits vs x (Some r) p h = related_layer_fits vs x (out-Related r) p h
 
   pub expr_fits : (vs : Variables) (e : Expr) (p : Typed) → gives (expr_rule inner deeper passed ms s vs e) p → TypedFits names vs p
   unfolding expr_rule
-  expr_fits vs e p h = relation_fits vs h.0 (out-Expr e).right p h.2 (simple_fits vs (out-Expr e).left h.0 h.1)
+  expr_fits vs e p h = to_right_fits vs (out-Expr e).left (out-Expr e).right p h
 
 -- ---- actual parameters
 
 module _ (names : Names) where
-  variable_actual_fits : (target : Variables → Written → Rule Selected) → ((vs : Variables) (d : Written) (p : Selected) → gives (target vs d) p → SelectedFits names vs p) → (formal : ObType) (vs : Variables) (o : Option Written) (p : Argument × Variables) → gives (variable_actual target formal vs o) p → PassedFits names vs kind.Variable formal p
+  variable_actual_fits : (target : Variables → LoneVariable → Rule Selected) → ((vs : Variables) (d : LoneVariable) (p : Selected) → gives (target vs d) p → SelectedFits names vs p) → (formal : ObType) (vs : Variables) (o : Option LoneVariable) (p : Argument × Variables) → gives (variable_actual target formal vs o) p → PassedFits names vs kind.Variable formal p
   unfolding variable_actual
   variable_actual_fits target fits formal vs None p h s = absurd h
   variable_actual_fits target fits formal vs (Some d) p h s =
-      let k = variable_argument_fits names h.0.2 formal h.0.0 h.0.1 p h.2 s in
+      let k = variable_argument_fits names formal h.0 p h.2 s in
       let g = fits vs d h.0 h.1 k.1 in
-      (k.0 (g.0, g.1), g.2)
+      (k.0 (g.0, g.1, g.4), g.2)
 
-  value_actual_fits : (expr : Variables → Expr → Rule Typed) → InnerFits names expr → (formal : ObType) (vs : Variables) (e : Expr) (p : Argument × Variables) → gives (value_actual expr formal vs e) p → PassedFits names vs kind.Value formal p
+  value_actual_fits : (expr : Variables → Expr → Rule Typed) (s : Scope) → InnerFits names expr → (formal : ObType) (vs : Variables) (e : Expr) (p : Argument × Variables) → gives (value_actual expr s formal vs e) p → PassedFits names vs kind.Value formal p
   unfolding value_actual
-  value_actual_fits expr fits formal vs e p h s =
-      let k = value_passed_fits names h.0.1 formal (first_of e).line (is_some (alone e)) h.0.0 p h.2 s in
+  value_actual_fits expr s fits formal vs e p h w =
+      let k = value_passed_fits names h.0.1 formal (first_of e).line (is_some (lone_variable s e)) h.0.0 p h.2 w in
       let g = fits vs e h.0 h.1 k.1 in
       (k.0 g.0, g.1)
 
-  actual_fits : (expr : Variables → Expr → Rule Typed) (target : Variables → Written → Rule Selected) → InnerFits names expr → ((vs : Variables) (d : Written) (p : Selected) → gives (target vs d) p → SelectedFits names vs p) → (k : FormalKind) (formal : ObType) (vs : Variables) (e : Expr) (p : Argument × Variables) → gives (actual_rule expr target k formal vs e) p → PassedFits names vs k formal p
+  actual_fits : (expr : Variables → Expr → Rule Typed) (target : Variables → LoneVariable → Rule Selected) (s : Scope) → InnerFits names expr → ((vs : Variables) (d : LoneVariable) (p : Selected) → gives (target vs d) p → SelectedFits names vs p) → (k : FormalKind) (formal : ObType) (vs : Variables) (e : Expr) (p : Argument × Variables) → gives (actual_rule expr target s k formal vs e) p → PassedFits names vs k formal p
   unfolding actual_rule
-  actual_fits expr target fits targets kind.Variable formal vs e p h = variable_actual_fits target targets formal vs (alone e) p h
-  actual_fits expr target fits targets kind.Value formal vs e p h = value_actual_fits expr fits formal vs e p h
+  actual_fits expr target s fits targets kind.Variable formal vs e p h = variable_actual_fits target targets formal vs (lone_variable s e) p h
+  actual_fits expr target s fits targets kind.Value formal vs e p h = value_actual_fits expr s fits formal vs e p h
 
 -- ---- what nests
 
@@ -301,9 +342,9 @@ module _ (ms : Modules) (names : Names) (s : Scope) (scope : ScopeFits ms names 
     pub passed_fits : (n : ℕ) → EachPassed names (passed_at ms s n)
     passed_fits zero f vs e p h = absurd h
     passed_fits (suc n) f vs e p h =
-        actual_fits names (expr_rule (inner_at ms s n) (deeper_at ms s n) (passed_at ms s n) ms s) (target_rule (inner_at ms s n) s ms)
+        actual_fits names (expr_rule (inner_at ms s n) (deeper_at ms s n) (passed_at ms s n) ms s) (lone_written (inner_at ms s n) ms s) s
         (expr_fits ms names s scope (inner_at ms s n) (deeper_at ms s n) (passed_at ms s n) (inner_fits n) (deeper_fits n) (passed_fits n))
-        (target_fits names (inner_at ms s n) (inner_fits n) ms s scope) f.kind f.of vs e p h
+        (lone_written_fits names (inner_at ms s n) (inner_fits n) ms s scope) f.kind f.of vs e p h
 
   -- ---- at a place where so many more constructs may nest
 

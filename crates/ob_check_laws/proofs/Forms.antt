@@ -1,5 +1,5 @@
 -- Trees fit if their parts and lists do.
-use Rattle.std.proofs.Common.{◌≡◌, ℕ, List, [], ◌∷◌, true, Some, refl, sym, ap, ◌∙◌, subst}
+use Rattle.std.proofs.Common.{◌≡◌, ℕ, List, [], ◌∷◌, true, false, Some, refl, sym, ap, ◌∙◌, subst}
 use Rattle.ob_mean.specs.declared.operator.UnaryOperator.{UnaryOperator}
 use Rattle.ob_mean.specs.declared.expression.TypedExpr.{TypedExpr, Row_of-TypedExpr, end_of-TypedExpr, more_of-TypedExpr}
 use Rattle.ob_mean.specs.declared.expression.TypedExpr.TheVariants.{Unary, Chain, Chain', Every, Every', Either, Either', Function, Function'}
@@ -9,6 +9,7 @@ use Rattle.ob_mean.specs.declared.expression.Operation.{Operation}
 use Rattle.ob_mean.specs.declared.expression.Argument.{Argument}
 use Rattle.ob_mean.specs.declared.expression.Callee.{Callee}
 use Rattle.ob_mean.specs.declared.expression.Argument.TheBlock.{Row_of-Argument, end_of-Argument, more_of-Argument, items-the_row-Argument, Row_of-Operation, end_of-Operation, more_of-Operation, items-the_row-TypedExpr, items-the_row-Operation, items_hidden-the_row-Operation-2, items_hidden-the_row-TypedExpr-3, items_hidden-the_row-Argument-4}
+use Rattle.ob_mean.specs.declared.kind.RecordKind.{RecordKind}
 use Rattle.ob_mean.specs.declared.module.Parameter.{Parameter}
 use Rattle.ob_mean.specs.declared.face.Heading.{Heading}
 use Rattle.ob_mean.specs.declared.statement.Branch.{Branch}
@@ -18,8 +19,9 @@ use Rattle.ob_mean.specs.declared.statement.TypedStatement.{TypedStatement, Row_
 use Rattle.ob_mean.specs.declared.statement.TypedStatement.TheVariants.{If, If', Case, Case', While, While', Repeat, Repeat', For, For'}
 use Rattle.ob_mean.specs.declared.statement.TypedStatement.TheBlock as block
 use Rattle.ob_mean.specs.declared.statement.TypedStatement.TheBlock.{Row_of-Branch, end_of-Branch, more_of-Branch, Row_of-CaseArm, end_of-CaseArm, more_of-CaseArm, items-the_row-TypedStatement, items-the_row-Branch, items-the_row-CaseArm}
-use Rattle.ob_mean.specs.WellFormed.{Names, ExprFits, ExprsFit, OperationsFit, IndexesFit, RowPassed, ListPassed, IsPassed, StatFits, StatsFit, BranchesFit, ArmsFit, ListFits, HeadFits, object_of, elements_in, field_in, shape_object, called}
+use Rattle.ob_mean.specs.WellFormed.{Names, Of, is_told, base_object, object_of, elements_in, field_in, shape_object, called}
 use Rattle.ob_check_laws.specs.Fitting.{ExprListFits, OperationListFits, BranchListFits, ArmListFits}
+use Rattle.ob_check_laws.specs.Formed.{IsKind, ExprFits, ExprsFit, OperationsFit, IndexesFit, RowPassed, ListPassed, IsPassed, StatFits, StatsFit, BranchesFit, ArmsFit, ListFits, HeadFits}
 
 -- ---- expressions
 
@@ -88,6 +90,26 @@ field_fits names d i h = h
 pub field_object : (names : Names) (d : Designator) (i : ℕ) → object_of names (designator.Field d i) ≡ field_in (object_of names d) i
 unfolding Rattle.ob_mean.specs.declared.expression.Argument.TheBlock.hidden-the_row-Designator-0 denote.Hole.Carrier.hidden
 field_object names d i = refl
+
+pub element_told : (names : Names) (d : Designator) (line : ℕ) (e : TypedExpr) → is_told names (designator.Element d line e) ≡ false
+unfolding Rattle.ob_mean.specs.declared.expression.Argument.TheBlock.hidden-the_row-TypedExpr-1 Rattle.ob_mean.specs.declared.expression.Argument.TheBlock.hidden-the_row-Designator-0 denote.Hole.Carrier.hidden
+element_told names d line e = refl
+
+pub field_told : (names : Names) (d : Designator) (i : ℕ) → is_told names (designator.Field d i) ≡ false
+unfolding Rattle.ob_mean.specs.declared.expression.Argument.TheBlock.hidden-the_row-Designator-0 denote.Hole.Carrier.hidden
+field_told names d i = refl
+
+pub guarded_fits : (names : Names) (d : Designator) (line : ℕ) (k : RecordKind) (levels : ℕ) → IndexesFit names d → is_told names d ≡ true → IsKind k → base_object levels (Some (Of k.shape)) ≡ object_of names d → IndexesFit names (designator.Guarded d line k levels)
+unfolding Rattle.ob_mean.specs.declared.expression.Argument.TheBlock.hidden-the_row-Designator-0 denote.Hole.Carrier.hidden
+guarded_fits names d line k levels h t g o = (h, t, g, o)
+
+pub guarded_object : (names : Names) (d : Designator) (line : ℕ) (k : RecordKind) (levels : ℕ) → object_of names (designator.Guarded d line k levels) ≡ Some (Of k.shape)
+unfolding Rattle.ob_mean.specs.declared.expression.Argument.TheBlock.hidden-the_row-Designator-0 denote.Hole.Carrier.hidden
+guarded_object names d line k levels = refl
+
+pub guarded_told : (names : Names) (d : Designator) (line : ℕ) (k : RecordKind) (levels : ℕ) → is_told names (designator.Guarded d line k levels) ≡ is_told names d
+unfolding Rattle.ob_mean.specs.declared.expression.Argument.TheBlock.hidden-the_row-Designator-0 denote.Hole.Carrier.hidden
+guarded_told names d line k levels = refl
 
 -- ---- statements
 

@@ -1,5 +1,5 @@
 -- The variables of a module only grow: each rule adds strings of few cells after those that there are.
-use Rattle.std.proofs.Common.{◌≡◌, ℕ, zero, suc, ◌+◌, ◌++◌, length, nat_le, Bool, true, List, [], ◌∷◌, Option, Some, None, is_some, refl, sym, ap, ◌∙◌, subst}
+use Rattle.std.proofs.Common.{◌≡◌, ℕ, zero, suc, ◌+◌, ◌++◌, length, nat_le, Bool, true, List, [], ◌∷◌, Option, Some, None, is_some, refl, sym, ap, ◌∙◌, subst, false}
 use Rattle.ob_tree.specs.declared.tree.Branch.{Branch, out-Branch}
 use Rattle.ob_tree.specs.declared.tree.Case.{Case, out-Case}
 use Rattle.ob_tree.specs.declared.tree.Expr.{Expr, out-Expr}
@@ -57,10 +57,14 @@ use Rattle.ob_check_operand.specs.Operands.{Variables, text_variable, text_place
 use Rattle.ob_check_strings.specs.Strings.{string_at, with_more}
 use Rattle.ob_check_operand.specs.Relations.{texts_related, related, relation_of}
 use Rattle.ob_check_operand.specs.Passing.{variable_argument, fixed_text, text_passed, structure_passed, value_passed}
-use Rattle.ob_check_operand.specs.Selecting.{Selected, selected, indexed, selector_layer}
+use Rattle.ob_check_operand.specs.Selecting.{Selected, guarded, tested, selected, indexed, selector_layer}
+use Rattle.ob_check_expr.specs.Alone.{LoneVariable, alone, guard_in, lone_sum, lone_variable}
+use Rattle.ob_tree.specs.declared.tree.Qualident.{Qualident}
+use Rattle.ob_tree.specs.declared.tree.Relation.{Relation as Written'}
+use Rattle.ob_scan.specs.declared.token.Span.{Span}
 use Rattle.ob_check_operand.specs.Named.{Meant, Callable}
 use Rattle.ob_check_operand.specs.Named as meaning
-use Rattle.ob_check_expr.specs.Expressions.{Typed, Joining, Passing, alone, meant_rule, target_rule, two_taken, one_taken, predeclared_rule, one_passed, next_passed, none_left, all_passed, function_rule, call_rule, factor_layer, factor_rule, next_factor, term_rule, added_term, simple_rule, related_layer, related_rule, expr_rule, variable_actual, value_actual, actual_rule, inner_at, deeper_at, passed_at, expr_at, target_at, actuals_at, value_at, value_for_at, guard_at, number_at, truth_at}
+use Rattle.ob_check_expr.specs.Expressions.{Typed, Joining, Passing, meant_rule, variable_rule, after_guard, lone_read, lone_written, call_or_guard, relation_rule, test_rule, target_rule, two_taken, one_taken, predeclared_rule, one_passed, next_passed, none_left, all_passed, function_rule, call_rule, factor_layer, factor_rule, next_factor, term_rule, added_term, simple_rule, related_layer, related_rule, expr_rule, variable_actual, value_actual, actual_rule, inner_at, deeper_at, passed_at, expr_at, target_at, actuals_at, value_at, value_for_at, guard_at, number_at, truth_at}
 use Rattle.ob_check_stmt.specs.Assignments.{basic_of, assigned, assignment}
 use Rattle.ob_check_stmt.specs.Calls.{call_with, procedure_call, call_of, call}
 use Rattle.ob_check_stmt.specs.StandardCalls.{none_left as no_actual_left, without_actuals, number_inside, truth_inside, place_at, scalar_at, read_call, in_call, out_char, out_string, out_width, out_int, out_call, adjusted_by, adjusted, asserted, predeclared_call}
@@ -137,9 +141,9 @@ related_grows r line vs (operand.Text t) (operand.Place u e) p h = texts_grow r 
 related_grows r line vs (operand.Place t d) (operand.Text u) p h = texts_grow r vs (operand.Place t d) (operand.Text u) p h
 related_grows r line vs (operand.Place t d) (operand.Place u e) p h = texts_grow r vs (operand.Place t d) (operand.Place u e) p h
 
-argument_grows : (vs : Variables) (formal t : ObType) (d : Designator) (p : Argument × Variables) → gives (variable_argument vs formal t d) p → Extends p.1 vs
+argument_grows : (k : FormalKind) (formal : ObType) (at : Selected) (p : Argument × Variables) → gives (variable_argument k formal at) p → Extends p.1 at.2
 unfolding variable_argument
-argument_grows vs formal t d p h = from vs _ p h.2
+argument_grows k formal at p h = from at.2 _ p h.2
 
 text_grows : (vs : Variables) (formal : ObType) (t : List ℕ) (p : Argument × Variables) → gives (text_passed vs formal t) p → Extends p.1 vs
 unfolding text_passed fixed_text block.hidden-the_row-ObType-0 denote.Hole.Carrier.hidden block.shown-the_row-ObType-0 denote.Hole.Carrier.shown out-ObType denote.Hole.Carrier.out
@@ -148,18 +152,18 @@ text_grows vs (Array' n w (more_of-ObType x end_of-ObType)) t p h = let q = h.1.
 text_grows vs (Open' w (more_of-ObType x end_of-ObType)) t p h = let q = h.1 in after vs _ _ p q.2 (text_variable_grows vs t (length t + 1) q.0 q.1)
 text_grows vs (Record r) t p h = absurd h
 
-structure_grows : (vs : Variables) (formal : ObType) (alone : Bool) (v : Operand) (p : Argument × Variables) → gives (structure_passed vs formal alone v) p → Extends p.1 vs
+structure_grows : (vs : Variables) (formal : ObType) (only : Bool) (v : Operand) (p : Argument × Variables) → gives (structure_passed vs formal only v) p → Extends p.1 vs
 unfolding structure_passed
-structure_grows vs formal alone (operand.Value b x) p h = absurd h
-structure_grows vs formal alone (operand.Text t) p h = text_grows vs formal t p h
-structure_grows vs formal alone (operand.Place t d) p h = argument_grows vs formal t d p h.1
+structure_grows vs formal only (operand.Value b x) p h = absurd h
+structure_grows vs formal only (operand.Text t) p h = text_grows vs formal t p h
+structure_grows vs formal only (operand.Place t d) p h = argument_grows kind.Value formal (t, d, vs, false) p h.1
 
-value_grows : (vs : Variables) (formal : ObType) (line : ℕ) (alone : Bool) (v : Operand) (p : Argument × Variables) → gives (value_passed vs formal line alone v) p → Extends p.1 vs
+value_grows : (vs : Variables) (formal : ObType) (line : ℕ) (only : Bool) (v : Operand) (p : Argument × Variables) → gives (value_passed vs formal line only v) p → Extends p.1 vs
 unfolding value_passed block.hidden-the_row-ObType-0 denote.Hole.Carrier.hidden block.shown-the_row-ObType-0 denote.Hole.Carrier.shown out-ObType denote.Hole.Carrier.out
-value_grows vs (OfBasic b) line alone v p h = from vs _ p h.2
-value_grows vs (Array' n w (more_of-ObType x end_of-ObType)) line alone v p h = structure_grows vs _ alone v p h
-value_grows vs (Open' w (more_of-ObType x end_of-ObType)) line alone v p h = structure_grows vs _ alone v p h
-value_grows vs (Record r) line alone v p h = structure_grows vs (Record r) alone v p h
+value_grows vs (OfBasic b) line only v p h = from vs _ p h.2
+value_grows vs (Array' n w (more_of-ObType x end_of-ObType)) line only v p h = structure_grows vs _ only v p h
+value_grows vs (Open' w (more_of-ObType x end_of-ObType)) line only v p h = structure_grows vs _ only v p h
+value_grows vs (Record r) line only v p h = structure_grows vs (Record r) only v p h
 
 -- ---- expressions
 
@@ -179,27 +183,51 @@ module _ (inner : Variables → Expr → Rule Typed) (grows : Inner inner) where
       let v = h.2 in
       subst (λ q. Extends q.2 start) (v.2).2 (further v.0.1 at.2 start (grows at.2 e v.0 v.1) g)
 
-  selector_grows : (s : Scope) (start : Variables) (at : Selected) (l : SelectorLayer) (p : Selected) → gives (selector_layer inner s at l) p → Extends at.2 start → Extends p.2 start
-  selector_grows s start at (Selector-F.Field f) p h g = subst (λ q. Extends q.2 start) h.2 g
-  selector_grows s start at (Selector-F.Index es) p h g =
+  guarded_grows : (ms : Modules) (s : Scope) (start : Variables) (at : Selected) (q : Qualident) (p : Selected) → gives (guarded ms s at q) p → Extends at.2 start → Extends p.2 start
+  unfolding guarded
+  guarded_grows ms s start at q p h g = subst (λ x. Extends x.2 start) (h.2).1 g
+
+  selector_grows : (ms : Modules) (s : Scope) (start : Variables) (at : Selected) (l : SelectorLayer) (p : Selected) → gives (selector_layer inner ms s at l) p → Extends at.2 start → Extends p.2 start
+  selector_grows ms s start at (Selector-F.Field f) p h g = subst (λ q. Extends q.2 start) h.2 g
+  selector_grows ms s start at (Selector-F.Index es) p h g =
       through_keeps (λ q. Extends q.2 start) (indexed inner) (λ a e b k c. indexed_grows start a e b k c) at es p h g
-  selector_grows s start at (Selector-F.Guard q) p h g = absurd h
+  selector_grows ms s start at (Selector-F.Guard q) p h g = guarded_grows ms s start at q p h g
 
-  selected_grows : (s : Scope) (start : Variables) (at : Selected) (x : Selector) (p : Selected) → gives (selected inner s at x) p → Extends at.2 start → Extends p.2 start
+  selected_grows : (ms : Modules) (s : Scope) (start : Variables) (at : Selected) (x : Selector) (p : Selected) → gives (selected inner ms s at x) p → Extends at.2 start → Extends p.2 start
   unfolding selected
-  selected_grows s start at x p h g = selector_grows s start at (out-Selector x) p h g
+  selected_grows ms s start at x p h g = selector_grows ms s start at (out-Selector x) p h g
 
-  meant_grows : (s : Scope) (m : Meant) (vs : Variables) (p : Typed) → gives (meant_rule inner s m vs) p → Extends p.1 vs
+  meant_grows : (ms : Modules) (s : Scope) (m : Meant) (vs : Variables) (p : Typed) → gives (meant_rule inner ms s m vs) p → Extends p.1 vs
   unfolding meant_rule
-  meant_grows s (meaning.Constant c) vs p h = from vs _ p h
-  meant_grows s meaning.InputDone vs p h = from vs _ p h
-  meant_grows s (meaning.Variable t v xs) vs p h =
-      after vs _ _ p h.2 (through_keeps (λ q. Extends q.2 vs) (selected inner s) (λ a e b k c. selected_grows s vs a e b k c) (t, designator.Whole v, vs) xs h.0 h.1 (unchanged vs))
+  meant_grows ms s (meaning.Constant c) vs p h = from vs _ p h
+  meant_grows ms s meaning.InputDone vs p h = from vs _ p h
+  meant_grows ms s (meaning.Variable t v told xs) vs p h =
+      after vs _ _ p h.2 (through_keeps (λ q. Extends q.2 vs) (selected inner ms s) (λ a e b k c. selected_grows ms s vs a e b k c) (t, designator.Whole v, vs, told) xs h.0 h.1 (unchanged vs))
 
-  target_grows : (ms : Modules) (s : Scope) (vs : Variables) (d : Written) (p : Selected) → gives (target_rule inner s ms vs d) p → Extends p.2 vs
+  variable_grows : (ms : Modules) (s : Scope) (m : Meant) (vs : Variables) (p : Selected) → gives (variable_rule inner ms s m vs) p → Extends p.2 vs
+  unfolding variable_rule
+  variable_grows ms s (meaning.Constant c) vs p h = absurd h
+  variable_grows ms s meaning.InputDone vs p h = absurd h
+  variable_grows ms s (meaning.Variable t v told xs) vs p h =
+      through_keeps (λ q. Extends q.2 vs) (selected inner ms s) (λ a e b k c. selected_grows ms s vs a e b k c) (t, designator.Whole v, vs, told) xs p h (unchanged vs)
+
+  after_grows : (ms : Modules) (s : Scope) (start : Variables) (q : Option Qualident) (at p : Selected) → gives (after_guard inner ms s q at) p → Extends at.2 start → Extends p.2 start
+  unfolding after_guard
+  after_grows ms s start None at p h g = subst (λ x. Extends x.2 start) h g
+  after_grows ms s start (Some q) at p h g = guarded_grows ms s start at q p h g
+
+  lone_read_grows : (ms : Modules) (s : Scope) (vs : Variables) (x : LoneVariable) (p : Selected) → gives (lone_read inner ms s vs x) p → Extends p.2 vs
+  unfolding lone_read
+  lone_read_grows ms s vs x p h = after_grows ms s vs x.1 (h.2).0 p (h.2).2 (variable_grows ms s h.0 vs (h.2).0 (h.2).1)
+
+  target_grows : (ms : Modules) (s : Scope) (vs : Variables) (d : Written) (p : Selected) → gives (target_rule inner ms s vs d) p → Extends p.2 vs
   unfolding target_rule
   target_grows ms s vs d p h =
-      through_keeps (λ q. Extends q.2 vs) (selected inner s) (λ a e b k c. selected_grows s vs a e b k c) (h.0.0, designator.Whole h.0.1, vs) h.0.2 p h.2 (unchanged vs)
+      through_keeps (λ q. Extends q.2 vs) (selected inner ms s) (λ a e b k c. selected_grows ms s vs a e b k c) (h.0.0, designator.Whole h.0.1, vs, h.0.2) h.0.3 p h.2 (unchanged vs)
+
+  lone_written_grows : (ms : Modules) (s : Scope) (vs : Variables) (x : LoneVariable) (p : Selected) → gives (lone_written inner ms s vs x) p → Extends p.2 vs
+  unfolding lone_written
+  lone_written_grows ms s vs x p h = after_grows ms s vs x.1 h.0 p h.2 (target_grows ms s vs x.0 h.0 h.1)
 
   two_taken_grows : (f : Function) (line : ℕ) (v : Operand) (w : Typed) (es : List Expr) (p : Typed) → gives (two_taken inner f line v w es) p → Extends p.1 w.1
   unfolding two_taken
@@ -248,12 +276,17 @@ module _ (ms : Modules) (s : Scope) (inner : Variables → Expr → Rule Typed) 
   call_grows (meaning.Input i) line vs es p h = absurd h
   call_grows (meaning.Output o) line vs es p h = absurd h
 
+  or_guard_grows : (vs : Variables) (d : Written) (es : List Expr) (q : Option Qualident) (p : Typed) → gives (call_or_guard inner deeper passed ms s vs d es q) p → Extends p.1 vs
+  unfolding call_or_guard
+  or_guard_grows vs d es None p h = call_grows h.0 (out-Designator d).name.span.line vs es p h.2
+  or_guard_grows vs d es (Some q) p h = after vs _ _ p h.2 (lone_read_grows inner inside ms s vs (d, Some q) h.0 h.1)
+
   factor_layer_grows : (vs : Variables) (l : FactorLayer) (p : Typed) → gives (factor_layer inner deeper passed ms s vs l) p → Extends p.1 vs
   factor_layer_grows vs (Factor-F.Integer n span) p h = from vs _ p h
   factor_layer_grows vs (Factor-F.Text t span) p h = from vs _ p h
   factor_layer_grows vs (Factor-F.Truth b span) p h = from vs _ p h
-  factor_layer_grows vs (Factor-F.Value d) p h = meant_grows inner inside s h.0 vs p h.2
-  factor_layer_grows vs (Factor-F.Call d es) p h = call_grows h.0 (out-Designator d).name.span.line vs es p h.2
+  factor_layer_grows vs (Factor-F.Value d) p h = meant_grows inner inside ms s h.0 vs p h.2
+  factor_layer_grows vs (Factor-F.Call d es) p h = or_guard_grows vs d es (guard_in s d es) p h
   factor_layer_grows vs (Factor-F.Parens span e) p h = inside vs e p h
   factor_layer_grows vs (Factor-F.Not span f) p h = after vs _ _ p (h.2).2 (below vs f h.0 h.1)
 
@@ -282,30 +315,42 @@ module _ (ms : Modules) (s : Scope) (inner : Variables → Expr → Rule Typed) 
       after vs _ _ p (w.2).2 (through_keeps (λ q. Extends q.1 vs) (added_term inner deeper passed ms s) (λ a e b u c. added_term_grows vs a e b u c) (joined.One w.0, h.0.1) (out-Simple x).others (w.2).0 (w.2).1
       (term_grows vs (out-Simple x).first h.0 h.1))
 
-  related_layer_grows : (vs : Variables) (v : Typed) (l : RelatedLayer) (p : Typed) → gives (related_layer inner deeper passed ms s v l) p → Extends v.1 vs → Extends p.1 vs
-  related_layer_grows vs v (Related-F.By relation span x) p needed g =
+  relation_grows : (v : Typed) (r : Written') (span : Span) (x : Simple) (p : Typed) → gives (relation_rule inner deeper passed ms s v r span x) p → Extends p.1 v.1
+  unfolding relation_rule
+  relation_grows v r span x p needed =
       let h = needed.1 in
-      further p.1 h.0.1 vs (related_grows (relation_of relation) span.line h.0.1 v.0 h.0.0 p h.2)
-      (further h.0.1 v.1 vs (simple_grows v.1 x h.0 h.1) g)
-  related_layer_grows vs v (Related-F.Is span q) p h g = absurd h
+      further p.1 h.0.1 v.1 (related_grows (relation_of r) span.line h.0.1 v.0 h.0.0 p h.2) (simple_grows v.1 x h.0 h.1)
 
-  relation_grows : (vs : Variables) (v : Typed) (r : Option Related) (p : Typed) → gives (related_rule inner deeper passed ms s v r) p → Extends v.1 vs → Extends p.1 vs
+  tested_grows : (at : Selected) (q : Qualident) (p : Typed) → gives (tested ms s at q) p → Extends p.1 at.2
+  unfolding tested
+  tested_grows at q p h = from at.2 _ p (h.1).2
+
+  test_grows : (vs : Variables) (x : Simple) (d : Option LoneVariable) (q : Qualident) (p : Typed) → gives (test_rule inner deeper passed ms s vs x d q) p → Extends p.1 vs
+  unfolding test_rule
+  test_grows vs x None q p h = absurd h.2
+  test_grows vs x (Some d) q p h = further p.1 h.0.2 vs (tested_grows h.0 q p h.2) (lone_read_grows inner inside ms s vs d h.0 h.1)
+
+  related_layer_grows : (vs : Variables) (x : Simple) (l : RelatedLayer) (p : Typed) → gives (related_layer inner deeper passed ms s vs x l) p → Extends p.1 vs
+  related_layer_grows vs x (Related-F.By r span y) p h = further p.1 h.0.1 vs (relation_grows h.0 r span y p h.2) (simple_grows vs x h.0 h.1)
+  related_layer_grows vs x (Related-F.Is span q) p h = test_grows vs x (lone_sum s x) q p h
+
+  to_right_grows : (vs : Variables) (x : Simple) (r : Option Related) (p : Typed) → gives (related_rule inner deeper passed ms s vs x r) p → Extends p.1 vs
   unfolding related_rule
-  relation_grows vs v None p h g = subst (λ q. Extends q.1 vs) h g
-  relation_grows vs v (Some r) p h g = related_layer_grows vs v (out-Related r) p h g
+  to_right_grows vs x None p h = simple_grows vs x p h
+  to_right_grows vs x (Some r) p h = related_layer_grows vs x (out-Related r) p h
 
   expr_grows : (vs : Variables) (e : Expr) (p : Typed) → gives (expr_rule inner deeper passed ms s vs e) p → Extends p.1 vs
   unfolding expr_rule
-  expr_grows vs e p h = relation_grows vs h.0 (out-Expr e).right p h.2 (simple_grows vs (out-Expr e).left h.0 h.1)
+  expr_grows vs e p h = to_right_grows vs (out-Expr e).left (out-Expr e).right p h
 
-actual_grows : (expr : Variables → Expr → Rule Typed) (target : Variables → Written → Rule Selected) → Inner expr → ((vs : Variables) (d : Written) (p : Selected) → gives (target vs d) p → Extends p.2 vs) → (k : FormalKind) (formal : ObType) (vs : Variables) (e : Expr) (p : Argument × Variables) → gives (actual_rule expr target k formal vs e) p → Extends p.1 vs
+actual_grows : (expr : Variables → Expr → Rule Typed) (target : Variables → LoneVariable → Rule Selected) (s : Scope) → Inner expr → ((vs : Variables) (d : LoneVariable) (p : Selected) → gives (target vs d) p → Extends p.2 vs) → (k : FormalKind) (formal : ObType) (vs : Variables) (e : Expr) (p : Argument × Variables) → gives (actual_rule expr target s k formal vs e) p → Extends p.1 vs
 unfolding actual_rule variable_actual value_actual
-actual_grows expr target inside targets kind.Variable formal vs e p h = by (alone e) h
+actual_grows expr target s inside targets kind.Variable formal vs e p h = by (lone_variable s e) h
   where
-    by : (o : Option Written) → gives (variable_actual target formal vs o) p → Extends p.1 vs
+    by : (o : Option LoneVariable) → gives (variable_actual target formal vs o) p → Extends p.1 vs
     by None k = absurd k
-    by (Some d) k = further p.1 k.0.2 vs (argument_grows k.0.2 formal k.0.0 k.0.1 p k.2) (targets vs d k.0 k.1)
-actual_grows expr target inside targets kind.Value formal vs e p h = further p.1 h.0.1 vs (value_grows h.0.1 formal _ _ h.0.0 p h.2) (inside vs e h.0 h.1)
+    by (Some d) k = further p.1 k.0.2 vs (argument_grows kind.Variable formal k.0 p k.2) (targets vs d k.0 k.1)
+actual_grows expr target s inside targets kind.Value formal vs e p h = further p.1 h.0.1 vs (value_grows h.0.1 formal _ _ h.0.0 p h.2) (inside vs e h.0 h.1)
 
 module _ (ms : Modules) (s : Scope) where
   mutual
@@ -322,9 +367,9 @@ module _ (ms : Modules) (s : Scope) where
     passed_grows : (n : ℕ) → Each (passed_at ms s n)
     passed_grows zero f vs e p h = absurd h
     passed_grows (suc n) f vs e p h =
-        actual_grows (expr_rule (inner_at ms s n) (deeper_at ms s n) (passed_at ms s n) ms s) (target_rule (inner_at ms s n) s ms)
+        actual_grows (expr_rule (inner_at ms s n) (deeper_at ms s n) (passed_at ms s n) ms s) (lone_written (inner_at ms s n) ms s) s
         (expr_grows ms s (inner_at ms s n) (deeper_at ms s n) (passed_at ms s n) (inner_grows n) (deeper_grows n) (passed_grows n))
-        (target_grows (inner_at ms s n) (inner_grows n) ms s) f.kind f.of vs e p h
+        (lone_written_grows (inner_at ms s n) (inner_grows n) ms s) f.kind f.of vs e p h
 
   at_grows : (n : ℕ) → Inner (expr_at ms s n)
   unfolding expr_at

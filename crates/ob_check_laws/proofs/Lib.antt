@@ -14,3 +14,6 @@ pub mod Modules
 pub mod Solid
 pub mod Sizes
 pub mod Bases
+pub mod Guards
+pub mod WellFormed
+pub mod Agreeing

@@ -22,7 +22,7 @@ use Rattle.ob_check_scope.specs.Rule.{gives}
 use Rattle.ob_check_scope.specs.Scope.{with_entry}
 use Rattle.ob_check_scope.specs.Stack.{is_empty}
 use Rattle.ob_check_module.specs.Procedures.{own_shape, own_shapes}
-use Rattle.ob_check_module.specs.Shapes.{shape_of}
+use Rattle.ob_check_kinds.specs.Shapes.{shape_of}
 use Rattle.ob_check_laws.specs.Fitting.{StartsWith}
 use Rattle.ob_types.specs.Solid.{IsSolid}
 use Rattle.ob_types.specs.Types.{cells}
@@ -107,6 +107,7 @@ module _ (ms : Modules) (names : Names) (base : ℕ) (ps : List Parameter) (encl
             inl (own_behind ps own (length (own_shapes (length ps) s.block)) s.local_count ((g.3).0)
                 ∙ ap shape_object (starts_reads own (own_shapes (length ps) s.block) (shape_of t) st1)),
             sound,
+            λ r. refl,
           )
 
   variable_fits : (t : ObType) → IsSolid t → (s : Scope) (name : IdentDef) (u : Scope) → gives (variable_rule t s name) u → InProcedure s → InProcedure u

@@ -17,7 +17,7 @@ use Rattle.ob_mean.specs.declared.module.ModuleVariable.{ModuleVariable}
 use Rattle.ob_mean.specs.declared.module.ModuleVariable.TheVariants as module_variable
 use Rattle.ob_mean.specs.declared.module.TypedModule.{TypedModule}
 use Rattle.ob_mean.specs.declared.module.TypedProcedure.{TypedProcedure}
-use Rattle.ob_mean.specs.WellFormed.{Names, VariablesFit, ProcedureFits, ProceduresFit, IsWellFormed, AllBelow, module_object, own_heading, StartWith, AreHeadings, IsFaceOf}
+use Rattle.ob_mean.specs.WellFormed.{Names, VariablesFit, AllBelow, module_object, own_heading, StartWith, AreHeadings, IsFaceOf}
 use Rattle.ob_check_scope.specs.declared.block.Declared.{Declared}
 use Rattle.ob_check_scope.specs.declared.block.Entry.{Entry}
 use Rattle.ob_check_scope.specs.declared.block.Entry.TheVariants as entry
@@ -40,7 +40,7 @@ use Rattle.ob_check_module.specs.declared.checked.Imported.{Imported}
 use Rattle.ob_check_module.specs.CheckedTree.{CheckedTree}
 use Rattle.ob_check_module.specs.Modules.{exported_variable, exported_variables, own_variable, own_variables, declared_variables, with_key, imported_by, all_imported, checked_of, body_rule, procedures_rule, checked_rule, module_at}
 use Rattle.ob_check_module.specs.Procedures.{Checking, counted, procedure_at}
-use Rattle.ob_check_module.specs.Shapes.{shape_of}
+use Rattle.ob_check_kinds.specs.Shapes.{shape_of}
 use Rattle.ob_check_stmt.specs.Statements.{statements_at}
 use Rattle.ob_mean.specs.declared.shape.Shape.{Shape}
 use Rattle.ob_mean.specs.declared.face.Heading.{Heading}
@@ -56,6 +56,10 @@ use Rattle.ob_check_laws.proofs.Rules.{if_some, joined_none, joined_thrice, star
 use Rattle.ob_check_laws.proofs.Sizes.{few_of, declared_few, variables_join, faces_few}
 use Rattle.ob_check_laws.proofs.Statements.{statements_fit, optional_fits}
 use Rattle.ob_check_laws.proofs.Suiting.{never, nothing, some_same}
+use Rattle.ob_check_laws.specs.Formed.{ProcedureFits, ProceduresFit, IsFormed}
+use Rattle.ob_check_laws.specs.Agreeing.{EachTreeAgrees}
+use Rattle.ob_check_laws.proofs.WellFormed.{well_formed}
+use Rattle.ob_check_laws.proofs.Agreeing.{types_agree}
 
 -- ---- imported modules
 
@@ -499,9 +503,9 @@ module _ (ms : Modules) (names : Names) (base : ℕ) where
   entry_kept ds (entry.Constant c) b s h = tt
   entry_kept ds (entry.TypeName t) b s h = h
   entry_kept ds (entry.Variable t (standing.Exported i)) b s h =
-      (inl (ap module_object (ap (λ l. slice_get l i) s.1 ∙ left_read (declared_variables ds) s.0 i _ (left_read (exported_variables ds) (own_variables ds) i _ h.0))), h.1)
+      (inl (ap module_object (ap (λ l. slice_get l i) s.1 ∙ left_read (declared_variables ds) s.0 i _ (left_read (exported_variables ds) (own_variables ds) i _ h.0))), h.1, λ r. refl)
   entry_kept ds (entry.Variable t (standing.Own i)) b s h =
-      (inl (ap module_object (ap (λ l. slice_get l (base + i)) s.1 ∙ left_read (declared_variables ds) s.0 (base + i) _ (right_read (exported_variables ds) (own_variables ds) i (base + i) (ap (λ x. x + i) b) ∙ h.0))), h.1)
+      (inl (ap module_object (ap (λ l. slice_get l (base + i)) s.1 ∙ left_read (declared_variables ds) s.0 (base + i) _ (right_read (exported_variables ds) (own_variables ds) i (base + i) (ap (λ x. x + i) b) ∙ h.0))), h.1, λ r. refl)
   entry_kept ds (entry.Variable t (standing.Local i)) b s h = absurd h
   entry_kept ds (entry.Variable t (standing.ByParameter i)) b s h = absurd h
   entry_kept ds (entry.Variable t (standing.ReadOnly i)) b s h = absurd h
@@ -517,10 +521,10 @@ bodies_fit names m (p ∷ fs) e f h = (subst (λ x. Body x) (λ i. record { face
     Body : Names → Type 0
     Body x = ProcedureFits x p
 
-checked_fits : (ms : Modules) (loaded : EachSolid ms) (s : Scope) (m : Module) (c : Checking) (k : CheckedTree) → InModule ms loaded s → gives (through (procedure_at ms declarations.max_nesting) (s, [], declared_variables s.block) (out-Declarations m.declarations).procedures) c → gives (body_rule ms c m) k → IsWellFormed (faces_of ms k.imports) k.tree × IsFaceOf (face_of_interface k.interface) k.tree × ExportsSolid k.interface.exports
+checked_fits : (ms : Modules) (loaded : EachSolid ms) (s : Scope) (m : Module) (c : Checking) (k : CheckedTree) → InModule ms loaded s → gives (through (procedure_at ms declarations.max_nesting) (s, [], declared_variables s.block) (out-Declarations m.declarations).procedures) c → gives (body_rule ms c m) k → IsFormed (faces_of ms k.imports) k.tree × IsFaceOf (face_of_interface k.interface) k.tree × ExportsSolid k.interface.exports
 unfolding body_rule
 checked_fits ms loaded s m c k g h b =
-    subst (λ x. IsWellFormed (faces_of ms x.imports) x.tree × IsFaceOf (face_of_interface x.interface) x.tree × ExportsSolid x.interface.exports) b.2 (
+    subst (λ x. IsFormed (faces_of ms x.imports) x.tree × IsFaceOf (face_of_interface x.interface) x.tree × ExportsSolid x.interface.exports) b.2 (
       record {
         known = faces_few ms (all_imported ms c.0.block) loaded;
         variables = few;
@@ -589,6 +593,15 @@ checked_fits ms loaded s m c k g h b =
     scope : ScopeFits ms (within names1 [] []) c.0
     scope = subst (λ f. ScopeFits ms (record { faces = f; variables = b.0.1; procedures = c.1; parameters = []; own = [] }) c.0) same_faces scope0
 
-pub each_checked : EachCheckedFits
+-- the tree that the static rules give, its interface and what it exports
+each_formed : (ms : Modules) (m : Module) (c : CheckedTree) → EachSolid ms → gives (module_at ms m) c → IsFormed (faces_of ms c.imports) c.tree × IsFaceOf (face_of_interface c.interface) c.tree × ExportsSolid c.interface.exports
 unfolding module_at checked_rule procedures_rule
-each_checked ms m c loaded h = checked_fits ms loaded h.0 m (h.2).0 c (declared_fits ms loaded m h.0 h.1) (h.2).1 (h.2).2
+each_formed ms m c loaded h = checked_fits ms loaded h.0 m (h.2).0 c (declared_fits ms loaded m h.0 h.1) (h.2).1 (h.2).2
+
+pub each_checked : EachCheckedFits
+each_checked ms m c loaded h =
+    let k = each_formed ms m c loaded h in
+    (well_formed (faces_of ms c.imports) c.tree k.0, k.1, k.2)
+
+pub each_tree_agrees : EachTreeAgrees
+each_tree_agrees shapes says ms m c loaded h = types_agree shapes says (faces_of ms c.imports) c.tree (each_formed ms m c loaded h).0

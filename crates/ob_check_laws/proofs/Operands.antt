@@ -21,13 +21,14 @@ use Rattle.ob_mean.specs.declared.expression.Argument.{Argument}
 use Rattle.ob_mean.specs.declared.expression.Argument.TheVariants as argument
 use Rattle.ob_mean.specs.declared.expression.Operation.{Operation}
 use Rattle.ob_mean.specs.declared.module.ModuleVariable.TheVariants as module_variable
+use Rattle.ob_mean.specs.declared.module.Parameter.TheVariants as parameter
 use Rattle.ob_mean.specs.declared.operator.Operator.{Operator}
 use Rattle.ob_mean.specs.declared.operator.Relation.{Relation}
 use Rattle.ob_mean.specs.declared.operator.UnaryOperator.{UnaryOperator}
 use Rattle.ob_mean.specs.declared.operator.UnaryOperator.TheVariants as one
 use Rattle.ob_mean.specs.declared.shape.Shape.{Shape}
 use Rattle.ob_mean.specs.declared.shape.Shape.TheVariants as shape
-use Rattle.ob_mean.specs.WellFormed.{Names, Of, ExprFits, IndexesFit, IsPassed, IsText, object_of, module_object, elements_in}
+use Rattle.ob_mean.specs.WellFormed.{Names, Of, IsText, is_told, object_of, module_object, elements_in}
 use Rattle.ob_check_scope.specs.declared.predeclared.Function.{Function}
 use Rattle.ob_check_scope.specs.declared.predeclared.Function.TheVariants as function
 use Rattle.ob_check_scope.specs.Rule.{gives}
@@ -44,17 +45,21 @@ use Rattle.ob_check_operand.specs.Functions.{ordinal_of, is_array, length_of, un
 use Rattle.ob_check_strings.specs.Strings.{string_at, number_or, with_more}
 use Rattle.ob_check_strings.proofs.Numbers.{string_reads}
 use Rattle.ob_check_operand.specs.Relations.{compared, texts_related, values_related, characters_related, related}
-use Rattle.ob_check_operand.specs.Passing.{has_elements, variable_passed, variable_argument, fixed_text, text_passed, structure_passed, value_passed}
-use Rattle.ob_check_operand.specs.Selecting.{element_of, part_as}
+use Rattle.ob_check_operand.specs.Passing.{has_elements, named_record, record_passed, variable_passed, variable_argument, fixed_text, text_passed, structure_passed, value_passed}
+use Rattle.ob_check_operand.specs.Selecting.{Selected, element_of, part_as}
 use Rattle.ob_check_stmt.specs.Assignments.{is_open}
-use Rattle.ob_check_module.specs.Shapes.{shape_of, parameter_of}
-use Rattle.ob_check_laws.specs.Fitting.{Suits, OperandFits, OperationListFits, ExprListFits, StartsWith}
+use Rattle.ob_check_kinds.specs.Declarable.{is_record}
+use Rattle.ob_check_kinds.specs.Kinds.{levels_to}
+use Rattle.ob_check_kinds.specs.Shapes.{shape_of, parameter_of}
+use Rattle.ob_check_laws.specs.Fitting.{Suits, TellsRight, OperandFits, OperationListFits, ExprListFits, StartsWith}
 use Rattle.ob_check_laws.proofs.Bases.{part_fits}
+use Rattle.ob_check_laws.proofs.Guards.{record_named}
 use Rattle.ob_check_laws.proofs.Forms.{unary_fits, chain_fits, every_fits, either_fits}
 use Rattle.ob_check_laws.proofs.Rules.{there_is, if_some, starts_before, starts_reads}
 use Rattle.ob_types.specs.Solid.{IsSolid}
 use Rattle.ob_check_laws.proofs.Solid.{array_cells}
 use Rattle.ob_check_laws.proofs.Suiting.{never, nothing, some_same, closed_suits, basic_suits, elements_suit, text_suits, char_basic}
+use Rattle.ob_check_laws.specs.Formed.{ExprFits, IndexesFit, IsPassed}
 
 -- ---- values of operands
 
@@ -331,49 +336,81 @@ is_passed : (o : Option Designator) (a : Argument) → option_map (λ part. argu
 is_passed None a h = nothing a h
 is_passed (Some part) a h = (part, refl, some_same (argument.Place part) a h)
 
-variable_is : (names : Names) (formal t : ObType) (d : Designator) (a : Argument) → variable_passed formal t d ≡ Some a → IndexesFit names d → Suits t (object_of names d) → IsPassed names a (parameter_of kind.Variable formal)
+-- what a VAR parameter of record type names
+told_passed : (names : Names) (formal t : ObType) (d : Designator) (told : Bool) (a : Argument) → is_record formal ≡ true → record_passed kind.Variable formal t d told ≡ Some a → IndexesFit names d → Suits t (object_of names d) → TellsRight t told (is_told names d) → IsPassed names a (parameter.Extended (shape_of formal))
+told_passed names formal t d told a r h g s k = by (levels_to formal t) refl h
+  where
+    by : (o : Option ℕ) → levels_to formal t ≡ o → option_map (λ levels. named_record told t d levels) o ≡ Some a → IsPassed names a (parameter.Extended (shape_of formal))
+    by None e f = nothing a f
+    by (Some levels) e f = subst (λ x. IsPassed names x (parameter.Extended (shape_of formal))) (some_same _ a f) (record_named names formal t d told levels e r g s k)
+
+variable_is : (names : Names) (formal t : ObType) (d : Designator) (told : Bool) (a : Argument) → variable_passed kind.Variable formal t d told ≡ Some a → IndexesFit names d → Suits t (object_of names d) → TellsRight t told (is_told names d) → IsPassed names a (parameter_of kind.Variable formal)
 unfolding variable_passed block.hidden-the_row-ObType-0 denote.Hole.Carrier.hidden block.shown-the_row-ObType-0 denote.Hole.Carrier.shown out-ObType denote.Hole.Carrier.out
-variable_is names (OfBasic b) t d a h g s =
+variable_is names (OfBasic b) t d told a h g s w =
     let k = same_place names (OfBasic b) t d a refl h g s in subst (λ x. IsPassed names x (parameter_of kind.Variable (OfBasic b))) k.0 (k.1, k.2)
-variable_is names (Array' n p (more_of-ObType x end_of-ObType)) t d a h g s =
+variable_is names (Array' n p (more_of-ObType x end_of-ObType)) t d told a h g s w =
     let k = same_place names (Array n x) t d a refl h g s in subst (λ y. IsPassed names y (parameter_of kind.Variable (Array n x))) k.0 (k.1, k.2)
-variable_is names (Open' p (more_of-ObType x end_of-ObType)) t d a h g s =
+variable_is names (Open' p (more_of-ObType x end_of-ObType)) t d told a h g s w =
     let k = if_some (has_elements x t) (argument.Open d) a h in
     subst (λ y. IsPassed names y (parameter_of kind.Variable (Open x))) k.1 (g, elements_suit t x (object_of names d) (elements_are x t k.0) s)
-variable_is names (Record r) t d a h g s =
+variable_is names (Record r) t d told a h g s w = told_passed names (Record r) t d told a refl h g s w
+
+-- a structured value
+abbrev IsStructure : ObType → Type 0
+IsStructure (OfBasic b) = ⊥
+IsStructure (Array' n p e) = Unit {0}
+IsStructure (Open' p e) = Unit {0}
+IsStructure (Record r) = Unit {0}
+
+value_is : (names : Names) (formal t : ObType) (d : Designator) (told : Bool) (a : Argument) → IsStructure formal → variable_passed kind.Value formal t d told ≡ Some a → IndexesFit names d → Suits t (object_of names d) → IsPassed names a (parameter_of kind.Value formal)
+unfolding variable_passed block.hidden-the_row-ObType-0 denote.Hole.Carrier.hidden block.shown-the_row-ObType-0 denote.Hole.Carrier.shown out-ObType denote.Hole.Carrier.out
+value_is names (OfBasic b) t d told a w h g s = absurd w
+value_is names (Array' n p (more_of-ObType x end_of-ObType)) t d told a w h g s =
+    let k = same_place names (Array n x) t d a refl h g s in subst (λ y. IsPassed names y (parameter_of kind.Value (Array n x))) k.0 (k.1, k.2)
+value_is names (Open' p (more_of-ObType x end_of-ObType)) t d told a w h g s =
+    let k = if_some (has_elements x t) (argument.Open d) a h in
+    subst (λ y. IsPassed names y (parameter_of kind.Value (Open x))) k.1 (g, elements_suit t x (object_of names d) (elements_are x t k.0) s)
+value_is names (Record r) t d told a w h g s =
     let p = is_passed (part_as (Record r) t d) a h in
     let k = part_fits names (Record r) t d p.0 p.1 g s in
-    subst (λ y. IsPassed names y (parameter_of kind.Variable (Record r))) p.2 (k.0, closed_suits (Record r) (object_of names p.0) refl k.1)
+    subst (λ y. IsPassed names y (parameter_of kind.Value (Record r))) p.2 (k.0, closed_suits (Record r) (object_of names p.0) refl k.1)
 
-pub variable_argument_fits : (names : Names) (vs : Variables) (formal t : ObType) (d : Designator) (p : Argument × Variables) → gives (variable_argument vs formal t d) p → PassedIf (IndexesFit names d × Suits t (object_of names d)) names vs kind.Variable formal p
+pub variable_argument_fits : (names : Names) (formal : ObType) (at : Selected) (p : Argument × Variables) → gives (variable_argument kind.Variable formal at) p → PassedIf (IndexesFit names at.1 × Suits at.0 (object_of names at.1) × TellsRight at.0 at.3 (is_told names at.1)) names at.2 kind.Variable formal p
 unfolding variable_argument
-variable_argument_fits names vs formal t d p h s = (
-  λ g. subst (λ x. IsPassed names x.0 (parameter_of kind.Variable formal)) h.2 (variable_is names formal t d h.0 (there_is (variable_passed formal t d) code.Parameters h.0 h.1) g.0 g.1),
+variable_argument_fits names formal at p h s = (
+  λ g. subst (λ x. IsPassed names x.0 (parameter_of kind.Variable formal)) h.2 (variable_is names formal at.0 at.1 at.3 h.0 (there_is (variable_passed kind.Variable formal at.0 at.1 at.3) code.Parameters h.0 h.1) g.0 g.1 g.2),
   subst (λ x. StartsWith names.variables x.1) (sym h.2) s,
 )
 
-text_passed_fits : (names : Names) (vs : Variables) (formal : ObType) (t : List ℕ) (p : Argument × Variables) → gives (text_passed vs formal t) p → PassedFits names vs kind.Variable formal p
+value_argument_fits : (names : Names) (formal : ObType) (at : Selected) (p : Argument × Variables) → IsStructure formal → gives (variable_argument kind.Value formal at) p → PassedIf (IndexesFit names at.1 × Suits at.0 (object_of names at.1)) names at.2 kind.Value formal p
+unfolding variable_argument
+value_argument_fits names formal at p w h s = (
+  λ g. subst (λ x. IsPassed names x.0 (parameter_of kind.Value formal)) h.2 (value_is names formal at.0 at.1 at.3 h.0 w (there_is (variable_passed kind.Value formal at.0 at.1 at.3) code.Parameters h.0 h.1) g.0 g.1),
+  subst (λ x. StartsWith names.variables x.1) (sym h.2) s,
+)
+
+text_passed_fits : (names : Names) (vs : Variables) (formal : ObType) (t : List ℕ) (p : Argument × Variables) → gives (text_passed vs formal t) p → PassedFits names vs kind.Value formal p
 unfolding text_passed fixed_text block.hidden-the_row-ObType-0 denote.Hole.Carrier.hidden block.shown-the_row-ObType-0 denote.Hole.Carrier.shown out-ObType denote.Hole.Carrier.out
 text_passed_fits names vs (OfBasic b) t p h s = absurd h
 text_passed_fits names vs (Array' n w (more_of-ObType x end_of-ObType)) t p h s =
     let q = h.1.1 in
     let k = text_variable_fits names vs t n q.0 q.1 (subst (λ y. StartsWith names.variables y.1) (sym q.2) s) in (
-      subst (λ y. IsPassed names y.0 (parameter_of kind.Variable (Array n x))) q.2 (k.0.0, k.0.1 ∙ ap (λ y. Some (Of (shape.Array n y))) (sym (char_basic x h.0))),
+      subst (λ y. IsPassed names y.0 (parameter_of kind.Value (Array n x))) q.2 (k.0.0, k.0.1 ∙ ap (λ y. Some (Of (shape.Array n y))) (sym (char_basic x h.0))),
       k.1,
     )
 text_passed_fits names vs (Open' w (more_of-ObType x end_of-ObType)) t p h s =
     let q = h.1 in
     let k = text_variable_fits names vs t (length t + 1) q.0 q.1 (subst (λ y. StartsWith names.variables y.1) (sym q.2) s) in (
-      subst (λ y. IsPassed names y.0 (parameter_of kind.Variable (Open x))) q.2 (k.0.0, ap elements_in k.0.1 ∙ array_elements (length t + 1) shape.Basic ∙ ap Some (sym (char_basic x h.0))),
+      subst (λ y. IsPassed names y.0 (parameter_of kind.Value (Open x))) q.2 (k.0.0, ap elements_in k.0.1 ∙ array_elements (length t + 1) shape.Basic ∙ ap Some (sym (char_basic x h.0))),
       k.1,
     )
 text_passed_fits names vs (Record r) t p h s = absurd h
 
-structure_fits : (names : Names) (vs : Variables) (formal : ObType) (alone : Bool) (v : Operand) (p : Argument × Variables) → gives (structure_passed vs formal alone v) p → PassedIf (OperandFits names v) names vs kind.Variable formal p
+structure_fits : (names : Names) (vs : Variables) (formal : ObType) (alone : Bool) (v : Operand) (p : Argument × Variables) → IsStructure formal → gives (structure_passed vs formal alone v) p → PassedIf (OperandFits names v) names vs kind.Value formal p
 unfolding structure_passed
-structure_fits names vs formal alone (operand.Value b x) p h s = absurd h
-structure_fits names vs formal alone (operand.Text t) p h s = let k = text_passed_fits names vs formal t p h s in (λ g. k.0, k.1)
-structure_fits names vs formal alone (operand.Place t d) p h s = let k = variable_argument_fits names vs formal t d p h.1 s in (λ g. k.0 (g.0, g.1), k.1)
+structure_fits names vs formal alone (operand.Value b x) p w h s = absurd h
+structure_fits names vs formal alone (operand.Text t) p w h s = let k = text_passed_fits names vs formal t p h s in (λ g. k.0, k.1)
+structure_fits names vs formal alone (operand.Place t d) p w h s = let k = value_argument_fits names formal (t, d, vs, false) p w h.1 s in (λ g. k.0 (g.0, g.1), k.1)
 
 pub value_passed_fits : (names : Names) (vs : Variables) (formal : ObType) (line : ℕ) (alone : Bool) (v : Operand) (p : Argument × Variables) → gives (value_passed vs formal line alone v) p → PassedIf (OperandFits names v) names vs kind.Value formal p
 unfolding value_passed block.hidden-the_row-ObType-0 denote.Hole.Carrier.hidden block.shown-the_row-ObType-0 denote.Hole.Carrier.shown out-ObType denote.Hole.Carrier.out
@@ -381,6 +418,6 @@ value_passed_fits names vs (OfBasic b) line alone v p h s = (
   λ g. subst (λ y. IsPassed names y.0 (parameter_of kind.Value (OfBasic b))) h.2 (value_fits names b line v h.0 (there_is (value_for b line v) code.Types h.0 h.1) g),
   subst (λ x. StartsWith names.variables x.1) (sym h.2) s,
 )
-value_passed_fits names vs (Array' n w (more_of-ObType x end_of-ObType)) line alone v p h s = structure_fits names vs (Array n x) alone v p h s
-value_passed_fits names vs (Open' w (more_of-ObType x end_of-ObType)) line alone v p h s = structure_fits names vs (Open x) alone v p h s
-value_passed_fits names vs (Record r) line alone v p h s = structure_fits names vs (Record r) alone v p h s
+value_passed_fits names vs (Array' n w (more_of-ObType x end_of-ObType)) line alone v p h s = structure_fits names vs (Array n x) alone v p tt h s
+value_passed_fits names vs (Open' w (more_of-ObType x end_of-ObType)) line alone v p h s = structure_fits names vs (Open x) alone v p tt h s
+value_passed_fits names vs (Record r) line alone v p h s = structure_fits names vs (Record r) alone v p tt h s

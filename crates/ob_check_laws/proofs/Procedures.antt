@@ -9,7 +9,7 @@ use Rattle.ob_mean.specs.declared.expression.TypedExpr.{TypedExpr}
 use Rattle.ob_mean.specs.declared.module.Parameter.{Parameter}
 use Rattle.ob_mean.specs.declared.module.TypedProcedure.{TypedProcedure}
 use Rattle.ob_mean.specs.declared.shape.Shape.{Shape}
-use Rattle.ob_mean.specs.WellFormed.{Names, ListFits, ResultFits, ShapesFit, own_heading, is_there}
+use Rattle.ob_mean.specs.WellFormed.{Names, ShapesFit, own_heading, is_there}
 use Rattle.ob_check_scope.specs.declared.block.Declared.{Declared}
 use Rattle.ob_check_scope.specs.declared.block.Entry.{Entry}
 use Rattle.ob_check_scope.specs.declared.block.Entry.TheVariants as entry
@@ -23,7 +23,7 @@ use Rattle.ob_check_scope.specs.Scope.{left, left_into}
 use Rattle.ob_check_scope.specs.Stack.{is_empty}
 use Rattle.ob_check_operand.specs.Operands.{Variables}
 use Rattle.ob_check_module.specs.Procedures.{procedures_in, counted, nested, own_shapes, result_at, Checking, typed_procedure, body_of, inside_of, procedure_of, procedure_at}
-use Rattle.ob_check_module.specs.Shapes.{parameters_of}
+use Rattle.ob_check_kinds.specs.Shapes.{parameters_of}
 use Rattle.ob_check_stmt.specs.Statements.{statements_at}
 use Rattle.ob_check_laws.specs.Fitting.{StartsWith, ScopeFits, heading_of}
 use Rattle.ob_check_laws.specs.Solid.{EachSolid}
@@ -34,6 +34,7 @@ use Rattle.ob_check_laws.proofs.Grows.{same, longer, one_longer, Extends, begins
 use Rattle.ob_check_laws.proofs.Locals.{InProcedure, declarations_fit}
 use Rattle.ob_check_laws.proofs.Rules.{joined_none, starts_reads}
 use Rattle.ob_check_laws.proofs.Statements.{statements_fit, optional_fits}
+use Rattle.ob_check_laws.specs.Formed.{ListFits, ResultFits}
 
 -- ---- procedures and variables only grow
 

@@ -11,7 +11,7 @@ use Rattle.ob_types.specs.declared.exports.Object.TheVariants as object
 use Rattle.ob_types.specs.declared.exports.Signature.{Signature}
 use Rattle.ob_types.specs.declared.structure.ObType.{ObType}
 use Rattle.ob_mean.specs.declared.expression.Callee.TheVariants as callee
-use Rattle.ob_mean.specs.WellFormed.{Names, Of, called, variable_object, face_object, face_heading, shape_object}
+use Rattle.ob_mean.specs.WellFormed.{Names, Of, called, variable_object, is_told_variable, face_object, face_heading, shape_object}
 use Rattle.ob_check_scope.specs.declared.block.Entry.{Entry}
 use Rattle.ob_check_scope.specs.declared.block.Entry.TheVariants as entry
 use Rattle.ob_check_scope.specs.declared.predeclared.InputName.{InputName}
@@ -32,8 +32,8 @@ use Rattle.ob_check_scope.specs.Scope.{seen, outer}
 use Rattle.ob_check_operand.specs.Named.{Meant, Callable, Writable}
 use Rattle.ob_check_operand.specs.Named as meaning
 use Rattle.ob_check_operand.specs.Names.{input_read, output_read, object_read, member_read_layer, member_read, input_member_layer, output_member_layer, input_member, output_member, entry_read, read_at, no_variable, entry_written, written_at, predeclared_called, whole, input_called, output_called, object_called, member_called_layer, member_called, input_call_layer, output_call_layer, input_call, output_call, entry_called, name_called, called_at}
-use Rattle.ob_check_module.specs.Shapes.{shape_of}
-use Rattle.ob_check_laws.specs.Fitting.{Suits, EntryFits, ScopeFits, loaded_face, heading_of, variable_shapes, procedure_headings}
+use Rattle.ob_check_kinds.specs.Shapes.{shape_of}
+use Rattle.ob_check_laws.specs.Fitting.{Suits, TellsRight, EntryFits, ScopeFits, loaded_face, heading_of, variable_shapes, procedure_headings}
 use Rattle.ob_types.specs.Solid.{IsSolid, ObjectSolid}
 use Rattle.ob_check_laws.specs.Solid.{LoadedSolid}
 use Rattle.ob_check_laws.proofs.Rules.{there_is}
@@ -111,7 +111,7 @@ imported_procedure ms place name t h = by (slice_get ms place) h
 abbrev pub MeantFits : Names → Meant → Type 0
 MeantFits names (meaning.Constant c) = Unit {0}
 MeantFits names meaning.InputDone = Unit {0}
-MeantFits names (meaning.Variable t v xs) = Suits t (variable_object names v) × IsSolid t
+MeantFits names (meaning.Variable t v told xs) = Suits t (variable_object names v) × IsSolid t × TellsRight t told (is_told_variable names v)
 
 input_read_fits : (names : Names) (i : InputName) (xs : List Selector) (m : Meant) → gives (input_read i xs) m → MeantFits names m
 unfolding input_read
@@ -127,7 +127,7 @@ object_read_fits : (names : Names) (i number : ℕ) (o : Object) (xs : List Sele
 unfolding object_read
 object_read_fits names i number (object.Constant c) [] m g k h = subst (MeantFits names) h tt
 object_read_fits names i number (object.Constant c) (x ∷ xs) m g k h = absurd h
-object_read_fits names i number (object.Variable t) xs m g k h = subst (MeantFits names) h (inl (g t refl), k.0)
+object_read_fits names i number (object.Variable t) xs m g k h = subst (MeantFits names) h (inl (g t refl), k.0, λ r. refl)
 object_read_fits names i number (object.TypeName t) xs m g k h = absurd h
 object_read_fits names i number (object.Procedure p) xs m g k h = absurd h
 
@@ -171,9 +171,12 @@ read_fits ms names s d m f h =
 
 -- ---- names that are written
 
-entry_written_fits : (ms : Modules) (names : Names) (s : Scope) (e : Entry) (xs : List Selector) (w : Writable) → EntryFits ms names s e → gives (entry_written ms s e xs) w → Suits w.0 (variable_object names w.1) × IsSolid w.0
+abbrev pub WritableFits : Names → Writable → Type 0
+WritableFits names w = Suits w.0 (variable_object names w.1) × IsSolid w.0 × TellsRight w.0 w.2 (is_told_variable names w.1)
+
+entry_written_fits : (ms : Modules) (names : Names) (s : Scope) (e : Entry) (xs : List Selector) (w : Writable) → EntryFits ms names s e → gives (entry_written ms s e xs) w → WritableFits names w
 unfolding entry_written
-entry_written_fits ms names s (entry.Variable t v) xs w g h = subst (λ x. Suits x.0 (variable_object names x.1) × IsSolid x.0) h.1 g
+entry_written_fits ms names s (entry.Variable t v) xs w g h = subst (WritableFits names) h.1 g
 entry_written_fits ms names s (entry.Constant c) xs w g h = absurd h
 entry_written_fits ms names s (entry.TypeName t) xs w g h = absurd h
 entry_written_fits ms names s (entry.Procedure p n) xs w g h = absurd h
@@ -184,7 +187,7 @@ entry_written_fits ms names s entry.Out (x ∷ xs) w g h = absurd h
 entry_written_fits ms names s (entry.Module i place) [] w g h = absurd h
 entry_written_fits ms names s (entry.Module i place) (x ∷ xs) w g h = absurd h
 
-pub written_fits : (ms : Modules) (names : Names) (s : Scope) (d : Written) (w : Writable) → ScopeFits ms names s → gives (written_at ms s d) w → Suits w.0 (variable_object names w.1) × IsSolid w.0
+pub written_fits : (ms : Modules) (names : Names) (s : Scope) (d : Written) (w : Writable) → ScopeFits ms names s → gives (written_at ms s d) w → WritableFits names w
 unfolding written_at
 written_fits ms names s d w f h =
     entry_written_fits ms names s h.0 (out-Designator d).selectors w

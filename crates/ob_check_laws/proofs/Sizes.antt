@@ -1,5 +1,5 @@
 -- Variables of few cells: those of declared types, strings, and what interfaces say.
-use Rattle.std.proofs.Common.{◌≡◌, ◌≤◌, ◌<◌, ℕ, zero, suc, ◌+◌, ◌*◌, max, nat_le, ◌++◌, Bool, true, false, cond, List, [], ◌∷◌, Some, None, refl, sym, subst, arith}
+use Rattle.std.proofs.Common.{◌≡◌, ◌≤◌, ◌<◌, ℕ, zero, suc, ◌+◌, ◌*◌, max, nat_le, ◌++◌, Bool, true, false, cond, List, [], ◌∷◌, Some, refl, sym, subst, arith}
 use Rattle.std.proofs.Math.Nat.{le-max_right}
 use Rattle.std.proofs.lemmas.Bool.Decides.{nat_tests}
 use Rattle.std.specs.Str.{bytes_eq}
@@ -22,10 +22,9 @@ use Rattle.ob_mean.specs.WellFormed.{cell_limit, ShapesFit, VariablesFit, FacesF
 use Rattle.ob_check_scope.specs.declared.rule.RuleCode.TheVariants as code
 use Rattle.ob_check_decl.specs.Declarations.{most_cells, cells_behind}
 use Rattle.ob_check_scope.specs.Exports.{Modules}
-use Rattle.ob_check_scope.specs.LoadedTree.{LoadedTree}
 use Rattle.ob_check_scope.specs.Rule.{gives, there}
 use Rattle.ob_check_module.specs.declared.checked.Imported.{Imported}
-use Rattle.ob_check_module.specs.Shapes.{shape_of, shapes_of}
+use Rattle.ob_check_kinds.specs.Shapes.{shape_of, shapes_of}
 use Rattle.ob_check_laws.specs.Fitting.{variable_shape, variable_shapes, face_of_loaded, with_face, face_named, faces_of}
 use Rattle.ob_check_laws.specs.Solid.{EachSolid}
 use Rattle.ob_check_laws.proofs.Rules.{if_some, there_is}

@@ -42,9 +42,10 @@ use Rattle.ob_check_scope.specs.Imports.{exported_at, exported_by}
 use Rattle.ob_check_scope.specs.LoadedTree.{LoadedTree}
 use Rattle.ob_check_scope.specs.Rule.{Rule, gives, through}
 use Rattle.ob_check_scope.specs.Scope.{seen, outer}
-use Rattle.ob_check_decl.specs.WrittenTypes.{predeclared_type, own_type, object_type, other_type, qualified, type_named, length_of, next_length, array_of, field_of, next_fields, extended, begun, record_rule, type_layer, type_rule, inner_constant, inner_type, type_at, numbered}
+use Rattle.ob_check_const.specs.NamedTypes.{predeclared_type, own_type, object_type, other_type, qualified, type_named}
+use Rattle.ob_check_decl.specs.WrittenTypes.{length_of, next_length, array_of, field_of, next_fields, extended, begun, record_rule, type_layer, type_rule, inner_constant, inner_type, type_at, numbered}
 use Rattle.ob_check_operand.specs.Selecting.{element_of, field_from}
-use Rattle.ob_check_module.specs.Shapes.{shape_of, shapes_of}
+use Rattle.ob_check_kinds.specs.Shapes.{shape_of, shapes_of}
 use Rattle.ob_mean.specs.WellFormed.{Object as Object', elements_in}
 use Rattle.ob_check_operand.specs.Functions.{is_array}
 use Rattle.ob_check_laws.specs.Fitting.{Suits}

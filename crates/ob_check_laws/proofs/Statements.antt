@@ -21,7 +21,7 @@ use Rattle.ob_mean.specs.declared.statement.CaseArm.{CaseArm, roll-CaseArm}
 use Rattle.ob_mean.specs.declared.statement.ForHead.{ForHead as TypedHead}
 use Rattle.ob_mean.specs.declared.statement.LabelRange.{LabelRange as TypedRange}
 use Rattle.ob_mean.specs.declared.statement.TypedStatement.{TypedStatement}
-use Rattle.ob_mean.specs.WellFormed.{Names, ExprFits, IsBasic, StatFits, ListFits, HeadFits, variable_object}
+use Rattle.ob_mean.specs.WellFormed.{Names, IsBasic, variable_object}
 use Rattle.ob_check_scope.specs.declared.block.Entry.{Entry}
 use Rattle.ob_check_scope.specs.declared.block.Entry.TheVariants as entry
 use Rattle.ob_check_scope.specs.declared.predeclared.Predeclared.{Predeclared}
@@ -37,6 +37,7 @@ use Rattle.ob_check_laws.proofs.Expressions.{value_at_fits, value_for_fits, guar
 use Rattle.ob_check_laws.proofs.Actions.{assignment_fits, call_fits}
 use Rattle.ob_check_laws.proofs.Rules.{through_keeps}
 use Rattle.ob_check_laws.proofs.Suiting.{never, basic_suits}
+use Rattle.ob_check_laws.specs.Formed.{ExprFits, StatFits, ListFits, HeadFits}
 
 -- statements, where the variables begin with these
 abbrev pub StatementsAre : Names → Variables → (List TypedStatement) × Variables → Type 0

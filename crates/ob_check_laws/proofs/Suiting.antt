@@ -3,21 +3,19 @@ use Rattle.std.proofs.Common.{◌≡◌, ◌⊎◌, inl, inr, ℕ, zero, suc, �
 use Rattle.std.specs.Str.{bytes_eq}
 use Rattle.ob_types.specs.declared.structure.Basic.{Basic}
 use Rattle.ob_types.specs.declared.structure.Field.{Field}
-use Rattle.ob_types.specs.declared.structure.RecordType.{RecordType, out-RecordType}
+use Rattle.ob_types.specs.declared.structure.RecordType.{RecordType}
 use Rattle.ob_types.specs.declared.structure.ObType.{ObType, end_of-ObType, more_of-ObType, out-ObType}
 use Rattle.ob_types.specs.declared.structure.ObType.TheVariants.{Basic as OfBasic, Array', Open', Array, Open, Record}
 use Rattle.ob_types.specs.declared.structure.ObType.TheBlock as block
 use Rattle.ob_types.specs.Types.{is_char}
 use Rattle.ob_mean.specs.declared.shape.Shape.{Shape, Row_of-Shape, end_of-Shape, more_of-Shape, items-the_row-Shape, items_hidden-the_row-Shape-1}
 use Rattle.ob_mean.specs.declared.shape.Shape.TheVariants as shape
-use Rattle.ob_mean.specs.WellFormed.{Object, Of, elements_in, field_in, field_shape, field_at, shape_object}
-use Rattle.ob_check_scope.specs.declared.scope.Scope.{Scope}
-use Rattle.ob_check_scope.specs.Rule.{gives}
+use Rattle.ob_mean.specs.WellFormed.{Object, Of, elements_in, field_shape, field_at, shape_object}
 use Rattle.ob_check_operand.specs.Operands.{is_text}
-use Rattle.ob_check_operand.specs.Selecting.{field_of, field_from, seen_field, element_of}
+use Rattle.ob_check_operand.specs.Selecting.{field_from, element_of}
 use Rattle.ob_check_stmt.specs.Assignments.{is_open}
-use Rattle.ob_check_module.specs.Shapes.{shape_of, shapes_in}
-use Rattle.ob_check_module.proofs.ShapeForms.{shape_array, shape_open, shape_record}
+use Rattle.ob_check_kinds.specs.Shapes.{shape_of, shapes_in}
+use Rattle.ob_check_kinds.proofs.ShapeForms.{shape_array, shape_open}
 use Rattle.ob_check_laws.specs.Fitting.{Suits}
 
 pub never : {A : Type 0} → false ≡ true → A

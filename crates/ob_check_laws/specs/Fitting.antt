@@ -1,5 +1,5 @@
 -- What the static rules go through, beside what a module can name: the parts of a tree that are lists, operands, scopes.
-use Rattle.std.specs.Prelude.{◌≡◌, ℕ, List, [], ◌∷◌, ◌++◌, Option, Some, None, ◌⊎◌, slice_get, is_some, if◌then◌else◌}
+use Rattle.std.specs.Prelude.{◌≡◌, ℕ, Bool, true, List, [], ◌∷◌, ◌++◌, Option, Some, None, ◌⊎◌, slice_get, is_some, if◌then◌else◌}
 use Rattle.std.specs.Str.{bytes_eq}
 use Rattle.ob_tree.specs.declared.tree.Module.{Module}
 use Rattle.ob_types.specs.declared.exports.Exported.{Exported}
@@ -17,7 +17,7 @@ use Rattle.ob_mean.specs.declared.face.Face.{Face}
 use Rattle.ob_mean.specs.declared.shape.Shape.{Shape}
 use Rattle.ob_mean.specs.declared.statement.Branch.{Branch, out-Branch}
 use Rattle.ob_mean.specs.declared.statement.CaseArm.{CaseArm, out-CaseArm}
-use Rattle.ob_mean.specs.WellFormed.{Names, Object as Named, Of, OpenOf, ExprFits, IndexesFit, ListFits, IsFaceOf, IsWellFormed, object_of, variable_object, called}
+use Rattle.ob_mean.specs.WellFormed.{Names, Object as Named, Of, OpenOf, IsFaceOf, IsWellFormed, object_of, variable_object, is_told_variable, called}
 use Rattle.ob_check_scope.specs.declared.block.Entry.{Entry}
 use Rattle.ob_check_scope.specs.declared.block.Entry.TheVariants as entry
 use Rattle.ob_check_scope.specs.declared.scope.Scope.{Scope}
@@ -26,13 +26,16 @@ use Rattle.ob_check_scope.specs.Exports.{Modules}
 use Rattle.ob_check_scope.specs.Scope.{seen, variable_of}
 use Rattle.ob_check_operand.specs.declared.operand.Operand.{Operand}
 use Rattle.ob_check_operand.specs.declared.operand.Operand.TheVariants as operand
+use Rattle.ob_check_operand.specs.Names.{tells}
+use Rattle.ob_check_kinds.specs.Declarable.{is_record}
 use Rattle.ob_check_scope.specs.Rule.{gives}
 use Rattle.ob_check_module.specs.declared.checked.Imported.{Imported}
 use Rattle.ob_check_module.specs.CheckedTree.{CheckedTree}
 use Rattle.ob_check_module.specs.Modules.{module_at}
-use Rattle.ob_check_module.specs.Shapes.{shape_of, parameters_of}
+use Rattle.ob_check_kinds.specs.Shapes.{shape_of, parameters_of}
 use Rattle.ob_types.specs.Solid.{IsSolid, ExportsSolid}
 use Rattle.ob_check_laws.specs.Solid.{LoadedSolid, EachSolid}
+use Rattle.ob_check_laws.specs.Formed.{ExprFits, IndexesFit, ListFits}
 
 -- ---- what is known of a module by its interface
 
@@ -88,6 +91,10 @@ OperandFits names (operand.Value b x) = ExprFits names x
 OperandFits names (operand.Text t) = Unit {0}
 OperandFits names (operand.Place t d) = IndexesFit names d × Suits t (object_of names d) × IsSolid t
 
+-- of a record, whether a type is told of it is so
+abbrev pub TellsRight : ObType → Bool → Bool → Type 0
+TellsRight t told is = is_record t ≡ true → told ≡ is
+
 -- a list begins with another
 abbrev pub StartsWith : {A : Type 0} → List A → List A → Type 0
 StartsWith {A} all first = (rest : List A) × (all ≡ first ++ rest)
@@ -105,7 +112,8 @@ loaded_face (Some m) = Some (face_of_loaded m)
 abbrev pub EntryFits : Modules → Names → Scope → Entry → Type 0
 EntryFits ms names s (entry.Constant c) = Unit {0}
 EntryFits ms names s (entry.TypeName t) = Unit {0}
-EntryFits ms names s (entry.Variable t place) = Suits t (variable_object names (variable_of s place)) × IsSolid t
+EntryFits ms names s (entry.Variable t place) =
+    Suits t (variable_object names (variable_of s place)) × IsSolid t × TellsRight t (tells place) (is_told_variable names (variable_of s place))
 EntryFits ms names s (entry.Procedure p n) = called names (callee.OfModule n) ≡ Some (heading_of p)
 EntryFits ms names s entry.In = Unit {0}
 EntryFits ms names s entry.Out = Unit {0}

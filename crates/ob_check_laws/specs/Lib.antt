@@ -1,2 +1,4 @@
 pub mod Solid
+pub mod Formed
 pub mod Fitting
+pub mod Agreeing

@@ -1,5 +1,5 @@
 -- Loaded modules that export types whose arrays have elements, and variables of fewer than 2^31 cells.
-use Rattle.std.specs.Prelude.{List, [], ◌∷◌, Option, Some, None}
+use Rattle.std.specs.Prelude.{[], ◌∷◌, Option, Some, None}
 use Rattle.ob_types.specs.Solid.{ExportsSolid}
 use Rattle.ob_check_scope.specs.LoadedTree.{LoadedTree}
 use Rattle.ob_check_scope.specs.Exports.{Modules}

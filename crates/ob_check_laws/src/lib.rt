@@ -1,6 +1,7 @@
 //! The typed trees that the static rules give are well formed: laws of the definitions.
 #![tactic(auto)]
 
+ghost use Rattle.ob_check_laws.specs.Agreeing.{EachTreeAgrees};
 ghost use Rattle.ob_check_laws.specs.Fitting.{EachCheckedFits};
 
 /// Where the types that loaded modules export have cells (no array of length 0 is among them) and the variables fewer than 2^31,
@@ -11,4 +12,10 @@ ghost use Rattle.ob_check_laws.specs.Fitting.{EachCheckedFits};
 /// what it exports is so too.
 pub fn fitting_law()
     ensures { EachCheckedFits }
+{}
+
+/// Where what loaded modules export is so, the record types in the typed tree that the static rules give a module agree with all
+/// shapes that give the name of each type the shape of the type: the names of each are those of a type and its bases, written out.
+pub fn kinds_law()
+    ensures { EachTreeAgrees }
 {}

@@ -1,2 +1,1 @@
-pub mod ShapeForms
 pub mod Answering

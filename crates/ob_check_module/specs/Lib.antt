@@ -1,4 +1,3 @@
-pub mod Shapes
 pub mod Procedures
 pub mod CheckedTree
 pub mod Modules

@@ -20,7 +20,7 @@ use Rattle.ob_check_scope.specs.LoadedTree.{LoadedTree}
 use Rattle.ob_check_scope.specs.Rule.{Rule, Given, Then, through}
 use Rattle.ob_check_module.specs.Procedures.{Checking, body_at, procedure_at}
 use Rattle.ob_check_module.specs.CheckedTree.{CheckedTree}
-use Rattle.ob_check_module.specs.Shapes.{shape_of}
+use Rattle.ob_check_kinds.specs.Shapes.{shape_of}
 use Rattle.ob_check_module.specs.declared.checked.Imported.{Imported}
 
 -- ---- variables: those that others see come first

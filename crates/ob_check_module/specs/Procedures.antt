@@ -26,7 +26,7 @@ use Rattle.ob_check_scope.specs.Rule.{Rule, Given, Breaks, Then, through}
 use Rattle.ob_check_scope.specs.Scope.{left}
 use Rattle.ob_check_expr.specs.Expressions.{value_for_at}
 use Rattle.ob_check_operand.specs.Operands.{Variables}
-use Rattle.ob_check_module.specs.Shapes.{shape_of, parameters_of}
+use Rattle.ob_check_kinds.specs.Shapes.{shape_of, parameters_of}
 use Rattle.ob_check_stmt.specs.Statements.{optional, statements_at}
 
 -- the procedures in a procedure

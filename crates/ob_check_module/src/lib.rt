@@ -2,12 +2,8 @@
 #![tactic(auto)]
 
 mod checked;
-mod made;
 mod module;
 mod procedure;
-mod shapes;
 
 pub use checked::{Checked, Imported};
-pub use made::Made;
 pub use module::check;
-pub use shapes::{parameters_of, shape_of};

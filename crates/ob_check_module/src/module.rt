@@ -9,11 +9,10 @@ ghost use Rattle.ob_check_module.specs.Codes.{AnswersTree, FaultsOnly, HasRuleCo
 ghost use Rattle.ob_check_module.specs.Modules as spec;
 
 use crate::checked::{Checked, Imported};
-use crate::made::Made;
 use crate::procedure::procedures;
-use crate::shapes::shape_of;
 use ob_base::{Items, Refused};
 use ob_check_decl::{MAX_NESTING, declared_by, exported_procedures, interface_of};
+use ob_check_kinds::{Made, shape_of};
 use ob_check_scope::rejected::{Rejected, told};
 use ob_check_scope::{Declared, Entry, Imports, LoadedModule, Scope, Site, Standing};
 use ob_check_stmt::statement::optional;

@@ -5,11 +5,10 @@ ghost use Rattle.ob_tree.specs.declared.tree.Procedure.{out-Procedure};
 ghost use Rattle.ob_check_scope.specs.Rule.{Judges, through};
 ghost use Rattle.ob_check_module.specs.Procedures as spec;
 
-use crate::made::Made;
-use crate::shapes::{parameters_of, shape_of};
 use ob_base::Items;
 use ob_check_decl::{Entered, declare_all, enter_procedure};
 use ob_check_expr::assigned_value;
+use ob_check_kinds::{Made, parameters_of, shape_of};
 use ob_check_scope::rejected::{Rejected, broken, open};
 use ob_check_scope::rule::RuleCode;
 use ob_check_scope::{Declared, Entry, Imports, Scope, Site, Standing};

@@ -81,10 +81,14 @@ shift_of function.Ord = None
 shift_of function.Chr = None
 shift_of function.Len = None
 
+-- a shift of a number by another
+abbrev pub shifted : Operator → ℕ → TypedExpr → TypedExpr → Operand
+shifted op line x y = operand.Value basic.Integer (typed.Chain x (operation op line y ∷ []))
+
 -- a function of two values
 unfoldable pub two_of : Function → ℕ → Operand → Operand → Rule Operand
 two_of f line v w =
     Then (there (shift_of f) code.Parameters) (λ op.
     Then (there (number_of v) code.Parameters) (λ x.
     Then (there (number_of w) code.Parameters) (λ y.
-    Given (operand.Value basic.Integer (typed.Chain x (operation op line y ∷ []))))))
+    Given (shifted op line x y))))

@@ -13,6 +13,8 @@ use Rattle.ob_mean.specs.declared.expression.Callee.TheVariants as callee
 use Rattle.ob_mean.specs.declared.expression.Variable.TheVariants as variable
 use Rattle.ob_check_scope.specs.declared.block.Entry.{Entry}
 use Rattle.ob_check_scope.specs.declared.block.Entry.TheVariants as entry
+use Rattle.ob_check_scope.specs.declared.block.Standing.{Standing}
+use Rattle.ob_check_scope.specs.declared.block.Standing.TheVariants as standing
 use Rattle.ob_check_scope.specs.declared.predeclared.InputName.{InputName}
 use Rattle.ob_check_scope.specs.declared.predeclared.InputName.TheVariants as input
 use Rattle.ob_check_scope.specs.declared.predeclared.OutputName.{OutputName}
@@ -27,6 +29,17 @@ use Rattle.ob_check_scope.specs.Rule.{Rule, Given, Breaks, Then, Needs, there}
 use Rattle.ob_check_scope.specs.Scope.{seen, outer, variable_of, is_writable}
 use Rattle.ob_check_operand.specs.Named.{Meant, Callable, Writable}
 use Rattle.ob_check_operand.specs.Named as meaning
+
+-- ---- variables
+
+-- Whether a type is told of what a variable names: a VAR parameter may name the base part of a record of an extension, and is told
+-- the type of that. All others have the type that they are declared with.
+abbrev pub tells : Standing → Bool
+tells (standing.Exported i) = false
+tells (standing.Own i) = false
+tells (standing.Local i) = false
+tells (standing.ByParameter i) = true
+tells (standing.ReadOnly i) = false
 
 -- ---- names that are read
 
@@ -44,7 +57,7 @@ output_read o = Breaks code.Types
 unfoldable pub object_read : ℕ → ℕ → Object → List Selector → Rule Meant
 object_read i number (object.Constant c) [] = Given (meaning.Constant c)
 object_read i number (object.Constant c) (x ∷ xs) = Breaks code.Types
-object_read i number (object.Variable t) xs = Given (meaning.Variable t (variable.OfImport i number) xs)
+object_read i number (object.Variable t) xs = Given (meaning.Variable t (variable.OfImport i number) false xs)
 object_read i number (object.TypeName t) xs = Breaks code.Types
 object_read i number (object.Procedure p) xs = Breaks code.Types
 
@@ -77,7 +90,7 @@ output_member x = output_member_layer (out-Selector x)
 unfoldable pub entry_read : Modules → Scope → Entry → List Selector → Rule Meant
 entry_read ms s (entry.Constant c) [] = Given (meaning.Constant c)
 entry_read ms s (entry.Constant c) (x ∷ xs) = Breaks code.Types
-entry_read ms s (entry.Variable t v) xs = Given (meaning.Variable t (variable_of s v) xs)
+entry_read ms s (entry.Variable t v) xs = Given (meaning.Variable t (variable_of s v) (tells v) xs)
 entry_read ms s (entry.TypeName t) xs = Breaks code.Types
 entry_read ms s (entry.Procedure p n) xs = Breaks code.Types
 entry_read ms s entry.In [] = Breaks code.Types
@@ -138,7 +151,7 @@ object_written ms place x = unwritten (has_object ms place (out-Selector x))
 
 -- a variable that may be written, whatever the selectors after it select
 unfoldable pub entry_written : Modules → Scope → Entry → List Selector → Rule Writable
-entry_written ms s (entry.Variable t v) xs = Needs (is_writable v) code.ReadOnly (Given (t, variable_of s v, xs))
+entry_written ms s (entry.Variable t v) xs = Needs (is_writable v) code.ReadOnly (Given (t, variable_of s v, tells v, xs))
 entry_written ms s (entry.Constant c) xs = Breaks code.ReadOnly
 entry_written ms s (entry.TypeName t) xs = Breaks code.ReadOnly
 entry_written ms s (entry.Procedure p n) xs = Breaks code.ReadOnly

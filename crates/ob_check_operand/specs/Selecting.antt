@@ -1,11 +1,12 @@
 -- To be believed.
--- Parts of variables: fields of records and of their bases, elements of arrays (Wirth, The Programming Language Oberon, Oberon-07).
--- Another module sees the exported fields alone.
+-- Parts of variables: fields of records and of their bases, elements of arrays, and guards (Wirth, The Programming Language Oberon,
+-- Oberon-07). Another module sees the exported fields alone.
 use Rattle.std.specs.Prelude.{ℕ, ◌+◌, List, [], ◌∷◌, Bool, true, false, ◌||◌, Option, Some, None, option_map, if◌then◌else◌}
 use Rattle.std.specs.Str.{bytes_eq}
 use Rattle.ob_check_scope.specs.declared.rule.RuleCode.{RuleCode}
 use Rattle.ob_check_scope.specs.declared.rule.RuleCode.TheVariants as code
 use Rattle.ob_tree.specs.declared.tree.Expr.{Expr}
+use Rattle.ob_tree.specs.declared.tree.Qualident.{Qualident}
 use Rattle.ob_tree.specs.declared.tree.Selector.{Selector, out-Selector}
 use Rattle.ob_tree.specs.declared.tree.Factor.TheOpen.{Selector-F}
 use Rattle.ob_tree.specs.FirstToken.{first_of}
@@ -16,10 +17,16 @@ use Rattle.ob_types.specs.declared.structure.ObType.TheOpen.{ObType-F}
 use Rattle.ob_types.specs.Types.{same, chain}
 use Rattle.ob_mean.specs.declared.expression.Designator.{Designator}
 use Rattle.ob_mean.specs.declared.expression.Designator.TheVariants as designator
+use Rattle.ob_mean.specs.declared.expression.TypedExpr.TheVariants as typed
+use Rattle.ob_types.specs.declared.structure.Basic.TheVariants as basic
 use Rattle.ob_check_scope.specs.declared.scope.Scope.{Scope}
 use Rattle.ob_check_const.specs.Constants.{SelectorLayer}
+use Rattle.ob_check_const.specs.NamedTypes.{is_record, type_named}
+use Rattle.ob_check_kinds.specs.Kinds.{names_of, kind_of, levels_to}
+use Rattle.ob_check_scope.specs.Exports.{Modules}
 use Rattle.ob_check_scope.specs.Rule.{Rule, Given, Breaks, Then, Needs, there, through}
 use Rattle.ob_check_operand.specs.declared.operand.Operand.{Operand}
+use Rattle.ob_check_operand.specs.declared.operand.Operand.TheVariants as operand
 use Rattle.ob_check_operand.specs.Operands.{TypeLayer, Variables, number_of}
 
 -- ---- fields
@@ -95,9 +102,31 @@ element_of t = element_layer (out-ObType t)
 
 -- ---- selectors, from left to right
 
--- a part, with its type, and the strings so far
+-- a part, with its type, the strings so far, and whether a type is told of it
 abbrev pub Selected : Type 0
-Selected = ObType × Designator × Variables
+Selected = ObType × Designator × Variables × Bool
+
+-- The record type that a guard or a test names, and how many bases down from it the type stands that is asked: that type itself,
+-- or an extension of it.
+unfoldable pub extension_named : Modules → Scope → ObType → Qualident → Rule (ObType × ℕ)
+extension_named ms s of q =
+    Then (type_named ms s q) (λ t.
+    Needs (is_record t) code.Types (
+    Then (there (levels_to of t) code.Types) (λ levels. Given (t, levels))))
+
+-- What is guarded, of which a type has to be told: it is a record of the type that the guard names. A trap names the line of that
+-- name.
+unfoldable pub guarded : Modules → Scope → Selected → Qualident → Rule Selected
+guarded ms s at q =
+    Then (extension_named ms s at.0 q) (λ t.
+    Needs at.3 code.Types (
+    Given (t.0, designator.Guarded at.1 q.first.span.line (kind_of t.0) t.1, at.2, true)))
+
+-- A test, of what a type has to be told too: whether what it names is of the named type or of one that extends that.
+unfoldable pub tested : Modules → Scope → Selected → Qualident → Rule (Operand × Variables)
+tested ms s at q =
+    Needs at.3 code.Types (
+    Then (extension_named ms s at.0 q) (λ t. Given (operand.Value basic.Boolean (typed.Test at.1 (names_of t.0)), at.2)))
 
 module _ (inner : Variables → Expr → Rule (Operand × Variables)) where
   -- one index, a number: a trap names the line of its first token
@@ -106,14 +135,13 @@ module _ (inner : Variables → Expr → Rule (Operand × Variables)) where
       Then (there (element_of at.0) code.Types) (λ t.
       Then (inner at.2 e) (λ v.
       Then (there (number_of v.0) code.Types) (λ i.
-      Given (t, designator.Element at.1 (first_of e).line i, v.1))))
+      Given (t, designator.Element at.1 (first_of e).line i, v.1, false))))
 
   -- `a[i, j]` is `a[i][j]`
-  abbrev pub selector_layer : Scope → Selected → SelectorLayer → Rule Selected
-  selector_layer s at (Selector-F.Field f) = Then (field_of s at.0 f.name at.1) (λ p. Given (p.0, p.1, at.2))
-  selector_layer s at (Selector-F.Index es) = through indexed at es
-  -- guards are left out
-  selector_layer s at (Selector-F.Guard q) = Breaks code.LeftOut
+  abbrev pub selector_layer : Modules → Scope → Selected → SelectorLayer → Rule Selected
+  selector_layer ms s at (Selector-F.Field f) = Then (field_of s at.0 f.name at.1) (λ p. Given (p.0, p.1, at.2, false))
+  selector_layer ms s at (Selector-F.Index es) = through indexed at es
+  selector_layer ms s at (Selector-F.Guard q) = guarded ms s at q
 
-  unfoldable pub selected : Scope → Selected → Selector → Rule Selected
-  selected s at x = selector_layer s at (out-Selector x)
+  unfoldable pub selected : Modules → Scope → Selected → Selector → Rule Selected
+  selected ms s at x = selector_layer ms s at (out-Selector x)

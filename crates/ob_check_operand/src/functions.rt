@@ -2,7 +2,7 @@
 
 ghost use Rattle.std.specs.Prelude.{◌≡◌, is_some};
 ghost use Rattle.ob_check_scope.specs.declared.rule.RuleCode.TheVariants as code;
-ghost use Rattle.ob_check_scope.specs.Rule.{Judges, there};
+ghost use Rattle.ob_check_scope.specs.Rule.{Judges, Given, Then, there};
 ghost use Rattle.ob_check_operand.specs.Operands.{only_character};
 ghost use Rattle.ob_check_operand.specs.Functions as spec;
 
@@ -15,6 +15,7 @@ use ob_mean::{Operation, Operator, TypedExpr, UnaryOperator};
 use ob_scan::Span;
 use ob_types::{Basic, ObType};
 use std::alloc::Global;
+use std::mem::drop;
 
 fn ordinal_of(operand: Operand) -> Option<TypedExpr>
     ensures { result ≡ spec.ordinal_of operand }
@@ -159,6 +160,54 @@ pub fn shift_of(function: Function) -> Option<Operator>
     }
 }
 
+/// A shift of a number by another. A trap names the line.
+fn shifted(
+    alloc: Global,
+    operator: Operator,
+    line: usize,
+    left: TypedExpr,
+    right: TypedExpr,
+) -> Result<Operand, Rejected>
+    ensures { Judges (Given (spec.shifted operator line left right)) result }
+{
+    let mut steps = Items::new(alloc);
+    steps.push(Operation {
+        operator,
+        line,
+        operand: right,
+    })?;
+    Ok(Operand::Value(
+        Basic::Integer,
+        TypedExpr::Chain(Boxed::new(alloc, left)?, steps),
+    ))
+}
+
+/// A shift of two values that have to be numbers. The first fault stands at `span`, the second at `second`.
+fn numbers_shifted(
+    alloc: Global,
+    operator: Operator,
+    span: Span,
+    left: Option<TypedExpr>,
+    right: Option<TypedExpr>,
+    second: Span,
+) -> Result<Operand, Rejected>
+    ensures { Judges (Then (there left code.Parameters) (λ x. Then (there right code.Parameters) (λ y. Given (spec.shifted operator span.line x y)))) result }
+{
+    match left {
+        None => {
+            drop(right);
+            Err(Rejected::Rule(broken(RuleCode::Parameters, span)))
+        }
+        Some(left) => match right {
+            None => {
+                drop(left);
+                Err(Rejected::Rule(broken(RuleCode::Parameters, second)))
+            }
+            Some(right) => shifted(alloc, operator, span.line, left, right),
+        },
+    }
+}
+
 /// A function of two values. Its name stands at `span`, and the second value at `second`.
 #[tactic(auto, unfolding(crate::specs::Functions::two_of))]
 pub fn two_of(
@@ -171,17 +220,14 @@ pub fn two_of(
 ) -> Result<Operand, Rejected>
     ensures { Judges (spec.two_of function span.line left right) result }
 {
-    let operator = fitting(shift_of(function), RuleCode::Parameters, span)?;
-    let left = fitting(number_of(left), RuleCode::Parameters, span)?;
-    let right = fitting(number_of(right), RuleCode::Parameters, second)?;
-    let mut steps = Items::new(alloc);
-    steps.push(Operation {
-        operator,
-        line: span.line,
-        operand: right,
-    })?;
-    Ok(Operand::Value(
-        Basic::Integer,
-        TypedExpr::Chain(Boxed::new(alloc, left)?, steps),
-    ))
+    let left = number_of(left);
+    let right = number_of(right);
+    match shift_of(function) {
+        Some(operator) => numbers_shifted(alloc, operator, span, left, right, second),
+        None => {
+            drop(left);
+            drop(right);
+            Err(Rejected::Rule(broken(RuleCode::Parameters, span)))
+        }
+    }
 }

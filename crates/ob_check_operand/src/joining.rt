@@ -1,7 +1,9 @@
 //! Signs, sums and products.
 
-ghost use Rattle.std.specs.Prelude.{◌≡◌};
-ghost use Rattle.ob_check_scope.specs.Rule.{Judges, Given};
+ghost use Rattle.std.specs.Prelude.{◌≡◌, [], ◌∷◌, ◌++◌};
+ghost use Rattle.ob_check_scope.specs.declared.rule.RuleCode.TheVariants as code;
+ghost use Rattle.ob_check_scope.specs.Rule.{Judges, Given, Then, there};
+ghost use Rattle.ob_check_operand.specs.declared.joining.Joined.TheVariants as joined;
 ghost use Rattle.ob_check_operand.specs.Joining as spec;
 
 use crate::operand::{Operand, fitting, is_number, is_truth, number_of, truth_of};
@@ -13,6 +15,7 @@ use ob_scan::Span;
 use ob_tree::tree::{AddOperator, MulOperator, Sign};
 use ob_types::Basic;
 use std::alloc::Global;
+use std::mem::drop;
 
 /// What an operator joins.
 #[derive(Clone, Copy)]
@@ -65,6 +68,37 @@ pub fn may_join(joining: Joining, left: &Joined) -> bool
     }
 }
 
+/// One step more.
+fn next_step(
+    first: TypedExpr,
+    so_far: Items<Operation>,
+    step: Operation,
+) -> Result<Joined, Rejected>
+    ensures { Judges (Given (joined.Numbers first (so_far ++ step ∷ []))) result }
+{
+    let mut steps = so_far;
+    steps.push(step)?;
+    Ok(Joined::Numbers(first, steps))
+}
+
+/// The first step, after what has to be a number.
+fn first_step(
+    alloc: Global,
+    first: Option<TypedExpr>,
+    step: Operation,
+    span: Span,
+) -> Result<Joined, Rejected>
+    ensures { Judges (Then (there first code.Types) (λ x. Given (joined.Numbers x (step ∷ [])))) result }
+{
+    match first {
+        Some(first) => next_step(first, Items::new(alloc), step),
+        None => {
+            drop(step);
+            Err(Rejected::Rule(broken(RuleCode::Types, span)))
+        }
+    }
+}
+
 #[tactic(auto, unfolding(crate::specs::Joining::with_number))]
 fn with_number(
     alloc: Global,
@@ -75,24 +109,50 @@ fn with_number(
 ) -> Result<Joined, Rejected>
     ensures { Judges (spec.with_number operator span.line left right) result }
 {
-    let operation = Operation {
+    let step = Operation {
         operator,
         line: span.line,
         operand: right,
     };
     match left {
-        Joined::One(operand) => {
-            let first = fitting(number_of(operand), RuleCode::Types, span)?;
-            let mut steps = Items::new(alloc);
-            steps.push(operation)?;
-            Ok(Joined::Numbers(first, steps))
+        Joined::One(operand) => first_step(alloc, number_of(operand), step, span),
+        Joined::Numbers(first, so_far) => next_step(first, so_far, step),
+        Joined::Truths(all) => {
+            drop(all);
+            drop(step);
+            Err(Rejected::Rule(broken(RuleCode::Types, span)))
         }
-        Joined::Numbers(first, so_far) => {
-            let mut steps = so_far;
-            steps.push(operation)?;
-            Ok(Joined::Numbers(first, steps))
+    }
+}
+
+/// One truth value more.
+fn next_truth(so_far: Items<TypedExpr>, right: TypedExpr) -> Result<Joined, Rejected>
+    ensures { Judges (Given (joined.Truths (so_far ++ right ∷ []))) result }
+{
+    let mut all = so_far;
+    all.push(right)?;
+    Ok(Joined::Truths(all))
+}
+
+/// The second truth value, after what has to be one.
+fn second_truth(
+    alloc: Global,
+    first: Option<TypedExpr>,
+    right: TypedExpr,
+    span: Span,
+) -> Result<Joined, Rejected>
+    ensures { Judges (Then (there first code.Types) (λ x. Given (joined.Truths (x ∷ right ∷ [])))) result }
+{
+    match first {
+        Some(first) => {
+            let mut all = Items::new(alloc);
+            all.push(first)?;
+            next_truth(all, right)
         }
-        Joined::Truths(_) => Err(Rejected::Rule(broken(RuleCode::Types, span))),
+        None => {
+            drop(right);
+            Err(Rejected::Rule(broken(RuleCode::Types, span)))
+        }
     }
 }
 
@@ -101,18 +161,13 @@ fn with_truth(alloc: Global, span: Span, left: Joined, right: TypedExpr) -> Resu
     ensures { Judges (spec.with_truth left right) result }
 {
     match left {
-        Joined::One(operand) => {
-            let first = fitting(truth_of(operand), RuleCode::Types, span)?;
-            let mut all = Items::new(alloc);
-            all.push(first)?;
-            all.push(right)?;
-            Ok(Joined::Truths(all))
-        }
-        Joined::Numbers(_, _) => Err(Rejected::Rule(broken(RuleCode::Types, span))),
-        Joined::Truths(so_far) => {
-            let mut all = so_far;
-            all.push(right)?;
-            Ok(Joined::Truths(all))
+        Joined::One(operand) => second_truth(alloc, truth_of(operand), right, span),
+        Joined::Truths(so_far) => next_truth(so_far, right),
+        Joined::Numbers(first, steps) => {
+            drop(first);
+            drop(steps);
+            drop(right);
+            Err(Rejected::Rule(broken(RuleCode::Types, span)))
         }
     }
 }
@@ -129,14 +184,20 @@ pub fn with_operand(
     ensures { Judges (spec.with_operand joining span.line left right) result }
 {
     match joining {
-        Joining::Numbers(operator) => {
-            let right = fitting(number_of(right), RuleCode::Types, span)?;
-            with_number(alloc, operator, span, left, right)
-        }
-        Joining::Truths => {
-            let right = fitting(truth_of(right), RuleCode::Types, span)?;
-            with_truth(alloc, span, left, right)
-        }
+        Joining::Numbers(operator) => match number_of(right) {
+            Some(right) => with_number(alloc, operator, span, left, right),
+            None => {
+                drop(left);
+                Err(Rejected::Rule(broken(RuleCode::Types, span)))
+            }
+        },
+        Joining::Truths => match truth_of(right) {
+            Some(right) => with_truth(alloc, span, left, right),
+            None => {
+                drop(left);
+                Err(Rejected::Rule(broken(RuleCode::Types, span)))
+            }
+        },
     }
 }
 

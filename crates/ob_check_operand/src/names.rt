@@ -12,7 +12,7 @@ use ob_check_scope::predeclared::{
 };
 use ob_check_scope::rejected::{Rejected, broken};
 use ob_check_scope::rule::RuleCode;
-use ob_check_scope::{Entry, Imports, Scope, is_writable};
+use ob_check_scope::{Entry, Imports, Scope, Standing, is_writable};
 use ob_mean::{Callee, Variable};
 use ob_scan::Span;
 use ob_tree::tree::{Designator, Selector};
@@ -24,8 +24,8 @@ pub enum Named<'a> {
     Constant(&'a Constant),
     /// In.Done.
     InputDone,
-    /// A variable, its type, and the selectors after it.
-    Variable(&'a ObType, Variable, &'a [Selector]),
+    /// A variable, its type, whether a type is told of what it names, and the selectors after it.
+    Variable(&'a ObType, Variable, bool, &'a [Selector]),
 }
 
 /// A variable that may be written.
@@ -33,6 +33,8 @@ pub enum Named<'a> {
 pub struct Target<'a> {
     pub of: &'a ObType,
     pub variable: Variable,
+    /// Whether a type is told of what it names.
+    pub told: bool,
     /// The selectors after it.
     pub behind: &'a [Selector],
 }
@@ -50,6 +52,18 @@ pub enum Called<'a> {
     Input(InputName),
     /// A procedure of Out.
     Output(OutputName),
+}
+
+/// Whether a type is told of what a variable names: of a VAR parameter.
+pub fn tells(standing: Standing) -> bool
+    ensures { result ≡ spec.tells standing }
+{
+    match standing {
+        Standing::ByParameter(_) => true,
+        Standing::Exported(_) | Standing::Own(_) | Standing::Local(_) | Standing::ReadOnly(_) => {
+            false
+        }
+    }
 }
 
 #[tactic(auto, unfolding(crate::specs::Names::input_read))]
@@ -115,7 +129,8 @@ fn object_read<'a>(
     match (object, behind) {
         (Object::Constant(constant), []) => Ok(Named::Constant(constant)),
         (Object::Variable(of), _) => {
-            Ok(Named::Variable(of, Variable::OfImport(import, number), behind))
+            let variable = Variable::OfImport(import, number);
+            Ok(Named::Variable(of, variable, false, behind))
         }
         (Object::Constant(_), [_, ..]) | (Object::TypeName(_), _) | (Object::Procedure(_), _) =>
             Err(Rejected::Rule(broken(RuleCode::Types, span))),
@@ -160,7 +175,8 @@ fn entry_read<'a>(
     match (entry, selectors) {
         (Entry::Constant(constant), []) => Ok(Named::Constant(constant)),
         (Entry::Variable(of, standing), _) => {
-            Ok(Named::Variable(of, scope.variable_of(*standing), selectors))
+            let variable = scope.variable_of(*standing);
+            Ok(Named::Variable(of, variable, tells(*standing), selectors))
         }
         (Entry::In, [selector, behind @ ..]) => input_member(selector, behind, span),
         (Entry::Out, [selector, ..]) => output_member(selector, span),
@@ -280,6 +296,7 @@ fn entry_written<'a>(
             Ok(Target {
                 of,
                 variable: scope.variable_of(*standing),
+                told: tells(*standing),
                 behind: selectors,
             })
         }

@@ -32,7 +32,8 @@ pub fn number_of(operand: Operand) -> Option<TypedExpr>
 {
     match operand {
         Operand::Value(Basic::Integer | Basic::Byte, value) => Some(value),
-        _ => None,
+        Operand::Value(Basic::Boolean | Basic::Char, _) => None,
+        Operand::Text(_) | Operand::Place(_, _) => None,
     }
 }
 
@@ -42,7 +43,8 @@ pub fn truth_of(operand: Operand) -> Option<TypedExpr>
 {
     match operand {
         Operand::Value(Basic::Boolean, value) => Some(value),
-        _ => None,
+        Operand::Value(Basic::Integer | Basic::Byte | Basic::Char, _) => None,
+        Operand::Text(_) | Operand::Place(_, _) => None,
     }
 }
 
@@ -107,7 +109,10 @@ fn byte_for(alloc: Global, operand: Operand, span: Span) -> Result<TypedExpr, Re
             span.line,
             Boxed::new(alloc, value)?,
         )),
-        _ => Err(Rejected::Rule(broken(RuleCode::Types, span))),
+        Operand::Value(Basic::Boolean, _)
+        | Operand::Value(Basic::Char, _)
+        | Operand::Text(_)
+        | Operand::Place(_, _) => Err(Rejected::Rule(broken(RuleCode::Types, span))),
     }
 }
 

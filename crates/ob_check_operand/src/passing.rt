@@ -3,19 +3,21 @@
 ghost use Rattle.std.specs.Prelude.{◌≡◌, ◌+◌, length, IfOk};
 ghost use Rattle.ob_check_scope.specs.declared.rule.RuleCode.TheVariants as code;
 ghost use Rattle.ob_check_scope.specs.Rule.{Judges, Given, Then, there};
+ghost use Rattle.ob_types.specs.declared.exports.FormalKind.TheVariants as kind;
 ghost use Rattle.ob_mean.specs.declared.expression.Argument.TheVariants as argument;
 ghost use Rattle.ob_check_operand.specs.Operands.{text_variable};
 ghost use Rattle.ob_check_operand.specs.Passing as spec;
 
 use crate::operand::{Operand, fitting, hidden, hidden_with_end, is_char, value_for};
-use crate::selecting::part_as;
+use crate::selecting::{Selected, part_as};
 use ob_base::Text;
+use ob_check_kinds::levels_to;
 use ob_check_scope::rejected::{Rejected, broken};
 use ob_check_scope::rule::RuleCode;
 use ob_check_strings::Variables;
-use ob_mean::{Argument, Designator};
+use ob_mean::Argument;
 use ob_scan::Span;
-use ob_types::{ObType, same};
+use ob_types::{FormalKind, ObType, same};
 use std::alloc::{AllocError, Global};
 
 fn has_elements(element: &ObType, of: &ObType) -> bool
@@ -27,51 +29,86 @@ fn has_elements(element: &ObType, of: &ObType) -> bool
     }
 }
 
-/// A variable for a parameter that names one: of an extension, the part that is of the parameter's type.
+/// What a VAR parameter of record type names, if it has that type or extends it: its type is told with it, or what was told of it
+/// is told again.
+fn record_named(formal: &ObType, at: Selected) -> Result<(Option<Argument>, Variables), AllocError>
+    ensures { IfOk result (λ p. (p.0 ≡ spec.record_passed kind.Variable formal.now at.0 at.1 at.3) × (p.1 ≡ at.2)) }
+{
+    let (of, place, variables, told) = at;
+    let mut variables = variables;
+    match levels_to(formal, &of)? {
+        None => Ok((None, variables)),
+        Some(levels) => {
+            if told {
+                return Ok((Some(Argument::Again(place, levels)), variables));
+            }
+            let kind = variables.kind_of(&of)?;
+            Ok((Some(Argument::Typed(place, kind, levels)), variables))
+        }
+    }
+}
+
+/// The part of a record that is of the parameter's type, as a value.
+fn record_part(
+    alloc: Global,
+    formal: &ObType,
+    at: Selected,
+) -> Result<(Option<Argument>, Variables), AllocError>
+    ensures { IfOk result (λ p. (p.0 ≡ spec.record_passed kind.Value formal.now at.0 at.1 at.3) × (p.1 ≡ at.2)) }
+{
+    let (of, place, variables, _) = at;
+    match part_as(alloc, formal, &of, place)? {
+        Some(part) => Ok((Some(Argument::Place(part)), variables)),
+        None => Ok((None, variables)),
+    }
+}
+
+/// A variable for a parameter that names one.
 #[tactic(auto, unfolding(crate::specs::Passing::variable_passed))]
 fn variable_passed(
     alloc: Global,
+    kind: FormalKind,
     formal: &ObType,
-    of: &ObType,
-    place: Designator,
-) -> Result<Option<Argument>, AllocError>
-    ensures { IfOk result (λ argument. argument ≡ spec.variable_passed formal.now of.now place) }
+    at: Selected,
+) -> Result<(Option<Argument>, Variables), AllocError>
+    ensures { IfOk result (λ p. (p.0 ≡ spec.variable_passed kind formal.now at.0 at.1 at.3) × (p.1 ≡ at.2)) }
 {
     match formal {
         ObType::Open(element) => {
-            if has_elements(element.get(), of) {
-                Ok(Some(Argument::Open(place)))
+            let (of, place, variables, _) = at;
+            if has_elements(element.get(), &of) {
+                Ok((Some(Argument::Open(place)), variables))
             } else {
-                Ok(None)
+                Ok((None, variables))
             }
         }
-        ObType::Record(_) => match part_as(alloc, formal, of, place)? {
-            Some(part) => Ok(Some(Argument::Place(part))),
-            None => Ok(None),
+        ObType::Record(_) => match kind {
+            FormalKind::Variable => record_named(formal, at),
+            FormalKind::Value => record_part(alloc, formal, at),
         },
         ObType::Basic(_) | ObType::Array(_, _) => {
-            if same(formal, of) {
-                Ok(Some(Argument::Place(place)))
+            let (of, place, variables, _) = at;
+            if same(formal, &of) {
+                Ok((Some(Argument::Place(place)), variables))
             } else {
-                Ok(None)
+                Ok((None, variables))
             }
         }
     }
 }
 
-/// A variable as what is passed. The fault stands at `span`.
+/// A variable as what is passed. The fault stands at `span`: 14 where it doesn't fit.
 #[tactic(auto, unfolding(crate::specs::Passing::variable_argument))]
 pub fn variable_argument(
     alloc: Global,
-    variables: Variables,
+    kind: FormalKind,
     formal: &ObType,
-    of: &ObType,
-    place: Designator,
+    at: Selected,
     span: Span,
 ) -> Result<(Argument, Variables), Rejected>
-    ensures { Judges (spec.variable_argument variables formal.now of.now place) result }
+    ensures { Judges (spec.variable_argument kind formal.now at) result }
 {
-    let passed = variable_passed(alloc, formal, of, place)?;
+    let (passed, variables) = variable_passed(alloc, kind, formal, at)?;
     let argument = fitting(passed, RuleCode::Parameters, span)?;
     Ok((argument, variables))
 }
@@ -164,7 +201,8 @@ fn structure_passed(
         Operand::Text(text) => text_passed(variables, formal, text, span),
         Operand::Place(of, place) => {
             if alone {
-                variable_argument(alloc, variables, formal, &of, place, span)
+                let at = (of, place, variables, false);
+                variable_argument(alloc, FormalKind::Value, formal, at, span)
             } else {
                 Err(Rejected::Rule(broken(RuleCode::Parameters, span)))
             }

@@ -2,18 +2,20 @@
 
 ghost use Rattle.std.specs.Prelude.{◌≡◌};
 ghost use Rattle.ob_check_scope.specs.Rule.{Judges, Given};
+ghost use Rattle.ob_check_operand.specs.declared.operand.Operand.TheVariants as operand;
 ghost use Rattle.ob_check_operand.specs.Relations as spec;
 
 use crate::operand::{Operand, character_of, fitting, is_text, text_place};
-use ob_base::{Boxed, Items};
+use ob_base::{Boxed, Items, Text};
 use ob_check_scope::rejected::{Rejected, broken};
 use ob_check_scope::rule::RuleCode;
 use ob_check_strings::Variables;
-use ob_mean::{Operation, Operator, Relation, TypedExpr};
+use ob_mean::{Designator, Operation, Operator, Relation, TypedExpr};
 use ob_scan::Span;
 use ob_tree::tree::Relation as Written;
-use ob_types::Basic;
+use ob_types::{Basic, ObType};
 use std::alloc::Global;
+use std::mem::drop;
 
 pub fn relation_of(relation: Written) -> Relation
     ensures { result ≡ spec.relation_of relation }
@@ -165,8 +167,101 @@ fn characters_related(
     compared(alloc, relation, span, left, right)
 }
 
-/// Two operands with a relation between them, which stands at `span`.
+/// A value with a relation to another operand.
 #[tactic(auto, unfolding(crate::specs::Relations::related))]
+fn value_related(
+    alloc: Global,
+    relation: Relation,
+    span: Span,
+    variables: Variables,
+    left: (Basic, TypedExpr),
+    right: Operand,
+) -> Result<(Operand, Variables), Rejected>
+    ensures { Judges (spec.related relation span.line variables (operand.Value left.0 left.1) right) result }
+{
+    match right {
+        Operand::Value(other, right) => {
+            let value = values_related(alloc, relation, span, left, (other, right))?;
+            Ok((value, variables))
+        }
+        Operand::Text(text) => {
+            let first = Operand::Value(left.0, left.1);
+            let value = characters_related(alloc, relation, span, first, Operand::Text(text))?;
+            Ok((value, variables))
+        }
+        Operand::Place(_, place) => {
+            let (_, value) = left;
+            drop(value);
+            drop(place);
+            Err(Rejected::Rule(broken(RuleCode::Types, span)))
+        }
+    }
+}
+
+/// A string with a relation to another operand.
+#[tactic(auto, unfolding(crate::specs::Relations::related))]
+fn string_related(
+    alloc: Global,
+    relation: Relation,
+    span: Span,
+    variables: Variables,
+    left: Text,
+    right: Operand,
+) -> Result<(Operand, Variables), Rejected>
+    ensures { Judges (spec.related relation span.line variables (operand.Text left) right) result }
+{
+    let first = Operand::Text(left);
+    match right {
+        Operand::Value(other, right) => {
+            let second = Operand::Value(other, right);
+            let value = characters_related(alloc, relation, span, first, second)?;
+            Ok((value, variables))
+        }
+        Operand::Text(text) => {
+            texts_related(relation, span, variables, first, Operand::Text(text))
+        }
+        Operand::Place(of, place) => {
+            texts_related(relation, span, variables, first, Operand::Place(of, place))
+        }
+    }
+}
+
+/// What stands in a variable with a relation to another operand.
+#[tactic(auto, unfolding(crate::specs::Relations::related))]
+fn place_related(
+    relation: Relation,
+    span: Span,
+    variables: Variables,
+    of: ObType,
+    place: Designator,
+    right: Operand,
+) -> Result<(Operand, Variables), Rejected>
+    ensures { Judges (spec.related relation span.line variables (operand.Place of place) right) result }
+{
+    match right {
+        Operand::Value(_, value) => {
+            drop(value);
+            drop(place);
+            Err(Rejected::Rule(broken(RuleCode::Types, span)))
+        }
+        Operand::Text(text) => {
+            let first = Operand::Place(of, place);
+            texts_related(relation, span, variables, first, Operand::Text(text))
+        }
+        Operand::Place(other, second) => {
+            let first = Operand::Place(of, place);
+            texts_related(
+                relation,
+                span,
+                variables,
+                first,
+                Operand::Place(other, second),
+            )
+        }
+    }
+}
+
+/// Two operands with a relation between them, which stands at `span`.
 pub fn related(
     alloc: Global,
     relation: Relation,
@@ -177,20 +272,11 @@ pub fn related(
 ) -> Result<(Operand, Variables), Rejected>
     ensures { Judges (spec.related relation span.line variables left right) result }
 {
-    match (left, right) {
-        (Operand::Value(one, left), Operand::Value(other, right)) => {
-            let value = values_related(alloc, relation, span, (one, left), (other, right))?;
-            Ok((value, variables))
+    match left {
+        Operand::Value(one, value) => {
+            value_related(alloc, relation, span, variables, (one, value), right)
         }
-        (Operand::Value(_, _), Operand::Place(_, _))
-        | (Operand::Place(_, _), Operand::Value(_, _)) => {
-            Err(Rejected::Rule(broken(RuleCode::Types, span)))
-        }
-        (left @ Operand::Value(_, _), right @ Operand::Text(_))
-        | (left @ Operand::Text(_), right @ Operand::Value(_, _)) => {
-            let value = characters_related(alloc, relation, span, left, right)?;
-            Ok((value, variables))
-        }
-        (left, right) => texts_related(relation, span, variables, left, right),
+        Operand::Text(text) => string_related(alloc, relation, span, variables, text, right),
+        Operand::Place(of, place) => place_related(relation, span, variables, of, place, right),
     }
 }

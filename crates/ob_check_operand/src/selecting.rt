@@ -1,22 +1,30 @@
-//! Fields of records and of their bases, and elements of arrays.
+//! Fields of records and of their bases, elements of arrays, and guards.
 
 ghost use Rattle.std.specs.Prelude.{◌≡◌, IfOk, option_map};
 ghost use Rattle.ob_check_scope.specs.declared.rule.RuleCode.TheVariants as code;
 ghost use Rattle.ob_check_scope.specs.Rule.{Judges, there};
 ghost use Rattle.ob_types.specs.declared.structure.ObType.{out-ObType};
 ghost use Rattle.ob_types.specs.Types.{chain};
+ghost use Rattle.ob_check_const.specs.NamedTypes.{written};
 ghost use Rattle.ob_check_operand.specs.Judging.{result_map};
 ghost use Rattle.ob_check_operand.specs.Selecting as spec;
 
+use crate::operand::Operand;
 use ob_base::{Boxed, Text};
-use ob_check_scope::Scope;
+use ob_check_const::named_type::{NameOfType, is_record, type_named};
+use ob_check_kinds::levels_to;
 use ob_check_scope::rejected::{Rejected, broken};
 use ob_check_scope::rule::RuleCode;
-use ob_mean::Designator;
+use ob_check_scope::{Imports, Scope, Site};
+use ob_check_strings::Variables;
+use ob_mean::{Designator, TypedExpr};
 use ob_scan::Span;
 use ob_tree::tree::Ident;
-use ob_types::{Field, ObType, base_of, same};
+use ob_types::{Basic, Field, ObType, base_of, same};
 use std::alloc::{AllocError, Global};
+
+/// A variable or a part of one: its type, its place, the variables of the module so far, and whether a type is told of it.
+pub type Selected = (ObType, Designator, Variables, bool);
 
 fn field_in<'a>(fields: &'a [Field], name: &Text) -> Option<(usize, &'a Field)>
     ensures { option_map (λ p. (p.0, p.1.now)) result ≡ spec.field_from 0 fields.now name.now }
@@ -153,4 +161,67 @@ pub fn element_of<'a>(of: &'a ObType, span: Span) -> Result<&'a ObType, Rejected
         ObType::Array(_, element) | ObType::Open(element) => Ok(element.get()),
         ObType::Basic(_) | ObType::Record(_) => Err(Rejected::Rule(broken(RuleCode::Types, span))),
     }
+}
+
+/// The record type of a name, and how many bases down from it the type `of` stands: that type itself, or an extension of it. 12
+/// at `fault` where it is neither; the codes of a name of a type, where that is broken.
+#[tactic(auto, unfolding(crate::specs::Selecting::extension_named))]
+pub fn extension_named(
+    imports: &Imports,
+    scope: &Scope,
+    of: &ObType,
+    name: NameOfType<'_>,
+    fault: Span,
+) -> Result<(ObType, usize), Rejected>
+    ensures { Judges (spec.extension_named imports.now scope.now of.now (written name.entry)) result }
+{
+    let to = type_named(imports, scope, name)?;
+    if !is_record(&to) {
+        return Err(Rejected::Rule(broken(RuleCode::Types, fault)));
+    }
+    match levels_to(of, &to)? {
+        Some(levels) => Ok((to, levels)),
+        None => Err(Rejected::Rule(broken(RuleCode::Types, fault))),
+    }
+}
+
+/// What is guarded: a record of the type that the guard names. 12 at the name where no type is told of it, or where that is no
+/// record type that is its type or extends it.
+#[tactic(auto, unfolding(crate::specs::Selecting::guarded))]
+pub fn guarded(site: Site<'_>, at: Selected, name: NameOfType<'_>) -> Result<Selected, Rejected>
+    ensures { Judges (spec.guarded site.entry.imports.now site.entry.scope.now at (written name.entry)) result }
+{
+    let (of, place, variables, told) = at;
+    let span = name.first.span;
+    let (to, levels) = extension_named(site.imports, site.scope, &of, name, span)?;
+    if !told {
+        return Err(Rejected::Rule(broken(RuleCode::Types, span)));
+    }
+    let mut variables = variables;
+    let kind = variables.kind_of(&to)?;
+    let inner = Boxed::new(site.alloc, place)?;
+    let place = Designator::Guarded(inner, span.line, kind, levels);
+    Ok((to, place, variables, true))
+}
+
+/// A test of what a variable names: whether it is of the type of this name, or of one that extends that. 12 at `fault` where no
+/// type is told of it, or where the name is of no record type that is its type or extends it.
+#[tactic(auto, unfolding(crate::specs::Selecting::tested))]
+pub fn tested(
+    site: Site<'_>,
+    at: Selected,
+    name: NameOfType<'_>,
+    fault: Span,
+) -> Result<(Operand, Variables), Rejected>
+    ensures { Judges (spec.tested site.entry.imports.now site.entry.scope.now at (written name.entry)) result }
+{
+    let (of, place, variables, told) = at;
+    if !told {
+        return Err(Rejected::Rule(broken(RuleCode::Types, fault)));
+    }
+    let (to, _) = extension_named(site.imports, site.scope, &of, name, fault)?;
+    let mut variables = variables;
+    let kind = variables.kind_of(&to)?;
+    let test = TypedExpr::Test(place, kind.names);
+    Ok((Operand::Value(Basic::Boolean, test), variables))
 }

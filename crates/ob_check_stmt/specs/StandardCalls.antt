@@ -61,7 +61,7 @@ reader_formal reader.Name = text_variable
 unfoldable pub place_passed : Argument → Rule Designator
 place_passed (argument.Place d) = Given d
 place_passed (argument.Open d) = Given d
-place_passed (argument.Value e) = Breaks code.Parameters
+place_passed a = Breaks code.Parameters
 
 -- the value that is passed to a scalar value parameter
 unfoldable pub value_passed : Argument → Rule TypedExpr

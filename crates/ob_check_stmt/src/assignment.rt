@@ -121,6 +121,6 @@ pub fn assignment(
 ) -> Result<(Action, Variables), Rejected>
     ensures { Judges (spec.assignment site.entry.imports.now site.entry.scope.now site.entry.levels variables d.now e.now) result }
 {
-    let (of, to, variables) = target(site, variables, d)?;
+    let (of, to, variables, _) = target(site, variables, d)?;
     assigned(site, basic_of(&of), &of, to, variables, e)
 }

@@ -129,12 +129,21 @@ pub fn for_head(
     let integer = Basic::Integer;
     let (first, variables) = assigned_value(site, integer, variables, h.first.get())?;
     let (last, variables) = assigned_value(site, integer, variables, h.last.get())?;
-    let step = step(site, &h.step)?;
-    let head = TypedHead {
-        variable,
-        first,
-        last,
-        step,
-    };
-    Ok((head, variables))
+    match step(site, &h.step) {
+        Ok(step) => {
+            let head = TypedHead {
+                variable,
+                first,
+                last,
+                step,
+            };
+            Ok((head, variables))
+        }
+        Err(e) => {
+            // By calls, since both have many parts to be let go.
+            drop(first);
+            drop(last);
+            Err(e)
+        }
+    }
 }

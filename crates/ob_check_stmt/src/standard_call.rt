@@ -76,7 +76,7 @@ fn place_passed(argument: Argument, span: Span) -> Result<Designator, Rejected>
     match argument {
         Argument::Place(place) => Ok(place),
         Argument::Open(place) => Ok(place),
-        Argument::Value(_) => Err(Rejected::Rule(broken(RuleCode::Parameters, span))),
+        _ => Err(Rejected::Rule(broken(RuleCode::Parameters, span))),
     }
 }
 
@@ -102,7 +102,12 @@ fn none_left(
 {
     match actuals {
         [] => Ok((action, variables)),
-        [e, ..] => Err(Rejected::Rule(broken(RuleCode::Parameters, e.first_token()))),
+        [e, ..] => {
+            // By calls, since both have many parts to be let go.
+            drop(action);
+            drop(variables);
+            Err(Rejected::Rule(broken(RuleCode::Parameters, e.first_token())))
+        }
     }
 }
 

@@ -275,8 +275,14 @@ fn for_statement(
     ensures { Judges (spec.for_rule site.entry.imports.now site.entry.scope.now site.entry.levels (spec.statements_at site.entry.imports.now site.entry.scope.now site.entry.levels) variables h.now body.now) result }
 {
     let (head, variables) = for_head(site, variables, h)?;
-    let (body, variables) = statements(site, variables, body, h.variable.span)?;
-    Ok((TypedStatement::For(head, body), variables))
+    match statements(site, variables, body, h.variable.span) {
+        Ok((body, variables)) => Ok((TypedStatement::For(head, body), variables)),
+        Err(e) => {
+            // By a call, since it has many parts to be let go.
+            drop(head);
+            Err(e)
+        }
+    }
 }
 
 #[cycle(statement)]

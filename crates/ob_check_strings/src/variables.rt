@@ -5,11 +5,14 @@ ghost use Rattle.std.specs.Cmp.Rules.{comparing};
 ghost use Rattle.std.specs.Str.{bytes_eq};
 ghost use Rattle.std.proofs.Common.{rules};
 ghost use Rattle.ob_mean.specs.declared.module.ModuleVariable.TheVariants as variable;
+ghost use Rattle.ob_check_kinds.specs.Kinds.{kind_of};
 ghost use Rattle.ob_check_strings.specs.Numbered as numbered;
 ghost use Rattle.ob_check_strings.specs.Strings as spec;
 
 use ob_base::{Items, Text};
-use ob_mean::{ModuleVariable, Shape};
+use ob_check_kinds::Kinds;
+use ob_mean::{ModuleVariable, RecordKind, Shape};
+use ob_types::ObType;
 use std::alloc::{AllocError, Global};
 use std::collections::HashMap;
 use std::hash::{Hash, Hasher};
@@ -70,12 +73,13 @@ impl Hash for Written {
 }
 
 /// The variables of a module so far: the declared ones, and after them the strings that it passes and compares. A string has its
-/// number in a map. Contracts see the list of variables.
+/// number in a map. The kinds of record types that are told are kept beside them. Contracts see the list of variables.
 #[derive(Drop)]
 pub struct Variables {
     alloc: Global,
     all: Items<ModuleVariable>,
     numbers: HashMap<Written, usize>,
+    kinds: Kinds,
 }
 
 impl Model for Variables {
@@ -103,6 +107,7 @@ impl Variables {
             alloc,
             all: Items::new(alloc),
             numbers: HashMap::new(alloc),
+            kinds: Kinds::new(alloc),
         }
     }
 
@@ -144,6 +149,15 @@ impl Variables {
         variables.all.push(ModuleVariable::Text(text, elements))?;
         variables.numbers.insert(written, number)?;
         Ok((number, variables))
+    }
+
+    /// A record type by its names, those of its bases, and its shape: one more owner of that of an equal type, if there was one.
+    /// Or lack of memory.
+    pub fn kind_of(&mut self, of: &ObType) -> Result<RecordKind, AllocError>
+        ensures same { self.new ≡ self.old }
+        ensures kind { IfOk result (λ k. k ≡ kind_of of.now) }
+    {
+        self.kinds.kind_of(self.alloc, of)
     }
 
     /// The variables as a list.

@@ -1,7 +1,7 @@
 //! The instructions of the machine, and what they name.
 
-use ob_base::{Items, Shared, SharedItems, Text};
-use ob_mean::{Adjustment, Callee, Operator, Relation, TrapKind, UnaryOperator};
+use ob_base::{Items, SharedItems, Text};
+use ob_mean::{Adjustment, Callee, Operator, Relation, TrapKind, TypeName, UnaryOperator};
 
 /// Cells of a module or of a call: so many from this one on.
 #[derive(Clone, Copy, PartialEq, Eq, Debug)]
@@ -45,13 +45,6 @@ pub enum Target {
     Int(Root),
     String(Span),
     Name(Span),
-}
-
-/// A record type by its name, written out, and how many cells its values take.
-#[derive(Drop)]
-pub struct TypeName {
-    pub text: Shared<Text>,
-    pub cells: usize,
 }
 
 /// One instruction. Operands are numbers of 32 bits. A place is an operand too: the number of its cell in an object that the

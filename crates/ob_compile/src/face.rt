@@ -4,7 +4,7 @@ ghost use Rattle.std.specs.Prelude.{◌≡◌, ◌++◌, IfOk};
 ghost use Rattle.ob_check_laws.specs.Fitting as spec;
 
 use ob_base::Items;
-use ob_check_module::{Made, parameters_of, shape_of};
+use ob_check_kinds::{Made, parameters_of, shape_of};
 use ob_mean::{Face, Heading, Shape};
 use ob_types::{Exported, Interface, Object, Signature};
 use std::alloc::{AllocError, Global};

@@ -2,6 +2,7 @@ pub mod Reaches
 pub mod Store
 pub mod Zeros
 pub mod Few
+pub mod Records
 pub mod Places
 pub mod Passing
 pub mod Expressions

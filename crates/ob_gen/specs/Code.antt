@@ -33,7 +33,7 @@ use Rattle.ob_mean.specs.declared.statement.TypedStatement.TheBlock.{Row_of-Bran
 use Rattle.ob_mean.specs.declared.statement.TypedStatement.TheVariants.{Simple, If', Case', While', Repeat', For'}
 use Rattle.ob_mean.specs.Values.{Whole, Value, Cell, Named, Open, Nothing, Beside, append, count, item, before, size}
 use Rattle.ob_mean.specs.Shapes.{zero_of, zeros, opening_row}
-use Rattle.ob_mean.specs.WellFormed.{Object, Of, OpenOf, Names, object_of, elements_in}
+use Rattle.ob_mean.specs.WellFormed.{Object, Of, OpenOf, Names, object_of, elements_in, base_object}
 use Rattle.ob_code.specs.declared.instr.Extent.{Extent}
 use Rattle.ob_code.specs.declared.instr.Root.{Root}
 use Rattle.ob_code.specs.declared.instr.Root.TheVariants as root
@@ -59,8 +59,9 @@ extent_at row x = record { from = before row x; cells = size (item row x) }
 -- the parameters of a call: one that names something has no cell
 abbrev pub parameter_value : Parameter → Value
 parameter_value parameter.Value = Cell (pos 0)
-parameter_value (parameter.Place shape) = Named Whole
+parameter_value (parameter.Place shape) = Named Whole []
 parameter_value (parameter.Open shape) = Open Whole 0
+parameter_value (parameter.Extended shape) = Named Whole []
 
 abbrev pub parameter_row : List Parameter → Value
 parameter_row [] = Nothing
@@ -78,6 +79,7 @@ abbrev pub named_one : Parameter → ℕ
 named_one parameter.Value = 0
 named_one (parameter.Place shape) = 1
 named_one (parameter.Open shape) = 1
+named_one (parameter.Extended shape) = 1
 
 -- how many of the parameters before this one name something
 abbrev pub named_before : List Parameter → ℕ → ℕ
@@ -96,6 +98,7 @@ abbrev pub root_in : Names → Designator → Root
 root_in names (designator.Whole v) = root_of names v
 root_in names (designator.Element' g (more_of-Designator d end_of-Designator) l h row) = root_in names d
 root_in names (designator.Field' h (more_of-Designator d end_of-Designator) i) = root_in names d
+root_in names (designator.Guarded' h (more_of-Designator d end_of-Designator) l kind levels) = root_in names d
 
 -- ---- what objects are
 
@@ -112,6 +115,10 @@ zero_element (Some shape) = zero_of shape
 abbrev pub cells_of : Names → Designator → ℕ
 cells_of names d = size (zero_in (object_of names d))
 
+-- the base part of one, so many levels down
+abbrev pub base_cells : Names → Designator → ℕ → ℕ
+base_cells names d levels = size (zero_in (base_object levels (object_of names d)))
+
 -- and an element of an array
 abbrev pub element_cells : Names → Designator → ℕ
 element_cells names d = size (zero_element (elements_in (object_of names d)))
@@ -121,6 +128,10 @@ name_number (root.OfModule e) = 0
 name_number (root.OfImport i e) = 0
 name_number (root.OfCall e) = 0
 name_number (root.Named x) = x
+
+-- the number of the name that a designator begins with
+abbrev pub name_in : Names → Designator → ℕ
+name_in names d = name_number (root_in names d)
 
 abbrev pub length_in : Option Object → Root → Length
 length_in None r = Elements 0
@@ -150,11 +161,15 @@ abbrev pub value_one : Argument → ℕ
 value_one (argument.Value e) = 1
 value_one (argument.Place d) = 0
 value_one (argument.Open d) = 0
+value_one (argument.Typed d kind levels) = 0
+value_one (argument.Again d levels) = 0
 
 abbrev pub name_one : Argument → ℕ
 name_one (argument.Value e) = 0
 name_one (argument.Place d) = 1
 name_one (argument.Open d) = 1
+name_one (argument.Typed d kind levels) = 1
+name_one (argument.Again d levels) = 1
 
 abbrev pub row_values : {k : _} → Row_of-Argument k → ℕ
 row_values end_of-Argument = 0
@@ -173,6 +188,8 @@ read_code names h k (designator.Element' g (more_of-Designator d end_of-Designat
     offset ++ line (h + 1) k (instr.LoadAt (root_in names d)) ∷ []
 read_code names h k (designator.Field' g (more_of-Designator d end_of-Designator) i) offset =
     offset ++ line (h + 1) k (instr.LoadAt (root_in names d)) ∷ []
+read_code names h k (designator.Guarded' g (more_of-Designator d end_of-Designator) l kind levels) offset =
+    offset ++ line (h + 1) k (instr.LoadAt (root_in names d)) ∷ []
 
 abbrev mutual
   pub expr_code : Names → ℕ → ℕ → TypedExpr → List Line
@@ -188,6 +205,7 @@ abbrev mutual
   expr_code names h k (expr.Length d) = offset_code names h k d ++ line (h + 1) k (instr.TakeLength (length_of names d)) ∷ []
   expr_code names h k (expr.Function' f l n args) =
       arguments_code names h k args ++ line (h + row_values args) (k + row_names args) (instr.Invoke f l) ∷ []
+  expr_code names h k (expr.Test d type) = offset_code names h k d ++ line (h + 1) k (instr.Test (name_in names d) type) ∷ []
 
   -- the number of a place's first cell in its variable
   pub offset_code : Names → ℕ → ℕ → Designator → List Line
@@ -196,6 +214,9 @@ abbrev mutual
       offset_code names h k d ++ (expr_code names (h + 1) k e ++ line (h + 2) k (instr.Index (length_of names d) (element_cells names d) l) ∷ [])
   offset_code names h k (designator.Field' g (more_of-Designator d end_of-Designator) i) =
       offset_code names h k d ++ line (h + 1) k (instr.AddOffset (before (zero_in (object_of names d)) i)) ∷ []
+  -- a record and its base part begin at one cell
+  offset_code names h k (designator.Guarded' g (more_of-Designator d end_of-Designator) l kind levels) =
+      offset_code names h k d ++ line (h + 1) k (instr.Guard (name_in names d) kind.names trap.Guard l) ∷ []
 
   pub operations_code : Names → ℕ → ℕ → {n : _} → Row_of-Operation n → List Line
   operations_code names h k end_of-Operation = []
@@ -215,6 +236,10 @@ abbrev mutual
   argument_code names h k (argument.Place d) = offset_code names h k d ++ line (h + 1) k (instr.NamePlace (root_in names d) (cells_of names d)) ∷ []
   argument_code names h k (argument.Open d) =
       offset_code names h k d ++ line (h + 1) k (instr.NameArray (root_in names d) (length_of names d) (element_cells names d)) ∷ []
+  argument_code names h k (argument.Typed d kind levels) =
+      offset_code names h k d ++ line (h + 1) k (instr.NameRecord (root_in names d) kind.names (base_cells names d levels)) ∷ []
+  argument_code names h k (argument.Again d levels) =
+      offset_code names h k d ++ line (h + 1) k (instr.NameAgain (name_in names d) (base_cells names d levels)) ∷ []
 
   pub arguments_code : Names → ℕ → ℕ → {n : _} → Row_of-Argument n → List Line
   arguments_code names h k end_of-Argument = []
@@ -261,6 +286,8 @@ assign_code names (designator.Element' g d l i row) e =
     at_place names (designator.Element' g d l i row) (expr_code names 1 0 e ++ line 2 0 (instr.StoreAt (root_in names (designator.Element' g d l i row))) ∷ [])
 assign_code names (designator.Field' g d i) e =
     at_place names (designator.Field' g d i) (expr_code names 1 0 e ++ line 2 0 (instr.StoreAt (root_in names (designator.Field' g d i))) ∷ [])
+assign_code names (designator.Guarded' g d l kind levels) e =
+    at_place names (designator.Guarded' g d l kind levels) (expr_code names 1 0 e ++ line 2 0 (instr.StoreAt (root_in names (designator.Guarded' g d l kind levels))) ∷ [])
 
 abbrev pub action_code : Names → Action → List Line
 action_code names (action.Assign d e) = assign_code names d e

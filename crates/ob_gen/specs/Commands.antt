@@ -10,6 +10,7 @@ use Rattle.ob_code.specs.declared.instr.Procedure.{Procedure}
 use Rattle.ob_code.specs.declared.instr.LinkedModule.{LinkedModule}
 use Rattle.ob_code.specs.Machine.{Code, target_of, number_of, start, picture}
 use Rattle.ob_gen.specs.Code.{line}
+use Rattle.ob_gen.specs.TypesAgree.{Shapes}
 use Rattle.ob_gen.specs.Correct.{Follows, IsCodeOfProgram, BodyBehaves}
 
 -- a call of each
@@ -48,8 +49,8 @@ CommandsBehave program code home cs = Follows program code (commands_meaning pro
 
 -- compiled modules do what they mean, each wherever it is linked to others that may run
 abbrev pub EachBodyBehaves : Type 0
-EachBodyBehaves = (program : Program) (code : Code) (faces : ℕ → List Face) (runs : ℕ → Bool) → IsCodeOfProgram program code faces runs → (home : ℕ) → runs home ≡ true → BodyBehaves program code home
+EachBodyBehaves = (program : Program) (code : Code) (faces : ℕ → List Face) (shapes : Shapes) (runs : ℕ → Bool) → IsCodeOfProgram program code faces shapes runs → (home : ℕ) → runs home ≡ true → BodyBehaves program code home
 
 -- and so do commands of them
 abbrev pub CommandsAllBehave : Type 0
-CommandsAllBehave = (program : Program) (code : Code) (faces : ℕ → List Face) (runs : ℕ → Bool) → IsCodeOfProgram program code faces runs → (home : ℕ) (cs : List Command) → IsCodeOfCommands program code runs home cs → CommandsBehave program code home cs
+CommandsAllBehave = (program : Program) (code : Code) (faces : ℕ → List Face) (shapes : Shapes) (runs : ℕ → Bool) → IsCodeOfProgram program code faces shapes runs → (home : ℕ) (cs : List Command) → IsCodeOfCommands program code runs home cs → CommandsBehave program code home cs

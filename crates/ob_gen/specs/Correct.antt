@@ -15,11 +15,12 @@ use Rattle.ob_mean.specs.Runs.{World, Supply, Run, Stands, Done}
 use Rattle.ob_mean.specs.Programs.{Program, body_meaning, opening_store, kept_store}
 use Rattle.ob_mean.specs.WellFormed.{Names, names_in, names_of, is_there, IsLinked}
 use Rattle.ob_code.specs.declared.instr.NameKind.{NameKind}
-use Rattle.ob_code.specs.declared.instr.NameKind.TheVariants.{Cells, ArrayOf}
+use Rattle.ob_code.specs.declared.instr.NameKind.TheVariants.{Cells, ArrayOf, RecordOf}
 use Rattle.ob_code.specs.declared.instr.Procedure.{Procedure}
 use Rattle.ob_code.specs.declared.instr.LinkedModule.{LinkedModule}
 use Rattle.ob_code.specs.Machine.{Code, Config, Going, Standing, Lost, Comes, start, picture}
 use Rattle.ob_gen.specs.Code.{own_row, procedure_code, named_one}
+use Rattle.ob_gen.specs.TypesAgree.{Shapes, TypesAgree}
 
 -- ---- the code of a program
 
@@ -27,11 +28,12 @@ abbrev pub named_count : List Parameter → ℕ
 named_count [] = 0
 named_count (p ∷ ps) = named_one p + named_count ps
 
--- what a parameter's name stands for: a variable of this shape, or an array of such elements
+-- what a parameter's name stands for: a variable of this shape, an array of such elements, or a record whose type it tells
 abbrev pub name_kind : Parameter → List NameKind
 name_kind parameter.Value = []
 name_kind (parameter.Place shape) = Cells (size (zero_of shape)) ∷ []
 name_kind (parameter.Open shape) = ArrayOf (size (zero_of shape)) ∷ []
+name_kind (parameter.Extended shape) = RecordOf (size (zero_of shape)) ∷ []
 
 abbrev pub name_kinds : List Parameter → List NameKind
 name_kinds [] = []
@@ -70,18 +72,20 @@ abbrev pub AllRun : (ℕ → Bool) → List ℕ → Type 0
 AllRun runs [] = Unit {0}
 AllRun runs (i ∷ is) = (runs i ≡ true) × AllRun runs is
 
--- a module that may run: it is linked, its code is compiled, and those that it imports may run too
-pub record MayRun (program : Program) (code : Code) (faces : ℕ → List Face) (runs : ℕ → Bool) (i : ℕ) : Type 0 where
+-- a module that may run: it is linked, its code is compiled, its record types have the shapes of their names, and those that
+-- it imports may run too
+pub record MayRun (program : Program) (code : Code) (faces : ℕ → List Face) (shapes : Shapes) (runs : ℕ → Bool) (i : ℕ) : Type 0 where
   pub m : Loaded
   pub l : LinkedModule
   pub loaded : slice_get program i ≡ Some m
   pub found : slice_get code i ≡ Some l
   pub linked : IsLinked program (faces i) m
   pub compiled : IsCompiled (faces i) m (before (opening_store program) i) l
+  pub types : TypesAgree shapes m.tree
   pub imports : AllRun runs m.imports
 
-abbrev pub IsCodeOfProgram : Program → Code → (ℕ → List Face) → (ℕ → Bool) → Type 0
-IsCodeOfProgram program code faces runs = (i : ℕ) → runs i ≡ true → MayRun program code faces runs i
+abbrev pub IsCodeOfProgram : Program → Code → (ℕ → List Face) → Shapes → (ℕ → Bool) → Type 0
+IsCodeOfProgram program code faces shapes runs = (i : ℕ) → runs i ≡ true → MayRun program code faces shapes runs i
 
 -- ---- what it does
 

@@ -14,11 +14,11 @@ use ob_mean::{Action, Designator, InputCall, OutputCall, Reader, TypedExpr};
 use std::alloc::{AllocError, Global};
 
 /// The code of a statement that has no other in it.
-pub fn emit_action(
+pub fn emit_action<'a>(
     alloc: Global,
     code: &mut Vec<Line>,
-    known: &Known,
-    action: &Action,
+    known: &Known<'a>,
+    action: &'a Action,
 ) -> Result<(), AllocError>
     requires { IsPlaced known.now }
     ensures code { OnOk result (code.new.items ≡ code.old.items ++ spec.action_code (names_in known.now) action.now) }
@@ -65,12 +65,12 @@ pub fn emit_action(
     }
 }
 
-fn emit_assign(
+fn emit_assign<'a>(
     alloc: Global,
     code: &mut Vec<Line>,
-    known: &Known,
-    d: &Designator,
-    e: &TypedExpr,
+    known: &Known<'a>,
+    d: &'a Designator,
+    e: &'a TypedExpr,
 ) -> Result<(), AllocError>
     requires { IsPlaced known.now }
     ensures code { OnOk result (code.new.items ≡ code.old.items ++ spec.assign_code (names_in known.now) d.now e.now) }
@@ -91,6 +91,11 @@ fn emit_assign(
             emit_expr(alloc, code, known, 1, 0, e)?;
             put(code, 2, 0, Instr::StoreAt(found.root))
         }
+        Designator::Guarded(_, _, _, _) => {
+            let found = emit_offset(alloc, code, known, 0, 0, d)?;
+            emit_expr(alloc, code, known, 1, 0, e)?;
+            put(code, 2, 0, Instr::StoreAt(found.root))
+        }
     }
 }
 
@@ -106,11 +111,11 @@ fn target_of(reader: Reader, found: Found) -> Target
     }
 }
 
-fn emit_input(
+fn emit_input<'a>(
     alloc: Global,
     code: &mut Vec<Line>,
-    known: &Known,
-    call: &InputCall,
+    known: &Known<'a>,
+    call: &'a InputCall,
 ) -> Result<(), AllocError>
     requires { IsPlaced known.now }
     ensures code { OnOk result (code.new.items ≡ code.old.items ++ spec.input_code (names_in known.now) call.now) }
@@ -129,11 +134,11 @@ fn emit_input(
     }
 }
 
-fn emit_output(
+fn emit_output<'a>(
     alloc: Global,
     code: &mut Vec<Line>,
-    known: &Known,
-    call: &OutputCall,
+    known: &Known<'a>,
+    call: &'a OutputCall,
 ) -> Result<(), AllocError>
     requires { IsPlaced known.now }
     ensures code { OnOk result (code.new.items ≡ code.old.items ++ spec.output_code (names_in known.now) call.now) }

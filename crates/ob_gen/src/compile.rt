@@ -68,6 +68,7 @@ fn parameter_cells(parameter: &Parameter) -> usize
         Parameter::Value => 1,
         Parameter::Place(_) => 0,
         Parameter::Open(_) => 0,
+        Parameter::Extended(_) => 0,
     }
 }
 
@@ -78,6 +79,7 @@ fn parameter_names(parameter: &Parameter) -> usize
         Parameter::Value => 0,
         Parameter::Place(_) => 1,
         Parameter::Open(_) => 1,
+        Parameter::Extended(_) => 1,
     }
 }
 
@@ -118,6 +120,7 @@ fn add_kind(kinds: &mut Items<NameKind>, parameter: &Parameter) -> Result<(), Al
         Parameter::Value => Ok(()),
         Parameter::Place(shape) => kinds.push(NameKind::Cells(shape_cells(shape)?)),
         Parameter::Open(shape) => kinds.push(NameKind::ArrayOf(shape_cells(shape)?)),
+        Parameter::Extended(shape) => kinds.push(NameKind::RecordOf(shape_cells(shape)?)),
     }
 }
 
@@ -202,11 +205,11 @@ fn room_of(lines: &[Line]) -> Result<Room, AllocError>
 }
 
 // The value that a procedure gives, if it gives one.
-fn emit_result(
+fn emit_result<'a>(
     alloc: Global,
     code: &mut Vec<Line>,
-    known: &Known,
-    value: &Option<TypedExpr>,
+    known: &Known<'a>,
+    value: &'a Option<TypedExpr>,
 ) -> Result<(), AllocError>
     requires { IsPlaced known.now }
     ensures { OnOk result (code.new.items ≡ code.old.items ++ spec.result_code (names_in known.now) value.now) }
@@ -218,11 +221,11 @@ fn emit_result(
 }
 
 // The code of a procedure, or of a body.
-pub fn emit_procedure(
+pub fn emit_procedure<'a>(
     alloc: Global,
-    known: &Known,
-    body: &[TypedStatement],
-    value: &Option<TypedExpr>,
+    known: &Known<'a>,
+    body: &'a [TypedStatement],
+    value: &'a Option<TypedExpr>,
 ) -> Result<Procedure, AllocError>
     requires { IsPlaced known.now }
     ensures code { IfOk result (IsCodeOf (names_in known.now) body.now value.now) }

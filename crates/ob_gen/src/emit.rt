@@ -8,11 +8,11 @@ ghost use Rattle.ob_gen.specs.Known.{names_in, object_seen, IsPlaced};
 
 use crate::jumps::{close, lead_to_end, put};
 use crate::known::{
-    Known, Object, element_cells, element_of, field_of, length_of, object_cells, part_before,
-    root_of, variable_object,
+    Known, Object, base_of, element_cells, element_of, field_of, length_of, name_number,
+    object_cells, part_before, root_of, variable_object,
 };
 use ob_code::instr::{Instr, Line, Root, Span};
-use ob_mean::{Argument, Designator, Operation, TypedExpr};
+use ob_mean::{Argument, Designator, Operation, TrapKind, TypedExpr};
 use std::alloc::{AllocError, Global};
 
 /// The variable that a designator begins with, and what the designator names.
@@ -43,13 +43,13 @@ pub fn span_of(found: Found) -> Span
 /// The code of an expression, before which so many operands and pending names lie there. Each of them was left there by an
 /// instruction of this code, so their numbers need no other bound.
 #[cycle(expressions)]
-pub fn emit_expr(
+pub fn emit_expr<'a>(
     alloc: Global,
     code: &mut Vec<Line>,
-    known: &Known,
+    known: &Known<'a>,
     operands: usize,
     names: usize,
-    e: &TypedExpr,
+    e: &'a TypedExpr,
 ) -> Result<(), AllocError>
     requires placed { IsPlaced known.now }
     requires operands_low { operands ≤ vec_len code.old }
@@ -93,18 +93,24 @@ pub fn emit_expr(
                 Instr::Invoke(*callee, *line),
             )
         }
+        TypedExpr::Test(d, types) => {
+            let found = emit_offset(alloc, code, known, operands, names, d)?;
+            let types = types.another()?;
+            let instr = Instr::Test(name_number(found.root), types);
+            put(code, operands + 1, names, instr)
+        }
     }
 }
 
 // The value of a variable, or of a part of one.
 #[cycle(expressions)]
-fn emit_read(
+fn emit_read<'a>(
     alloc: Global,
     code: &mut Vec<Line>,
-    known: &Known,
+    known: &Known<'a>,
     operands: usize,
     names: usize,
-    d: &Designator,
+    d: &'a Designator,
 ) -> Result<(), AllocError>
     requires placed { IsPlaced known.now }
     requires operands_low { operands ≤ vec_len code.old }
@@ -129,6 +135,10 @@ fn emit_read(
             let found = emit_offset(alloc, code, known, operands, names, d)?;
             put(code, operands + 1, names, Instr::LoadAt(found.root))
         }
+        Designator::Guarded(_, _, _, _) => {
+            let found = emit_offset(alloc, code, known, operands, names, d)?;
+            put(code, operands + 1, names, Instr::LoadAt(found.root))
+        }
     }
 }
 
@@ -140,7 +150,7 @@ pub fn emit_offset<'a>(
     known: &Known<'a>,
     operands: usize,
     names: usize,
-    d: &Designator,
+    d: &'a Designator,
 ) -> Result<Found<'a>, AllocError>
     requires placed { IsPlaced known.now }
     requires operands_low { operands ≤ vec_len code.old }
@@ -183,18 +193,29 @@ pub fn emit_offset<'a>(
                 object: field_of(found.object, *number),
             })
         }
+        Designator::Guarded(record, line, kind, _) => {
+            let found = emit_offset(alloc, code, known, operands, names, record.get())?;
+            let types = kind.names.another()?;
+            let name = name_number(found.root);
+            let instr = Instr::Guard(name, types, TrapKind::Guard, *line);
+            put(code, operands + 1, names, instr)?;
+            Ok(Found {
+                root: found.root,
+                object: Object::Of(&kind.shape),
+            })
+        }
     }
 }
 
 // Operators and their second operands.
 #[cycle(expressions)]
-fn emit_operations(
+fn emit_operations<'a>(
     alloc: Global,
     code: &mut Vec<Line>,
-    known: &Known,
+    known: &Known<'a>,
     operands: usize,
     names: usize,
-    operations: &[Operation],
+    operations: &'a [Operation],
 ) -> Result<(), AllocError>
     requires placed { IsPlaced known.now }
     requires operands_low { operands + 1 ≤ vec_len code.old }
@@ -216,13 +237,13 @@ fn emit_operations(
 
 // `&`.
 #[cycle(expressions)]
-fn emit_every(
+fn emit_every<'a>(
     alloc: Global,
     code: &mut Vec<Line>,
-    known: &Known,
+    known: &Known<'a>,
     operands: usize,
     names: usize,
-    all: &[TypedExpr],
+    all: &'a [TypedExpr],
 ) -> Result<(), AllocError>
     requires placed { IsPlaced known.now }
     requires operands_low { operands ≤ vec_len code.old }
@@ -242,13 +263,13 @@ fn emit_every(
 
 // OR.
 #[cycle(expressions)]
-fn emit_either(
+fn emit_either<'a>(
     alloc: Global,
     code: &mut Vec<Line>,
-    known: &Known,
+    known: &Known<'a>,
     operands: usize,
     names: usize,
-    all: &[TypedExpr],
+    all: &'a [TypedExpr],
 ) -> Result<(), AllocError>
     requires placed { IsPlaced known.now }
     requires operands_low { operands ≤ vec_len code.old }
@@ -269,13 +290,13 @@ fn emit_either(
 
 // A side of OR, and TRUE where it holds.
 #[cycle(expressions)]
-fn emit_side(
+fn emit_side<'a>(
     alloc: Global,
     code: &mut Vec<Line>,
-    known: &Known,
+    known: &Known<'a>,
     operands: usize,
     names: usize,
-    e: &TypedExpr,
+    e: &'a TypedExpr,
 ) -> Result<(), AllocError>
     requires placed { IsPlaced known.now }
     requires operands_low { operands ≤ vec_len code.old }
@@ -290,13 +311,13 @@ fn emit_side(
 
 // A value, or a name for a place.
 #[cycle(expressions)]
-fn emit_argument(
+fn emit_argument<'a>(
     alloc: Global,
     code: &mut Vec<Line>,
-    known: &Known,
+    known: &Known<'a>,
     operands: usize,
     names: usize,
-    argument: &Argument,
+    argument: &'a Argument,
 ) -> Result<Passed, AllocError>
     requires placed { IsPlaced known.now }
     requires operands_low { operands ≤ vec_len code.old }
@@ -317,44 +338,69 @@ fn emit_argument(
         Argument::Place(d) => {
             let found = emit_offset(alloc, code, known, operands, names, d)?;
             let cells = object_cells(found.object)?;
-            put(
-                code,
-                operands + 1,
-                names,
-                Instr::NamePlace(found.root, cells),
-            )?;
-            Ok(Passed {
-                operands,
-                names: names + 1,
-            })
+            put_name(code, operands, names, Instr::NamePlace(found.root, cells))
         }
         Argument::Open(d) => {
             let found = emit_offset(alloc, code, known, operands, names, d)?;
             let length = length_of(found.object, found.root);
             let cells = element_cells(found.object)?;
-            put(
+            put_name(
                 code,
-                operands + 1,
+                operands,
                 names,
                 Instr::NameArray(found.root, length, cells),
-            )?;
-            Ok(Passed {
+            )
+        }
+        Argument::Typed(d, kind, levels) => {
+            let found = emit_offset(alloc, code, known, operands, names, d)?;
+            let types = kind.names.another()?;
+            let cells = object_cells(base_of(found.object, *levels))?;
+            put_name(
+                code,
                 operands,
-                names: names + 1,
-            })
+                names,
+                Instr::NameRecord(found.root, types, cells),
+            )
+        }
+        Argument::Again(d, levels) => {
+            let found = emit_offset(alloc, code, known, operands, names, d)?;
+            let cells = object_cells(base_of(found.object, *levels))?;
+            let name = name_number(found.root);
+            put_name(code, operands, names, Instr::NameAgain(name, cells))
         }
     }
 }
 
-/// The code of what is passed.
-#[cycle(expressions)]
-pub fn emit_arguments(
-    alloc: Global,
+// A name for the place whose number lies there.
+fn put_name(
     code: &mut Vec<Line>,
-    known: &Known,
     operands: usize,
     names: usize,
-    arguments: &[Argument],
+    instr: Instr,
+) -> Result<Passed, AllocError>
+    requires operands_low { operands + 1 ≤ vec_len code.old }
+    requires names_low { names + 1 ≤ vec_len code.old }
+    ensures code { IfOk result (λ p. code.new.items ≡ code.old.items ++ spec.line (operands + 1) names instr ∷ []) }
+    ensures grows { IfOk result (λ p. vec_len code.new ≡ vec_len code.old + 1) }
+    ensures operands { IfOk result (λ p. p.operands ≡ operands) }
+    ensures names { IfOk result (λ p. p.names ≡ names + 1) }
+{
+    put(code, operands + 1, names, instr)?;
+    Ok(Passed {
+        operands,
+        names: names + 1,
+    })
+}
+
+/// The code of what is passed.
+#[cycle(expressions)]
+pub fn emit_arguments<'a>(
+    alloc: Global,
+    code: &mut Vec<Line>,
+    known: &Known<'a>,
+    operands: usize,
+    names: usize,
+    arguments: &'a [Argument],
 ) -> Result<Passed, AllocError>
     requires placed { IsPlaced known.now }
     requires operands_low { operands ≤ vec_len code.old }

@@ -113,6 +113,7 @@ fn own_object<'a>(parameters: &[Parameter], own: &'a [Shape], number: usize) -> 
         Parameter::Value => Object::Basic,
         Parameter::Place(_) => Object::Nothing,
         Parameter::Open(_) => Object::Nothing,
+        Parameter::Extended(_) => Object::Nothing,
     }
 }
 
@@ -126,6 +127,7 @@ fn named_object<'a>(parameters: &'a [Parameter], number: usize) -> Object<'a>
         Parameter::Value => Object::Nothing,
         Parameter::Place(shape) => Object::Of(shape),
         Parameter::Open(shape) => Object::Open(shape),
+        Parameter::Extended(shape) => Object::Of(shape),
     }
 }
 
@@ -174,6 +176,17 @@ pub fn field_of<'a>(object: Object<'a>, number: usize) -> Object<'a>
     }
 }
 
+/// What its base part is, so many levels down: the base of a record is its first field.
+pub fn base_of<'a>(object: Object<'a>, levels: usize) -> Object<'a>
+    ensures { object_seen result ≡ formed.base_object levels (object_seen object.entry) }
+{
+    let mut base = object;
+    for level in 0..levels {
+        base = field_of(base, 0);
+    }
+    base
+}
+
 /// How many cells it has.
 pub fn object_cells(object: Object) -> Result<usize, AllocError>
     ensures { IfOk result (λ n. n ≡ size (code.zero_in (object_seen object.entry))) }
@@ -219,7 +232,8 @@ pub fn part_before(object: Object, part: usize) -> Result<usize, AllocError>
     }
 }
 
-fn name_number(root: Root) -> usize
+/// The number of the name, if it is one.
+pub fn name_number(root: Root) -> usize
     ensures { result ≡ code.name_number root }
 {
     match root {

@@ -6,7 +6,7 @@ ghost use Rattle.ob_gen.specs.Safe.{EachRunsSafely};
 /// The code of a module, linked to that of the modules that it imports, does what the module's body means: from any store
 /// in which each variable has its shape, and with any supply of turns and lines, the machine comes to stand exactly where
 /// the meaning does, for the same reason, with the same left of its supply and with the picture of the same world. It never
-/// misses an operand.
+/// misses an operand. Over all these modules the name of a record type has to be that of one shape.
 pub fn body_law()
     ensures { EachBodyBehaves }
 {}

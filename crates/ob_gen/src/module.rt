@@ -53,7 +53,7 @@ fn part_code(
         own_table: &own_table,
         name_table: &name_table,
     };
-    emit_procedure(alloc, &known, part.body, part.value)
+    emit_procedure(alloc, &known, &*part.body, &*part.value)
 }
 
 /// The code of a module, over what is known of the modules that it imports. Its procedures are the code of the tree's, and

@@ -18,11 +18,11 @@ use std::alloc::{AllocError, Global};
 
 /// The code of statements that follow each other.
 #[cycle(statements)]
-pub fn emit_statements(
+pub fn emit_statements<'a>(
     alloc: Global,
     code: &mut Vec<Line>,
-    known: &Known,
-    statements: &[TypedStatement],
+    known: &Known<'a>,
+    statements: &'a [TypedStatement],
 ) -> Result<(), AllocError>
     requires { IsPlaced known.now }
     ensures code { OnOk result (code.new.items ≡ code.old.items ++ spec.list_code (names_in known.now) statements.now) }
@@ -35,11 +35,11 @@ pub fn emit_statements(
 }
 
 #[cycle(statements)]
-fn emit_statement(
+fn emit_statement<'a>(
     alloc: Global,
     code: &mut Vec<Line>,
-    known: &Known,
-    statement: &TypedStatement,
+    known: &Known<'a>,
+    statement: &'a TypedStatement,
 ) -> Result<(), AllocError>
     requires { IsPlaced known.now }
     ensures code { OnOk result (code.new.items ≡ code.old.items ++ spec.stat_code (names_in known.now) statement.now) }
@@ -67,11 +67,11 @@ fn emit_statement(
 
 // The branches of IF, each with a jump that is written later. It answers where those are.
 #[cycle(statements)]
-fn emit_choice(
+fn emit_choice<'a>(
     alloc: Global,
     code: &mut Vec<Line>,
-    known: &Known,
-    branches: &[Branch],
+    known: &Known<'a>,
+    branches: &'a [Branch],
 ) -> Result<Vec<usize>, AllocError>
     requires { IsPlaced known.now }
     ensures code { IfOk result (λ v. code.new.items ≡ code.old.items ++ emitted.holed 0 0 (emitted.branch_piece (names_in known.now)) branches.now) }
@@ -89,11 +89,11 @@ fn emit_choice(
 
 // A guard, and the body, which is passed where the guard doesn't hold.
 #[cycle(statements)]
-fn emit_branch(
+fn emit_branch<'a>(
     alloc: Global,
     code: &mut Vec<Line>,
-    known: &Known,
-    branch: &Branch,
+    known: &Known<'a>,
+    branch: &'a Branch,
 ) -> Result<(), AllocError>
     requires { IsPlaced known.now }
     ensures code { OnOk result (code.new.items ≡ code.old.items ++ emitted.branch_piece (names_in known.now) branch.now) }
@@ -110,12 +110,12 @@ fn emit_branch(
 
 // The arms of CASE, before which the number lies there that is looked up.
 #[cycle(statements)]
-fn emit_arms(
+fn emit_arms<'a>(
     alloc: Global,
     code: &mut Vec<Line>,
-    known: &Known,
+    known: &Known<'a>,
     line: usize,
-    arms: &[CaseArm],
+    arms: &'a [CaseArm],
 ) -> Result<(), AllocError>
     requires { IsPlaced known.now }
     ensures code { OnOk result (code.new.items ≡ code.old.items ++ emitted.arms_list (names_in known.now) line arms.now) }
@@ -134,11 +134,11 @@ fn emit_arms(
 
 // The labels, and the body, which is passed where there is no such label.
 #[cycle(statements)]
-fn emit_arm(
+fn emit_arm<'a>(
     alloc: Global,
     code: &mut Vec<Line>,
-    known: &Known,
-    arm: &CaseArm,
+    known: &Known<'a>,
+    arm: &'a CaseArm,
 ) -> Result<(), AllocError>
     requires { IsPlaced known.now }
     ensures code { OnOk result (code.new.items ≡ code.old.items ++ emitted.arm_piece (names_in known.now) arm.now) }
@@ -174,11 +174,11 @@ fn emit_labels(code: &mut Vec<Line>, labels: &[LabelRange]) -> Result<(), AllocE
 
 // WHILE: a jump to the guards, the bodies, and the guards.
 #[cycle(statements)]
-fn emit_loop(
+fn emit_loop<'a>(
     alloc: Global,
     code: &mut Vec<Line>,
-    known: &Known,
-    branches: &[Branch],
+    known: &Known<'a>,
+    branches: &'a [Branch],
 ) -> Result<(), AllocError>
     requires { IsPlaced known.now }
     ensures code { OnOk result (code.new.items ≡ code.old.items ++ spec.loop_code (emitted.guarded_list (names_in known.now) branches.now)) }
@@ -194,11 +194,11 @@ fn emit_loop(
 
 // The bodies of a loop, each of which leads to the guards after them all. It answers where they begin.
 #[cycle(statements)]
-fn emit_bodies(
+fn emit_bodies<'a>(
     alloc: Global,
     code: &mut Vec<Line>,
-    known: &Known,
-    branches: &[Branch],
+    known: &Known<'a>,
+    branches: &'a [Branch],
 ) -> Result<Vec<usize>, AllocError>
     requires { IsPlaced known.now }
     ensures code { IfOk result (λ v. code.new.items ≡ code.old.items ++ spec.bodies_code (emitted.guarded_list (names_in known.now) branches.now)) }
@@ -218,12 +218,12 @@ fn emit_bodies(
 }
 
 // The guards of a loop whose bodies begin at these places.
-fn emit_guards(
+fn emit_guards<'a>(
     alloc: Global,
     code: &mut Vec<Line>,
-    known: &Known,
+    known: &Known<'a>,
     starts: &[usize],
-    branches: &[Branch],
+    branches: &'a [Branch],
 ) -> Result<(), AllocError>
     requires placed { IsPlaced known.now }
     requires each { length starts.now ≡ length branches.now }
@@ -242,12 +242,12 @@ fn emit_guards(
 }
 
 #[cycle(statements)]
-fn emit_repeat(
+fn emit_repeat<'a>(
     alloc: Global,
     code: &mut Vec<Line>,
-    known: &Known,
-    body: &[TypedStatement],
-    until: &TypedExpr,
+    known: &Known<'a>,
+    body: &'a [TypedStatement],
+    until: &'a TypedExpr,
 ) -> Result<(), AllocError>
     requires { IsPlaced known.now }
     ensures code { OnOk result (code.new.items ≡ code.old.items ++ spec.repeat_code (spec.list_code (names_in known.now) body.now) (spec.expr_code (names_in known.now) 0 0 until.now)) }
@@ -274,11 +274,11 @@ fn for_relation(step: i32) -> Relation
 }
 
 // The test of FOR.
-fn emit_for_guard(
+fn emit_for_guard<'a>(
     alloc: Global,
     code: &mut Vec<Line>,
-    known: &Known,
-    head: &ForHead,
+    known: &Known<'a>,
+    head: &'a ForHead,
 ) -> Result<(), AllocError>
     requires { IsPlaced known.now }
     ensures code { OnOk result (code.new.items ≡ code.old.items ++ spec.for_guard (names_in known.now) head.now) }
@@ -303,12 +303,12 @@ fn emit_for_step(code: &mut Vec<Line>, known: &Known, head: &ForHead) -> Result<
 }
 
 #[cycle(statements)]
-fn emit_for(
+fn emit_for<'a>(
     alloc: Global,
     code: &mut Vec<Line>,
-    known: &Known,
-    head: &ForHead,
-    body: &[TypedStatement],
+    known: &Known<'a>,
+    head: &'a ForHead,
+    body: &'a [TypedStatement],
 ) -> Result<(), AllocError>
     requires { IsPlaced known.now }
     ensures code { OnOk result (code.new.items ≡ code.old.items ++ spec.for_code (names_in known.now) head.now (spec.list_code (names_in known.now) body.now)) }

@@ -9,6 +9,7 @@ use Rattle.ob_code.specs.declared.instr.LinkedModule.{LinkedModule}
 use Rattle.ob_code.specs.Linked.{all_cells, AreLaid, IsAsKnown, Imports, IsLinked}
 use Rattle.ob_code.specs.Machine.{Code}
 use Rattle.ob_gen.specs.Correct.{IsCodeOfProgram}
+use Rattle.ob_gen.specs.TypesAgree.{Shapes}
 use Rattle.ob_gen.proofs.machine.Places.{some_same}
 
 -- ---- lists
@@ -81,7 +82,7 @@ linked_behind code l runs others alike linked cells imports = record {
         subst (λ y. Imports (code ++ l ∷ []) others y i known) at.1 (imports i known (ap (λ (y : LinkedModule). slice_get y.code.imports.items i) at.1 ∙ e))
 
 -- the code of a program is that of the program, whatever stands after it
-pub program_behind : (program : Program) (code more : Code) (faces : ℕ → List Face) (runs : ℕ → Bool) → IsCodeOfProgram program code faces runs → IsCodeOfProgram program (code ++ more) faces runs
-program_behind program code more faces runs whole i ok =
+pub program_behind : (program : Program) (code more : Code) (faces : ℕ → List Face) (shapes : Shapes) (runs : ℕ → Bool) → IsCodeOfProgram program code faces shapes runs → IsCodeOfProgram program (code ++ more) faces shapes runs
+program_behind program code more faces shapes runs whole i ok =
     let r = whole i ok in
-    record { m = r.m; l = r.l; loaded = r.loaded; found = kept_at code more i r.l r.found; linked = r.linked; compiled = r.compiled; imports = r.imports }
+    record { m = r.m; l = r.l; loaded = r.loaded; found = kept_at code more i r.l r.found; linked = r.linked; compiled = r.compiled; types = r.types; imports = r.imports }

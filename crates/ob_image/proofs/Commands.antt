@@ -16,13 +16,14 @@ use Rattle.ob_code.specs.Machine.{Code, imports_in, import_number, exported_numb
 use Rattle.ob_code.specs.Kinds.{IsMeasured}
 use Rattle.ob_gen.specs.Code.{list_code}
 use Rattle.ob_gen.specs.Commands.{commands_code, LeadsTo, AllLead, IsCodeOfCommands}
-use Rattle.ob_gen.specs.Correct.{AllRun}
+use Rattle.ob_gen.specs.Correct.{AllRun, IsCodeOfProgram}
+use Rattle.ob_gen.specs.TypesAgree.{Shapes}
 use Rattle.ob_gen.proofs.machine.Commands.{commands_behave}
 use Rattle.ob_gen.proofs.machine.Told.{generated_measured}
 use Rattle.ob_gen.proofs.machine.Linked.{body_compiled}
 use Rattle.ob_gen.proofs.machine.Places.{some_same}
 use Rattle.ob_session.specs.Session.{Module, program_of}
-use Rattle.ob_image.specs.Compiled.{Known, runs_in, face_in, AreKnown, AreCompiled, faces_at, MayRunAll}
+use Rattle.ob_image.specs.Compiled.{Known, runs_in, face_in, AreKnown, AreCompiled, faces_at, AllAgree, MayRunAll}
 use Rattle.ob_image.specs.CommandsCode.{IsCallable, AllCallable, AreCallable, calls_body, commands_tree, IsBehind, EachCommandsForm, runs_with, EachCommandsMayRun}
 use Rattle.ob_image.proofs.Sides.{imported_at, as_long}
 use Rattle.ob_image.proofs.Entries.{face_few, numbered_at}
@@ -202,12 +203,13 @@ commands_form modules known code cs homes calls faces all callable = formed modu
 
 pub commands_run : EachCommandsMayRun
 commands_run modules known code cs homes calls faces l all callable is_behind =
-    let means = program_behind (program_of modules) code (l ∷ []) (faces_at known) (runs_in modules) (each_may_run modules known code all).means in
+    let means : (shapes : Shapes) → AllAgree shapes modules → IsCodeOfProgram (program_of modules) (code ++ l ∷ []) (faces_at known) shapes (runs_in modules) =
+    λ shapes agree. program_behind (program_of modules) code (l ∷ []) (faces_at known) shapes (runs_in modules) ((each_may_run modules known code all).means shapes agree) in
     let is_code = commands_mean modules known code all cs homes calls faces l callable is_behind in
     record {
       linked = linked modules known code all cs homes calls faces l callable is_behind;
       measured = measured modules known code all cs homes calls faces l callable is_behind;
       modules_mean = means;
       commands_mean = is_code;
-      does = commands_behave (program_of modules) (code ++ l ∷ []) (faces_at known) (runs_in modules) means (length modules) cs is_code;
+      does = λ shapes agree. commands_behave (program_of modules) (code ++ l ∷ []) (faces_at known) shapes (runs_in modules) (means shapes agree) (length modules) cs is_code;
     }

@@ -52,6 +52,7 @@ valued [] = refl
 valued (parameter.Value ∷ ps) = let h = valued ps in omega (arith, h)
 valued (parameter.Place t ∷ ps) = let h = valued ps in omega (arith, h)
 valued (parameter.Open t ∷ ps) = let h = valued ps in omega (arith, h)
+valued (parameter.Extended t ∷ ps) = let h = valued ps in omega (arith, h)
 
 -- what a procedure of the code takes and leaves is what its heading says
 entry_is : (faces : List Face) (m : TypedModule) (tree : TypedProcedure) (g : Procedure) → IsCodeOf (names_of faces m tree) tree.body tree.result g → g.entry ≡ heading_entry (heading_of tree)

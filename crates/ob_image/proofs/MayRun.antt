@@ -1,6 +1,6 @@
 -- Modules compiled over what is so of their imports may run: they are linked, enough is known of their operands and names, and their
 -- code is that of their trees.
-use Rattle.std.proofs.Common.{◌≡◌, ℕ, ◌+◌, true, List, [], ◌∷◌, Some, sym, ap, ◌∙◌, subst, arith}
+use Rattle.std.proofs.Common.{◌≡◌, ℕ, zero, suc, ◌+◌, true, List, [], ◌∷◌, Some, None, sym, ap, ◌∙◌, subst, arith}
 use Rattle.std.specs.Prelude.{slice_get, option_map}
 use Rattle.std.proofs.lemmas.Option.{slice_get-map}
 use Rattle.ob_mean.specs.declared.face.Face.{Face}
@@ -14,14 +14,20 @@ use Rattle.ob_code.specs.Machine.{Code}
 use Rattle.ob_code.specs.Kinds.{IsMeasured}
 use Rattle.ob_gen.specs.Correct.{AllRun, IsCompiled, MayRun}
 use Rattle.ob_gen.specs.Generated.{IsOfFace}
+use Rattle.ob_gen.specs.TypesAgree.{Shapes, TypesAgree}
 use Rattle.ob_gen.proofs.machine.Behaves.{body_behaves}
 use Rattle.ob_gen.proofs.machine.Told.{generated_measured}
 use Rattle.ob_gen.proofs.machine.Places.{some_same}
 use Rattle.ob_session.specs.Session.{Module, import_places, loaded, program_of}
-use Rattle.ob_image.specs.Compiled.{Known, runs_in, IsCompiledAt, face_in, AreKnown, AreCompiled, faces_in, faces_at, EachMayRun}
+use Rattle.ob_image.specs.Compiled.{Known, runs_in, IsCompiledAt, face_in, AreKnown, AreCompiled, faces_in, faces_at, AllAgree, EachMayRun}
 use Rattle.ob_image.proofs.Imports.{running_at, imports_run}
 use Rattle.ob_image.proofs.Sides.{code_at, are_laid, imported_at}
 use Rattle.ob_image.proofs.Entries.{face_cells, exports_known}
+
+agrees_at : (shapes : Shapes) (ms : List Module) (i : ℕ) (m : Module) → AllAgree shapes ms → slice_get ms i ≡ Some m → TypesAgree shapes m.tree
+agrees_at shapes [] i m h e = absurd (let n : None ≡ Some m = e in cc)
+agrees_at shapes (x ∷ ms) zero m h e = subst (λ (y : Module). TypesAgree shapes y.tree) (some_same x m e) h.0
+agrees_at shapes (x ∷ ms) (suc i) m h e = agrees_at shapes ms i m h.1 e
 
 module _ (modules : List Module) (known : List Known) (code : Code) (all : AreCompiled modules known code) where
   -- a module that may run, with its code and what is known of its imports
@@ -109,8 +115,8 @@ module _ (modules : List Module) (known : List Known) (code : Code) (all : AreCo
   all_show (i ∷ is) [] a r = absurd a
   all_show (i ∷ is) (face ∷ faces) a r = (shows i face r.0 a.0, all_show is faces a.1 r.1)
 
-  runs_at : (i : ℕ) → runs_in modules i ≡ true → MayRun (program_of modules) code (faces_at known) (runs_in modules) i
-  runs_at i ok =
+  runs_at : (shapes : Shapes) → AllAgree shapes modules → (i : ℕ) → runs_in modules i ≡ true → MayRun (program_of modules) code (faces_at known) shapes (runs_in modules) i
+  runs_at shapes agree i ok =
       let w = whole_at i ok in
       let same : w.k.faces ≡ faces_at known i = ap faces_in (sym w.known_there) in
       record {
@@ -126,6 +132,7 @@ module _ (modules : List Module) (known : List Known) (code : Code) (all : AreCo
           cells = w.compiled.ready.generated.cells;
           first_cell = w.compiled.cells;
         });
+        types = agrees_at shapes modules i w.m agree w.there;
         imports = w.imports;
       }
 
@@ -134,5 +141,5 @@ each_may_run modules known code all = record {
   linked = linked modules known code all;
   measured = measured modules known code all;
   means = runs_at modules known code all;
-  does = body_behaves (program_of modules) code (faces_at known) (runs_in modules) (runs_at modules known code all);
+  does = λ shapes agree. body_behaves (program_of modules) code (faces_at known) shapes (runs_in modules) (runs_at modules known code all shapes agree);
 }

@@ -7,7 +7,7 @@ use Rattle.ob_image.specs.Stores.{refilled}
 
 pub shape-refilled : (v : Value) (cells : List ℤ) → shape (refilled v cells) ≡ shape v
 shape-refilled (Cell z) cells = refl
-shape-refilled (Named p) cells = refl
+shape-refilled (Named p t) cells = refl
 shape-refilled (Open p k) cells = refl
 shape-refilled Nothing cells = refl
 shape-refilled (Beside v rest) cells =
@@ -19,8 +19,8 @@ pub image-refilled : (v : Value) (cells : List ℤ) → length cells ≡ size v 
 image-refilled (Cell z) [] e = absurd (omega (arith, e))
 image-refilled (Cell z) (c ∷ []) e = refl
 image-refilled (Cell z) (c ∷ (d ∷ cells)) e = absurd (omega (arith, e))
-image-refilled (Named p) [] e = refl
-image-refilled (Named p) (c ∷ cells) e = absurd (omega (arith, e))
+image-refilled (Named p t) [] e = refl
+image-refilled (Named p t) (c ∷ cells) e = absurd (omega (arith, e))
 image-refilled (Open p k) [] e = refl
 image-refilled (Open p k) (c ∷ cells) e = absurd (omega (arith, e))
 image-refilled Nothing [] e = refl
@@ -35,7 +35,7 @@ image-refilled (Beside v rest) cells e =
 -- of the first value its shape alone matters
 pub refilled-shape : (v : Value) (cells : List ℤ) → refilled (shape v) cells ≡ refilled v cells
 refilled-shape (Cell z) cells = refl
-refilled-shape (Named p) cells = refl
+refilled-shape (Named p t) cells = refl
 refilled-shape (Open p k) cells = refl
 refilled-shape Nothing cells = refl
 refilled-shape (Beside v rest) cells =
@@ -46,7 +46,7 @@ refilled-shape (Beside v rest) cells =
 -- a value, with its own cells
 pub refilled-image : (v : Value) → refilled v (image v) ≡ v
 refilled-image (Cell z) = refl
-refilled-image (Named p) = refl
+refilled-image (Named p t) = refl
 refilled-image (Open p k) = refl
 refilled-image Nothing = refl
 refilled-image (Beside v rest) =

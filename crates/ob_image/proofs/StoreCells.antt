@@ -11,14 +11,14 @@ use Rattle.ob_image.proofs.OpeningStore.{rows, opening-rows}
 
 before-first : (v : Value) → before v zero ≡ 0
 before-first (Cell z) = refl
-before-first (Named p) = refl
+before-first (Named p t) = refl
 before-first (Open p k) = refl
 before-first Nothing = refl
 before-first (Beside v rest) = refl
 
 before-suc : (v : Value) (i : ℕ) → before v (suc i) ≡ before v i + size (item v i)
 before-suc (Cell z) i = refl
-before-suc (Named p) i = refl
+before-suc (Named p t) i = refl
 before-suc (Open p k) i = refl
 before-suc Nothing i = refl
 before-suc (Beside v rest) zero = omega (arith, before-first rest)

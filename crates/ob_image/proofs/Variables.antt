@@ -11,7 +11,7 @@ use Rattle.ob_gen.proofs.machine.Store.{IsRow, length-image, count-shape, size-s
 
 before-past : (v : Value) (i : ℕ) → IsRow v → count v ≤ i → before v i ≡ size v
 before-past (Cell z) i row le = absurd row
-before-past (Named p) i row le = absurd row
+before-past (Named p t) i row le = absurd row
 before-past (Open p k) i row le = absurd row
 before-past Nothing i row le = refl
 before-past (Beside v rest) zero row le = absurd (omega arith)
@@ -19,7 +19,7 @@ before-past (Beside v rest) (suc i) row le = omega (arith, before-past rest i ro
 
 item-past : (v : Value) (i : ℕ) → count v ≤ i → item v i ≡ Nothing
 item-past (Cell z) i le = refl
-item-past (Named p) i le = refl
+item-past (Named p t) i le = refl
 item-past (Open p k) i le = refl
 item-past Nothing i le = refl
 item-past (Beside v rest) zero le = absurd (omega arith)
@@ -29,7 +29,7 @@ item-past (Beside v rest) (suc i) le = item-past rest i (omega arith)
 
 shape-with : (v : Value) (i : ℕ) (x : Value) → shape (with_item v i x) ≡ with_item (shape v) i (shape x)
 shape-with (Cell z) i x = refl
-shape-with (Named p) i x = refl
+shape-with (Named p t) i x = refl
 shape-with (Open p k) i x = refl
 shape-with Nothing i x = refl
 shape-with (Beside v rest) zero x = refl

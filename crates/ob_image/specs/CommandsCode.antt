@@ -15,8 +15,9 @@ use Rattle.ob_code.specs.Kinds.{IsMeasured}
 use Rattle.ob_gen.specs.Commands.{IsCodeOfCommands, CommandsBehave}
 use Rattle.ob_gen.specs.Correct.{AllRun, IsCodeOfProgram}
 use Rattle.ob_gen.specs.Generated.{IsGenerated}
+use Rattle.ob_gen.specs.TypesAgree.{Shapes}
 use Rattle.ob_session.specs.Session.{Module, program_of}
-use Rattle.ob_image.specs.Compiled.{Known, runs_in, AreKnown, AreCompiled, faces_at}
+use Rattle.ob_image.specs.Compiled.{Known, runs_in, AreKnown, AreCompiled, faces_at, AllAgree}
 
 -- ---- commands that can be called
 
@@ -71,14 +72,14 @@ EachCommandsForm =
 abbrev pub runs_with : List Module → ℕ → Bool
 runs_with modules i = nat_eq i (length modules) || runs_in modules i
 
--- after the modules' code: all is linked, enough is known of its operands and names where it may run, that of the modules is
--- still the program's, and this does what the commands mean
+-- After the modules' code: all is linked, and enough is known of its operands and names where it may run. Where each name of a
+-- record type is that of one shape, the modules' code is still the program's, and this does what the commands mean.
 pub record CommandsMayRun (modules : List Module) (known : List Known) (code : Code) (cs : List Command) (l : LinkedModule) : Type 0 where
   pub linked : IsLinked (code ++ l ∷ []) (runs_with modules)
   pub measured : (home : ℕ) (x : LinkedModule) → slice_get (code ++ l ∷ []) home ≡ Some x → runs_with modules home ≡ true → IsMeasured x.code
-  pub modules_mean : IsCodeOfProgram (program_of modules) (code ++ l ∷ []) (faces_at known) (runs_in modules)
+  pub modules_mean : (shapes : Shapes) → AllAgree shapes modules → IsCodeOfProgram (program_of modules) (code ++ l ∷ []) (faces_at known) shapes (runs_in modules)
   pub commands_mean : IsCodeOfCommands (program_of modules) (code ++ l ∷ []) (runs_in modules) (length modules) cs
-  pub does : CommandsBehave (program_of modules) (code ++ l ∷ []) (length modules) cs
+  pub does : (shapes : Shapes) → AllAgree shapes modules → CommandsBehave (program_of modules) (code ++ l ∷ []) (length modules) cs
 
 abbrev pub EachCommandsMayRun : Type 0
 EachCommandsMayRun =

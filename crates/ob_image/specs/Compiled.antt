@@ -8,6 +8,7 @@ use Rattle.ob_code.specs.Machine.{Code}
 use Rattle.ob_code.specs.Kinds.{IsMeasured}
 use Rattle.ob_gen.specs.Correct.{IsCodeOfProgram, BodyBehaves}
 use Rattle.ob_gen.specs.Generated.{IsGenerated}
+use Rattle.ob_gen.specs.TypesAgree.{Shapes, TypesAgree}
 use Rattle.ob_session.specs.Session.{Import, Module, name_of, find_module, place_of, import_places, link_fault, program_of, with_module}
 
 -- what importing modules know of a module, and what was known of those that it imports when its code was made
@@ -89,13 +90,18 @@ faces_in (Some k) = k.faces
 abbrev pub faces_at : List Known → ℕ → List Face
 faces_at known i = faces_in (slice_get known i)
 
--- it is linked, enough is known of its operands and names where it may run, it is the program's, and the code of each body does
--- what the body means
+-- in all modules the name of a record type is that of one shape
+abbrev pub AllAgree : Shapes → List Module → Type 0
+AllAgree shapes [] = Unit {0}
+AllAgree shapes (m ∷ ms) = TypesAgree shapes m.tree × AllAgree shapes ms
+
+-- It is linked, and enough is known of its operands and names where it may run. Where each name of a record type is that of one
+-- shape, it is the program's, and the code of each body does what the body means.
 pub record MayRunAll (modules : List Module) (known : List Known) (code : Code) : Type 0 where
   pub linked : IsLinked code (runs_in modules)
   pub measured : (home : ℕ) (l : LinkedModule) → slice_get code home ≡ Some l → runs_in modules home ≡ true → IsMeasured l.code
-  pub means : IsCodeOfProgram (program_of modules) code (faces_at known) (runs_in modules)
-  pub does : (home : ℕ) → runs_in modules home ≡ true → BodyBehaves (program_of modules) code home
+  pub means : (shapes : Shapes) → AllAgree shapes modules → IsCodeOfProgram (program_of modules) code (faces_at known) shapes (runs_in modules)
+  pub does : (shapes : Shapes) → AllAgree shapes modules → (home : ℕ) → runs_in modules home ≡ true → BodyBehaves (program_of modules) code home
 
 abbrev pub EachMayRun : Type 0
 EachMayRun = (modules : List Module) (known : List Known) (code : Code) → AreCompiled modules known code → MayRunAll modules known code

@@ -8,7 +8,7 @@ use Rattle.ob_session.specs.Session.{Session, Module, name_of, place_of, with_mo
 -- a value of this shape whose cells these are
 abbrev pub refilled : Value → List ℤ → Value
 refilled (Cell z) cells = Cell (slice_index_or cells 0 (pos 0))
-refilled (Named p) cells = Named p
+refilled (Named p t) cells = Named p t
 refilled (Open p k) cells = Open p k
 refilled Nothing cells = Nothing
 refilled (Beside v rest) cells = Beside (refilled v (take (size v) cells)) (refilled rest (drop (size v) cells))

@@ -23,6 +23,7 @@ fn another_parameter(parameter: &Parameter) -> Result<Parameter, AllocError>
         Parameter::Value => Ok(Parameter::Value),
         Parameter::Place(shape) => Ok(Parameter::Place(shape.another()?)),
         Parameter::Open(element) => Ok(Parameter::Open(element.another()?)),
+        Parameter::Extended(shape) => Ok(Parameter::Extended(shape.another()?)),
     }
 }
 

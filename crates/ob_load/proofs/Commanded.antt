@@ -28,8 +28,10 @@ use Rattle.ob_load.specs.declared.commands.Calls.{Calls}
 use Rattle.ob_load.specs.declared.task.Task.{Task}
 use Rattle.ob_load.specs.declared.task.Task.TheVariants.{Commands}
 use Rattle.ob_load.specs.Kept.{IsKept, IsHeld, IsRunning, opens}
+use Rattle.ob_load.specs.Said.{shape_said}
 use Rattle.ob_load.specs.Tasks.{task_meaning, home_of}
 use Rattle.ob_load.proofs.Finished.{sized_as}
+use Rattle.ob_load.proofs.Said.{types_agree}
 use Rattle.ob_load.specs.MachineState.{begun_in, stands_at}
 use Rattle.ob_load.proofs.Machines.{begun, begun_state}
 
@@ -125,7 +127,7 @@ module _ (modules : List Module) (known : List Known) (i : vm.ImageState) (h : I
     task = Commands v
 
     follows : Follows (program_of modules) longer (task_meaning (program_of modules) task) (λ w. start longer (home_of modules task) (picture w))
-    follows = law.does
+    follows = law.does shape_said (types_agree modules known h.said)
 
     fits_now : AreCellsOf modules i.cells
     fits_now = h.cells ∙ sized_as modules known i.code h.compiled

@@ -10,7 +10,6 @@ use Rattle.ob_code.specs.declared.instr.LinkedModule.{LinkedModule}
 use Rattle.ob_code.specs.Linked.{all_cells, AreLaid}
 use Rattle.ob_code.specs.Machine.{Code, Config, start}
 use Rattle.ob_gen.specs.Generated.{IsGenerated}
-use Rattle.ob_gen.proofs.machine.Behaves.{body_behaves}
 use Rattle.ob_gen.proofs.machine.Store.{before-within}
 use Rattle.ob_vm.specs.Images as vm
 use Rattle.ob_types.specs.Solid.{ExportsSolid}
@@ -22,7 +21,7 @@ use Rattle.ob_image.proofs.Loading.{each_loads_cells}
 use Rattle.ob_image.proofs.Runs.{each_may_begin}
 use Rattle.ob_image.proofs.Counted.{compiled_counts, compiled_laid}
 use Rattle.ob_image.proofs.Laid.{laid_put, put_long}
-use Rattle.ob_image.specs.Compiled.{Known, AreCompiledFrom, AllFound, AreCompiled, IsReady, faces_at, runs_in, put_at, laid}
+use Rattle.ob_image.specs.Compiled.{Known, AreCompiledFrom, AllFound, AreCompiled, IsReady, runs_in, put_at, laid}
 use Rattle.ob_link.proofs.Loads.{each_load}
 use Rattle.ob_image.specs.Loading.{IsUnreached}
 use Rattle.ob_image.proofs.Imports.{running_at}
@@ -34,13 +33,14 @@ use Rattle.ob_load.specs.declared.loading.Prepared.{Prepared}
 use Rattle.ob_load.specs.declared.task.Task.TheVariants.{Body}
 use Rattle.ob_load.specs.Kept.{AreCheckable, IsHeld, IsRunning, opens}
 use Rattle.ob_load.specs.Known.{IsSaid, AreSaid}
+use Rattle.ob_load.specs.Said.{shape_said}
 use Rattle.ob_load.specs.Loading.{IsPrepared, AreFlags, BodyMayBegin}
 use Rattle.ob_load.specs.MachineState.{begun_in, stands_at}
 use Rattle.ob_load.specs.Names.{NamesWithin}
 use Rattle.ob_load.specs.Words.{InterfaceWords, AllWords}
 use Rattle.ob_load.proofs.Machines.{begun, begun_state}
 use Rattle.ob_load.proofs.Finished.{sized_as}
-use Rattle.ob_load.proofs.Said.{faces_agree, said_with}
+use Rattle.ob_load.proofs.Said.{types_agree, faces_agree, said_with}
 
 -- ---- a place among modules
 
@@ -250,13 +250,13 @@ module _ (modules : List Module) (known : List Known) (code : Code) (b : Beginni
     at_now : vm.machine_config now run ≡ opens modules (store_of modules b.cells.items) (Body b.number) now
     at_now = at ∙ ap (start code b.number) (sym may.pictured)
 
-    pub runs_now : IsRunning modules (store_of modules b.cells.items) (Body b.number) [] now run false
-    runs_now =
-        let follows = body_behaves (program_of modules) code (faces_at known) (runs_in modules) (each_may_run modules known code h.compiled).means b.number h.may_run in
+    pub runs_now : AreSaid modules known → IsRunning modules (store_of modules b.cells.items) (Body b.number) [] now run false
+    runs_now said =
+        let follows = (each_may_run modules known code h.compiled).does shape_said (types_agree modules known said) b.number h.may_run in
         begun modules (store_of modules b.cells.items) (Body b.number) now run fits follows may.may at_now none
 
-    pub state_now : stands_at modules (store_of modules b.cells.items) (Body b.number) [] run false false ≡ begun_in (session_of modules b.cells.items) (Body b.number)
-    state_now = begun_state modules (store_of modules b.cells.items) (Body b.number) now run runs_now at_now none
+    pub state_now : AreSaid modules known → stands_at modules (store_of modules b.cells.items) (Body b.number) [] run false false ≡ begun_in (session_of modules b.cells.items) (Body b.number)
+    state_now said = begun_state modules (store_of modules b.cells.items) (Body b.number) now run (runs_now said) at_now none
 
   module _ (i : vm.ImageState) (e : i ≡ now) where
     pub can_run : vm.CanRun i b.number
@@ -275,11 +275,11 @@ module _ (modules : List Module) (known : List Known) (code : Code) (b : Beginni
       pub begun_on : AreCheckable modules → AreSaid modules known → IsHeld modules known i × IsRunning modules (store_of modules b.cells.items) (Body b.number) [] i run false
       begun_on solid said = (
         subst (λ (x : vm.ImageState). IsHeld modules known x) (sym e) (held solid said),
-        subst (λ (x : vm.ImageState). IsRunning modules (store_of modules b.cells.items) (Body b.number) [] x run false) (sym e) (runs_now run fits_now at_then none),
+        subst (λ (x : vm.ImageState). IsRunning modules (store_of modules b.cells.items) (Body b.number) [] x run false) (sym e) (runs_now run fits_now at_then none said),
       )
 
-      pub begun_at : stands_at modules (store_of modules b.cells.items) (Body b.number) [] run false false ≡ begun_in (session_of modules b.cells.items) (Body b.number)
-      begun_at = state_now run fits_now at_then none
+      pub begun_at : AreSaid modules known → stands_at modules (store_of modules b.cells.items) (Body b.number) [] run false false ≡ begun_in (session_of modules b.cells.items) (Body b.number)
+      begun_at said = state_now run fits_now at_then none said
 
 -- ---- an image that is put together again
 

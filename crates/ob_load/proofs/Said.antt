@@ -7,14 +7,14 @@ use Rattle.ob_mean.specs.Programs.{Command}
 use Rattle.ob_session.specs.Session.{Session, Import, Module, name_of, find_module, place_of, link_fault, with_module}
 use Rattle.ob_session.specs.Cells as cells
 use Rattle.ob_session.specs.Cells.{CommandName, Looked, Found, Missing, Ready, Runs, Faulty, all_ready, command_place, is_given, linked, looked_in, looked_by, looked_up, ready_with}
-use Rattle.ob_image.specs.Compiled.{Known, face_in, links, put_at, FacesAgree}
+use Rattle.ob_image.specs.Compiled.{Known, face_in, links, put_at, FacesAgree, AllAgree}
 use Rattle.ob_image.specs.CommandsCode.{IsCallable}
 use Rattle.ob_image.specs.Loading.{WasKnown, AllWereKnown, KeysAgree}
 use Rattle.ob_image.proofs.Agreeing.{agrees}
 use Rattle.ob_image.proofs.Imports.{found_at}
 use Rattle.ob_load.specs.Commanded.{AllRunnable}
 use Rattle.ob_load.specs.Known.{IsSaid, AreSaid}
-use Rattle.ob_load.specs.Said.{face_said}
+use Rattle.ob_load.specs.Said.{face_said, shape_said}
 
 -- ---- of one of them
 
@@ -31,6 +31,14 @@ said_at [] ks n m h e = absurd (let f : None ≡ Some m = e in cc)
 said_at (x ∷ ms) [] n m h e = absurd h
 said_at (x ∷ ms) (k ∷ ks) zero m h e = record { k = k; there = refl; said = subst (λ (y : Module). IsSaid y k) (some_same x m e) h.0 }
 said_at (x ∷ ms) (k ∷ ks) (suc n) m h e = let s = said_at ms ks n m h.1 e in record { k = s.k; there = s.there; said = s.said }
+
+-- ---- record types have the shapes of their names
+
+pub types_agree : (ms : List Module) (ks : List Known) → AreSaid ms ks → AllAgree shape_said ms
+types_agree [] [] h = tt
+types_agree [] (k ∷ ks) h = absurd h
+types_agree (m ∷ ms) [] h = absurd h
+types_agree (m ∷ ms) (k ∷ ks) h = (h.0.types, types_agree ms ks h.1)
 
 -- ---- what was known of imports is so
 

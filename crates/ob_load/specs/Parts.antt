@@ -24,6 +24,7 @@ trap_number trap.ShiftCount = 6
 trap_number trap.TextLength = 7
 trap_number trap.CallDepth = 8
 trap_number trap.Byte = 9
+trap_number trap.Guard = 10
 
 -- a turn that may want memory: each but the entry of a loop's body
 abbrev pub grows : TurnKind → Bool

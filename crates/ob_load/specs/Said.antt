@@ -1,8 +1,10 @@
--- What the key of a module says of it: its face, read from the text of its interface.
+-- What the key of a module says of it: its face, read from the text of its interface. And what the name of a record type says: its
+-- shape, read from the text of the type.
 use Rattle.std.specs.Prelude.{ℕ, ◌+◌, ◌*◌, ◌==◌, Bool, true, false, List, [], ◌∷◌, ◌++◌, if◌then◌else◌}
 use Rattle.std.specs.Char.{digit_value}
 use Rattle.ob_mean.specs.declared.face.Face.{Face}
 use Rattle.ob_mean.specs.declared.face.Heading.{Heading}
+use Rattle.ob_mean.specs.declared.kind.TypeName.{TypeName}
 use Rattle.ob_mean.specs.declared.module.Parameter.{Parameter}
 use Rattle.ob_mean.specs.declared.module.Parameter.TheVariants as parameter
 use Rattle.ob_mean.specs.declared.shape.Shape.{Shape}
@@ -14,22 +16,29 @@ pub data Read : Type 0 where
   BasicType : Read
   -- of elements of this shape
   OpenType : Shape → Read
-  OtherType : Shape → Read
+  ArrayType : Shape → Read
+  RecordType : Shape → Read
 
 abbrev pub read_shape : Read → Shape
 read_shape BasicType = shape.Basic
 read_shape (OpenType s) = shape.Array 1 s
-read_shape (OtherType s) = s
+read_shape (ArrayType s) = s
+read_shape (RecordType s) = s
 
 -- a formal parameter of it, VAR or not
 abbrev pub basic_parameter : Bool → Parameter
 basic_parameter true = parameter.Place shape.Basic
 basic_parameter false = parameter.Value
 
+abbrev pub record_parameter : Bool → Shape → Parameter
+record_parameter true s = parameter.Extended s
+record_parameter false s = parameter.Place s
+
 abbrev pub read_parameter : Bool → Read → Parameter
 read_parameter var BasicType = basic_parameter var
 read_parameter var (OpenType s) = parameter.Open s
-read_parameter var (OtherType s) = parameter.Place s
+read_parameter var (ArrayType s) = parameter.Place s
+read_parameter var (RecordType s) = record_parameter var s
 
 -- ---- where a reader stands
 
@@ -77,7 +86,7 @@ pub data At : Type 0 where
 -- after a type that stands in these, of which the innermost comes first
 abbrev pub behind : Read → List Around → At
 behind t [] = Rest
-behind t (OfArray n ∷ around) = behind (OtherType (shape.Array n (read_shape t))) around
+behind t (OfArray n ∷ around) = behind (ArrayType (shape.Array n (read_shape t))) around
 behind t (OfOpen ∷ around) = behind (OpenType (read_shape t)) around
 behind t (OfField shapes ∷ around) = Field (shapes ++ read_shape t ∷ []) around
 behind t (OfVariable ∷ around) = Variable (read_shape t)
@@ -117,7 +126,7 @@ next c (Result parameters is_function) =
 next c (Type' around) = type_begins c around
 next c (Length n around) = if c == 32 then Type' (OfArray n ∷ around) else Length (n * 10 + digit_value c) around
 next c (RecordName around) = if c == 40 then Fields [] around else RecordName around
-next c (Fields shapes around) = if c == 41 then behind (OtherType (shape.Record shapes)) around else field_begins c shapes around
+next c (Fields shapes around) = if c == 41 then behind (RecordType (shape.Record shapes)) around else field_begins c shapes around
 next c (FieldName shapes around) = in_field c shapes around
 next c (Field shapes around) = Fields shapes around
 next c (Variable s) = Line
@@ -148,3 +157,12 @@ no_face = record { variables = []; procedures = [] }
 
 unfoldable pub face_said : List ℕ → Face
 face_said key = (read key (Line, no_face)).1
+
+-- ---- the name of a type, which is read as that of a variable is
+
+abbrev pub shape_at : At → Shape
+shape_at (Variable s) = s
+shape_at at = shape.Basic
+
+unfoldable pub shape_said : TypeName → Shape
+shape_said x = shape_at (read x.text (Type' (OfVariable ∷ []), no_face)).0

@@ -23,6 +23,7 @@ pub(crate) fn trap_number(kind: TrapKind) -> u8
         TrapKind::TextLength => 7,
         TrapKind::CallDepth => 8,
         TrapKind::Byte => 9,
+        TrapKind::Guard => 10,
     }
 }
 

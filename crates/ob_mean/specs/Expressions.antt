@@ -1,11 +1,11 @@
 -- To be believed.
 -- Expressions, variables and what is passed, from left to right (Wirth, The Programming Language Oberon, Oberon-07).
-use Rattle.std.specs.Prelude.{ℕ, ℤ, pos, negsuc, List, [], ◌∷◌, Option, Some, None, nat_lt, if◌then◌else◌, slice_index}
+use Rattle.std.specs.Prelude.{ℕ, ℤ, pos, negsuc, Bool, true, false, List, [], ◌∷◌, Option, Some, None, nat_lt, if◌then◌else◌, slice_index}
 use Rattle.ob_mean.specs.declared.expression.Variable.{Variable}
 use Rattle.ob_mean.specs.declared.expression.Variable.TheVariants as variable
 use Rattle.ob_mean.specs.declared.expression.Callee.{Callee}
 use Rattle.ob_mean.specs.declared.expression.TypedExpr.{TypedExpr, Row_of-TypedExpr, end_of-TypedExpr, more_of-TypedExpr}
-use Rattle.ob_mean.specs.declared.expression.TypedExpr.TheVariants.{Constant, Read, InputDone, Unary', Chain', Every', Either', Texts, Length, Function'}
+use Rattle.ob_mean.specs.declared.expression.TypedExpr.TheVariants.{Constant, Read, InputDone, Unary', Chain', Every', Either', Texts, Length, Function', Test}
 use Rattle.ob_mean.specs.declared.expression.Designator.{Designator, end_of-Designator, more_of-Designator}
 use Rattle.ob_mean.specs.declared.expression.Designator.TheVariants as designator
 use Rattle.ob_mean.specs.declared.expression.Argument.{Argument}
@@ -14,7 +14,8 @@ use Rattle.ob_mean.specs.declared.expression.Argument.TheBlock.{Row_of-Argument,
 use Rattle.ob_mean.specs.declared.outcome.Outcome.TheVariants.{Trapped}
 use Rattle.ob_mean.specs.declared.outcome.TrapKind.{TrapKind}
 use Rattle.ob_mean.specs.declared.outcome.TrapKind.TheVariants as trap
-use Rattle.ob_mean.specs.Values.{Place, Whole, Part, Value, Cell, Named, Open, Nothing, Beside, count, get, number, named}
+use Rattle.ob_mean.specs.Values.{Place, Whole, Part, Value, Cell, Named, Open, Nothing, Beside, count, get, number, named, told, down, up}
+use Rattle.ob_mean.specs.RecordTypes.{TypeNames, extends}
 use Rattle.ob_mean.specs.Texts.{text_of}
 use Rattle.ob_mean.specs.Arithmetic.{Computed, Gives, Faults, truth, apply, apply_one, texts_relate}
 use Rattle.ob_mean.specs.Runs.{Goes, Stands, Piece, and_then, choose}
@@ -79,6 +80,27 @@ abbrev pub element : Scope → Option ℕ → Place → ℕ → Piece Place
 element scope (Some i) p line n w = Goes (Part p i) n w
 element scope None p line n w = traps scope trap.Index line n w
 
+-- ---- record types
+
+-- the record type that is told of what a VAR parameter names
+abbrev pub told_variable : Scope → Variable → Value → TypeNames
+told_variable scope (variable.OfModule x) s = []
+told_variable scope (variable.OfImport i x) s = []
+told_variable scope (variable.OfProcedure x) s = []
+told_variable scope (variable.ByParameter x) s = told (get s (Part (Part Whole scope.frame) x))
+
+-- and guarded it is the same
+abbrev pub told_of : Scope → Designator → Value → TypeNames
+told_of scope (designator.Whole v) s = told_variable scope v s
+told_of scope (designator.Element' g d line h row) s = []
+told_of scope (designator.Field' h d i) s = []
+told_of scope (designator.Guarded' h (more_of-Designator d end_of-Designator) line kind levels) s = told_of scope d s
+
+-- the record so many levels up of which a place is the base part, or the trap in this line
+abbrev pub extension : Scope → Bool → ℕ → Place → ℕ → Piece Place
+extension scope true levels p line n w = Goes (up levels p) n w
+extension scope false levels p line n w = traps scope trap.Guard line n w
+
 -- ---- expressions
 
 -- the value of a function
@@ -103,6 +125,8 @@ abbrev mutual
   value_of scope (Length d) n w = and_then (place_of scope d n w) (λ p n1 w1. Goes (pos (count (get w1.store p))) n1 w1)
   value_of scope (Function' f line k args) n w =
       and_then (passed (arguments scope args) n w) (λ a n1 w1. and_then (scope.call f a line n1 w1) (λ vs n2 w2. Goes (only vs) n2 w2))
+  value_of scope (Test d names) n w =
+      and_then (place_of scope d n w) (λ p n1 w1. Goes (truth (extends (told_of scope d w1.store) names)) n1 w1)
 
   pub place_of : Scope → Designator → Piece Place
   place_of scope (designator.Whole v) n w = Goes (variable_place scope v w.store) n w
@@ -111,12 +135,19 @@ abbrev mutual
       element scope (index_in i (count (get w2.store p))) p line n2 w2))
   place_of scope (designator.Field' h (more_of-Designator d end_of-Designator) i) n w =
       and_then (place_of scope d n w) (λ p n1 w1. Goes (Part p i) n1 w1)
+  place_of scope (designator.Guarded' h (more_of-Designator d end_of-Designator) line kind levels) n w =
+      and_then (place_of scope d n w) (λ p n1 w1.
+      extension scope (extends (told_of scope d w1.store) kind.names) levels p line n1 w1)
 
   -- a value, or the place that is named
   pub argument_of : Scope → Argument → Piece Value
   argument_of scope (argument.Value e) n w = and_then (value_of scope e n w) (λ v n1 w1. Goes (Cell v) n1 w1)
-  argument_of scope (argument.Place d) n w = and_then (place_of scope d n w) (λ p n1 w1. Goes (Named p) n1 w1)
+  argument_of scope (argument.Place d) n w = and_then (place_of scope d n w) (λ p n1 w1. Goes (Named p []) n1 w1)
   argument_of scope (argument.Open d) n w = and_then (place_of scope d n w) (λ p n1 w1. Goes (Open p (count (get w1.store p))) n1 w1)
+  argument_of scope (argument.Typed d kind levels) n w =
+      and_then (place_of scope d n w) (λ p n1 w1. Goes (Named (down levels p) kind.names) n1 w1)
+  argument_of scope (argument.Again d levels) n w =
+      and_then (place_of scope d n w) (λ p n1 w1. Goes (Named (down levels p) (told_of scope d w1.store)) n1 w1)
 
   pub values : Scope → {k : _} → Row_of-TypedExpr k → List (Piece ℤ)
   values scope end_of-TypedExpr = []

@@ -1,3 +1,4 @@
+pub mod RecordTypes
 pub mod Values
 pub mod Shapes
 pub mod Texts

@@ -16,7 +16,7 @@ character (negsuc n) = 0
 -- the characters of an array, to its end
 abbrev pub characters : Value → List ℕ
 characters (Cell z) = []
-characters (Named p) = []
+characters (Named p t) = []
 characters (Open p k) = []
 characters Nothing = []
 characters (Beside v rest) = character (number v) ∷ characters rest

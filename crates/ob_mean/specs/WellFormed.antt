@@ -1,12 +1,13 @@
 -- Trees in which each number names what is there, and each thing is used as what it is. The static rules give no others,
 -- and a compiler may rest on it.
-use Rattle.std.specs.Prelude.{◌≡◌, ◌≢◌, ℕ, zero, suc, ◌+◌, ◌^◌, ◌<◌, pos, Bool, true, false, Option, Some, None, List, [], ◌∷◌, length, slice_get}
+use Rattle.std.specs.Prelude.{◌≡◌, ◌≢◌, ℕ, zero, suc, ◌^◌, ◌<◌, pos, Bool, true, false, Option, Some, None, List, [], ◌∷◌, length, slice_get}
 use Rattle.ob_mean.specs.declared.expression.Variable.{Variable}
 use Rattle.ob_mean.specs.declared.expression.Variable.TheVariants as variable
 use Rattle.ob_mean.specs.declared.expression.Callee.{Callee}
 use Rattle.ob_mean.specs.declared.expression.Callee.TheVariants as callee
 use Rattle.ob_mean.specs.declared.expression.TypedExpr.{TypedExpr, Row_of-TypedExpr, end_of-TypedExpr, more_of-TypedExpr}
-use Rattle.ob_mean.specs.declared.expression.TypedExpr.TheVariants.{Constant, Read, InputDone, Unary', Chain', Every', Either', Texts, Length, Function'}
+use Rattle.ob_mean.specs.declared.expression.TypedExpr.TheVariants.{Constant, Read, InputDone, Unary', Chain', Every', Either', Texts, Length, Function', Test}
+use Rattle.ob_mean.specs.declared.kind.RecordKind.{RecordKind}
 use Rattle.ob_mean.specs.declared.expression.Designator.{Designator, end_of-Designator, more_of-Designator}
 use Rattle.ob_mean.specs.declared.expression.Designator.TheVariants as designator
 use Rattle.ob_mean.specs.declared.expression.Argument.{Argument}
@@ -35,6 +36,7 @@ use Rattle.ob_mean.specs.declared.statement.ForHead.{ForHead}
 use Rattle.ob_mean.specs.declared.statement.TypedStatement.{TypedStatement, Row_of-TypedStatement, end_of-TypedStatement, more_of-TypedStatement}
 use Rattle.ob_mean.specs.declared.statement.TypedStatement.TheBlock.{Row_of-Branch, end_of-Branch, more_of-Branch, Row_of-CaseArm, end_of-CaseArm, more_of-CaseArm}
 use Rattle.ob_mean.specs.declared.statement.TypedStatement.TheVariants.{Simple, If', Case', While', Repeat', For'}
+use Rattle.ob_mean.specs.RecordTypes.{TypeNames}
 use Rattle.ob_mean.specs.Programs.{Program}
 use Rattle.ob_mean.specs.Values.{size}
 use Rattle.ob_mean.specs.Shapes.{zero_of, opening_value}
@@ -98,6 +100,7 @@ abbrev pub value_object : Parameter → Option Object
 value_object parameter.Value = Some (Of Basic)
 value_object (parameter.Place shape) = None
 value_object (parameter.Open shape) = None
+value_object (parameter.Extended shape) = None
 
 -- the parameters come first
 abbrev pub own_object : List Parameter → List Shape → ℕ → Option Object
@@ -111,6 +114,7 @@ named_object None = None
 named_object (Some parameter.Value) = None
 named_object (Some (parameter.Place shape)) = Some (Of shape)
 named_object (Some (parameter.Open shape)) = Some (OpenOf shape)
+named_object (Some (parameter.Extended shape)) = Some (Of shape)
 
 abbrev pub variable_object : Names → Variable → Option Object
 variable_object names (variable.OfModule x) = module_object (slice_get names.variables x)
@@ -145,11 +149,61 @@ field_in None i = None
 field_in (Some (Of shape)) i = field_shape shape i
 field_in (Some (OpenOf shape)) i = None
 
+-- ---- record types
+
+-- An operand is a number of 32 bits within one object, so an object has fewer cells than this.
+abbrev pub cell_limit : ℕ
+cell_limit = 2 ^ 31
+
+-- an object of a shape whose values take so many cells
+abbrev pub HasCells : ℕ → Option Object → Type 0
+HasCells n None = ⊥
+HasCells n (Some (Of shape)) = size (zero_of shape) ≡ n
+HasCells n (Some (OpenOf shape)) = ⊥
+
+-- the names of what has this type and of its bases, each with its cells: the base of a record is its first field
+abbrev pub AreNamed : TypeNames → Option Object → Type 0
+AreNamed [] object = Unit {0}
+AreNamed (x ∷ xs) object = HasCells x.cells object × AreNamed xs (field_in object 0)
+
+-- a record type has a name at least, its own, and few cells
+pub record KindFits (k : RecordKind) : Type 0 where
+  pub named : 0 < length k.names
+  pub bases : AreNamed k.names (Some (Of k.shape))
+  pub few : size (zero_of k.shape) < cell_limit
+
+-- the base part of a record, so many levels down
+abbrev pub base_object : ℕ → Option Object → Option Object
+base_object zero object = object
+base_object (suc levels) object = field_in (base_object levels object) 0
+
+-- whether a type is told of what it names: it is VAR, of record type
+abbrev pub is_extended : Option Parameter → Bool
+is_extended None = false
+is_extended (Some parameter.Value) = false
+is_extended (Some (parameter.Place shape)) = false
+is_extended (Some (parameter.Open shape)) = false
+is_extended (Some (parameter.Extended shape)) = true
+
+abbrev pub is_told_variable : Names → Variable → Bool
+is_told_variable names (variable.OfModule x) = false
+is_told_variable names (variable.OfImport i x) = false
+is_told_variable names (variable.OfProcedure x) = false
+is_told_variable names (variable.ByParameter x) = is_extended (slice_get names.parameters x)
+
+-- and of what is such a parameter, guarded or not
+abbrev pub is_told : Names → Designator → Bool
+is_told names (designator.Whole v) = is_told_variable names v
+is_told names (designator.Element' g d line h row) = false
+is_told names (designator.Field' h d i) = false
+is_told names (designator.Guarded' h (more_of-Designator d end_of-Designator) line kind levels) = is_told names d
+
 -- what a designator names
 abbrev pub object_of : Names → Designator → Option Object
 object_of names (designator.Whole v) = variable_object names v
 object_of names (designator.Element' g (more_of-Designator d end_of-Designator) line h row) = shape_object (elements_in (object_of names d))
 object_of names (designator.Field' h (more_of-Designator d end_of-Designator) i) = field_in (object_of names d) i
+object_of names (designator.Guarded' h (more_of-Designator d end_of-Designator) line kind levels) = Some (Of kind.shape)
 
 -- ---- how they are used
 
@@ -183,6 +237,7 @@ abbrev mutual
   ExprFits names (Length d) = IndexesFit names d × IsArray (object_of names d)
   ExprFits names (Function' f line k args) =
       (g : Heading) × (called names f ≡ Some g) × (g.is_function ≡ true) × RowPassed names args g.parameters
+  ExprFits names (Test d type) = IndexesFit names d × (is_told names d ≡ true)
 
   pub ExprsFit : Names → {k : _} → Row_of-TypedExpr k → Type 0
   ExprsFit names end_of-TypedExpr = Unit {0}
@@ -198,12 +253,27 @@ abbrev mutual
   IndexesFit names (designator.Element' g (more_of-Designator d end_of-Designator) line h (more_of-TypedExpr e end_of-TypedExpr)) =
       IndexesFit names d × ExprFits names e
   IndexesFit names (designator.Field' h (more_of-Designator d end_of-Designator) i) = IndexesFit names d
+  IndexesFit names (designator.Guarded' h (more_of-Designator d end_of-Designator) line kind levels) =
+      IndexesFit names d × (is_told names d ≡ true) × KindFits kind × (base_object levels (Some (Of kind.shape)) ≡ object_of names d)
 
   -- what is passed to a parameter
   pub IsPassed : Names → Argument → Parameter → Type 0
   IsPassed names (argument.Value e) parameter.Value = ExprFits names e
   IsPassed names (argument.Place d) (parameter.Place shape) = IndexesFit names d × (object_of names d ≡ Some (Of shape))
   IsPassed names (argument.Open d) (parameter.Open shape) = IndexesFit names d × (elements_in (object_of names d) ≡ Some shape)
+  IsPassed names (argument.Typed d kind levels) (parameter.Extended shape) =
+      IndexesFit names d × (is_told names d ≡ false) × KindFits kind × (object_of names d ≡ Some (Of kind.shape)) × (base_object levels (object_of names d) ≡ Some (Of shape))
+  IsPassed names (argument.Again d levels) (parameter.Extended shape) =
+      IndexesFit names d × (is_told names d ≡ true) × (base_object levels (object_of names d) ≡ Some (Of shape))
+  IsPassed names (argument.Value e) (parameter.Extended shape) = ⊥
+  IsPassed names (argument.Place d) (parameter.Extended shape) = ⊥
+  IsPassed names (argument.Open d) (parameter.Extended shape) = ⊥
+  IsPassed names (argument.Typed d kind levels) parameter.Value = ⊥
+  IsPassed names (argument.Typed d kind levels) (parameter.Place shape) = ⊥
+  IsPassed names (argument.Typed d kind levels) (parameter.Open shape) = ⊥
+  IsPassed names (argument.Again d levels) parameter.Value = ⊥
+  IsPassed names (argument.Again d levels) (parameter.Place shape) = ⊥
+  IsPassed names (argument.Again d levels) (parameter.Open shape) = ⊥
   IsPassed names (argument.Value e) (parameter.Place shape) = ⊥
   IsPassed names (argument.Value e) (parameter.Open shape) = ⊥
   IsPassed names (argument.Place d) parameter.Value = ⊥
@@ -295,10 +365,6 @@ names_of faces m f = record { faces = faces; variables = m.variables; procedures
 abbrev pub ResultFits : Names → Option TypedExpr → Type 0
 ResultFits names None = Unit {0}
 ResultFits names (Some e) = ExprFits names e
-
--- An operand is a number of 32 bits within one object, so an object has fewer cells than this.
-abbrev pub cell_limit : ℕ
-cell_limit = 2 ^ 31
 
 -- each of the variables of these shapes has fewer
 abbrev pub ShapesFit : List Shape → Type 0

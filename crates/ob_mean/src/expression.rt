@@ -1,7 +1,8 @@
 //! Typed expressions.
 
+use crate::kind::{RecordKind, TypeName};
 use crate::operator::{Operator, Relation, UnaryOperator};
-use ob_base::{Boxed, Items};
+use ob_base::{Boxed, Items, SharedItems};
 
 /// A variable as a whole, by its number.
 #[derive(Clone, Copy, PartialEq, Eq, Debug)]
@@ -50,6 +51,9 @@ pub enum TypedExpr {
     Length(Designator),
     /// A function, its line, and what is passed.
     Function(Callee, usize, Items<Argument>),
+    /// IS: whether what a VAR parameter names is of this record type, or of one that extends it. The name of the type comes
+    /// first, then that of its base, and so on.
+    Test(Designator, SharedItems<TypeName>),
 }
 
 /// An operator, its line, and its second operand.
@@ -68,8 +72,11 @@ pub enum Designator {
     Whole(Variable),
     /// An element of an array: the array, the line of the index's first token, and the index.
     Element(Boxed<Designator>, usize, Boxed<TypedExpr>),
-    /// A field of a record, by its number there.
+    /// A field of a record, by its number there. The base of an extension is its first field.
     Field(Boxed<Designator>, usize),
+    /// A guard: what a VAR parameter names, taken as a record of this type, which has the type that it is declared with after
+    /// so many bases. The line is the one that the trap names.
+    Guarded(Boxed<Designator>, usize, RecordKind, usize),
 }
 
 /// What is passed to a parameter.
@@ -82,4 +89,9 @@ pub enum Argument {
     Place(Designator),
     /// What an open array parameter names.
     Open(Designator),
+    /// What a VAR parameter of record type names: the base part, so many bases down, of a record of this type, which is told
+    /// with it.
+    Typed(Designator, RecordKind, usize),
+    /// The same of what such a parameter of the running procedure names: the type that was told with that is told again.
+    Again(Designator, usize),
 }

@@ -4,6 +4,7 @@
 pub mod arithmetic;
 pub mod expression;
 pub mod face;
+pub mod kind;
 pub mod module;
 pub mod operator;
 pub mod outcome;
@@ -13,6 +14,7 @@ pub mod statement;
 pub use arithmetic::{apply, apply_one, holds, texts_relate, truth};
 pub use expression::{Argument, Callee, Designator, Operation, TypedExpr, Variable};
 pub use face::{Face, Heading};
+pub use kind::{RecordKind, TypeName, extends};
 pub use module::{Loaded, ModuleVariable, Parameter, TypedModule, TypedProcedure};
 pub use operator::{Operator, Relation, UnaryOperator};
 pub use outcome::{Outcome, TrapKind, TurnKind};

@@ -14,6 +14,8 @@ pub enum Parameter {
     Place(Shape),
     /// An open array: it names an array with elements of this shape.
     Open(Shape),
+    /// VAR, of record type: it names a record of this shape, which may be the base part of a record of an extension.
+    Extended(Shape),
 }
 
 /// A procedure. It has its parameters' variables first, and then its own.

@@ -21,6 +21,8 @@ pub enum TrapKind {
     CallDepth,
     /// 9: a number outside 0 to 255 for a BYTE.
     Byte,
+    /// 10: a guard of a record that is of no such type.
+    Guard,
 }
 
 /// What a turn is for.

@@ -9,10 +9,12 @@ use Rattle.ob_mean.specs.declared.expression.Operation.{Operation}
 use Rattle.ob_mean.specs.declared.expression.Argument.{Argument}
 use Rattle.ob_mean.specs.declared.expression.Callee.{Callee}
 use Rattle.ob_mean.specs.declared.expression.Argument.TheBlock.{Row_of-Argument, end_of-Argument, more_of-Argument, items-the_row-Argument, Row_of-Operation, end_of-Operation, more_of-Operation, items-the_row-TypedExpr, items-the_row-Operation, items_hidden-the_row-Operation-2, items_hidden-the_row-TypedExpr-3, items_hidden-the_row-Argument-4}
-use Rattle.ob_mean.specs.Values.{Part, get, count}
+use Rattle.ob_mean.specs.declared.kind.RecordKind.{RecordKind}
+use Rattle.ob_mean.specs.RecordTypes.{extends}
+use Rattle.ob_mean.specs.Values.{Value, Part, get, count}
 use Rattle.ob_mean.specs.Arithmetic.{Gives, apply, apply_one}
 use Rattle.ob_mean.specs.Runs.{World, Supply, Goes, and_then}
-use Rattle.ob_mean.specs.Expressions.{Scope, value_of, place_of, argument_of, values, arguments, operations, passed, only, chained, every, either, computed, element, index_in}
+use Rattle.ob_mean.specs.Expressions.{Scope, value_of, place_of, argument_of, values, arguments, operations, passed, only, chained, every, either, computed, element, index_in, told_of, extension}
 use Rattle.ob_reference.specs.Lists.{value_pieces, operation_pieces, called}
 
 pub unary_is : (scope : Scope) (op : UnaryOperator) (line : ℕ) (a : TypedExpr) (n : Supply) (w : World) → value_of scope (Unary op line a) n w ≡ and_then (value_of scope a n w) (λ x n1 w1. computed scope (apply_one op x) line n1 w1)
@@ -78,3 +80,11 @@ element_is scope d line e n w = refl
 pub field_is : (scope : Scope) (d : Designator) (i : ℕ) (n : Supply) (w : World) → place_of scope (designator.Field d i) n w ≡ and_then (place_of scope d n w) (λ p n1 w1. Goes (Part p i) n1 w1)
 unfolding Rattle.ob_mean.specs.declared.expression.Argument.TheBlock.hidden-the_row-Designator-0 denote.Hole.Carrier.hidden
 field_is scope d i n w = refl
+
+pub guarded_is : (scope : Scope) (d : Designator) (line : ℕ) (kind : RecordKind) (levels : ℕ) (n : Supply) (w : World) → place_of scope (designator.Guarded d line kind levels) n w ≡ and_then (place_of scope d n w) (λ p n1 w1. extension scope (extends (told_of scope d w1.store) kind.names) levels p line n1 w1)
+unfolding Rattle.ob_mean.specs.declared.expression.Argument.TheBlock.hidden-the_row-Designator-0 denote.Hole.Carrier.hidden
+guarded_is scope d line kind levels n w = refl
+
+pub told_guarded : (scope : Scope) (d : Designator) (line : ℕ) (kind : RecordKind) (levels : ℕ) (s : Value) → told_of scope (designator.Guarded d line kind levels) s ≡ told_of scope d s
+unfolding Rattle.ob_mean.specs.declared.expression.Argument.TheBlock.hidden-the_row-Designator-0 denote.Hole.Carrier.hidden
+told_guarded scope d line kind levels s = refl

@@ -7,10 +7,11 @@ ghost use Rattle.ob_reference_store.specs.Kept.{value_in};
 ghost use Rattle.ob_reference.specs.Lists.{called};
 ghost use Rattle.ob_reference_store.specs.States.{Follows, scope_in, supply_in, world_in};
 
-use crate::expression::{place, value};
+use crate::expression::{place, told_of, value};
 use crate::site::Site;
 use crate::statement::statements;
 use ob_mean::{Argument, Callee, Outcome, TrapKind, TurnKind, TypedExpr, TypedProcedure};
+use ob_reference_store::bases::down;
 use ob_reference_store::frame::{enter, home_of, leave, procedure_of};
 use ob_reference_store::row::count;
 use ob_reference_store::state::{At, State, take_turn};
@@ -40,6 +41,19 @@ fn argument(site: Site<'_>, room: u32, state: &mut State, a: &Argument) -> Resul
             let path = place(site, room - 1, state, d)?;
             let length = count_at(&state.store, &path)?;
             Ok(Value::Open(path, length))
+        }
+        Argument::Typed(d, kind, levels) => {
+            let path = place(site, room - 1, state, d)?;
+            let base = down(path, *levels)?;
+            Ok(Value::Typed(base, kind.names.another()?))
+        }
+        Argument::Again(d, levels) => {
+            let path = place(site, room - 1, state, d)?;
+            let base = down(path, *levels)?;
+            match told_of(site, &state.store, d) {
+                Some(types) => Ok(Value::Typed(base, types.another()?)),
+                None => Ok(Value::Named(base)),
+            }
         }
     }
 }

@@ -1,22 +1,27 @@
 //! Expressions and places.
 
-ghost use Rattle.std.specs.Prelude.{◌≡◌, List, pos, IfOk, MatchResult};
+ghost use Rattle.std.specs.Prelude.{◌≡◌, List, [], pos, IfOk, MatchOption, MatchResult};
 ghost use Rattle.ob_mean.specs.Values.{Part, count, get};
 ghost use Rattle.ob_mean.specs.declared.module.Loaded.{Loaded};
 ghost use Rattle.ob_mean.specs.declared.outcome.Outcome.TheVariants.{Trapped};
 ghost use Rattle.ob_reference_store.specs.declared.stop.Stop.TheVariants.{Stands};
+ghost use Rattle.ob_mean.specs.RecordTypes.{extends};
 ghost use Rattle.ob_mean.specs.Expressions as spec;
-ghost use Rattle.ob_reference_store.specs.Kept.{place_of};
+ghost use Rattle.ob_reference_store.specs.Kept.{place_of, value_in};
 ghost use Rattle.ob_reference_store.specs.States.{Follows, scope_in, supply_in, world_in};
 ghost use Rattle.ob_reference.specs.Lists.{operation_pieces, value_pieces};
 
 use crate::call::function;
 use crate::site::Site;
+use ob_base::SharedItems;
 use ob_mean::{
-    Designator, Operation, Outcome, TrapKind, TypedExpr, apply, apply_one, texts_relate, truth,
+    Designator, Operation, Outcome, TrapKind, TypeName, TypedExpr, Variable, apply, apply_one,
+    extends, texts_relate, truth,
 };
+use ob_reference_store::bases::{told_by, up};
 use ob_reference_store::state::{At, State};
 use ob_reference_store::stop::{NoAnswer, Stop};
+use ob_reference_store::value::Value;
 use ob_reference_store::variable::{count_at, number_at, text_at, variable_path};
 
 /// The value of an expression.
@@ -64,6 +69,10 @@ pub(crate) fn value(
         }
         TypedExpr::Function(callee, line, arguments) => {
             function(site, room - 1, state, *callee, *line, arguments.as_slice())
+        }
+        TypedExpr::Test(d, types) => {
+            let _path = place(site, room - 1, state, d)?;
+            Ok(truth(is_told(site, &state.store, d, types.as_slice())))
         }
     }
 }
@@ -185,9 +194,71 @@ fn part(whole: Vec<usize>, number: usize) -> Result<Vec<usize>, NoAnswer>
     Ok(path)
 }
 
+/// The record type that is told of what a variable names.
+fn told_variable<'a>(
+    site: Site<'_>,
+    store: &'a Value,
+    variable: Variable,
+) -> Option<&'a SharedItems<TypeName>>
+    ensures { MatchOption result
+        (spec.told_variable (scope_in site.entry.program.now site.entry.at) variable (value_in store.now) ≡ [])
+        (λ type. spec.told_variable (scope_in site.entry.program.now site.entry.at) variable (value_in store.now) ≡ type.now) }
+{
+    match variable {
+        Variable::ByParameter(x) => told_by(store, site.at.frame, x),
+        _ => None,
+    }
+}
+
+/// The record type that is told of what a VAR parameter names, guarded or not.
+#[tactic(auto, using(crate::proofs::Trees::told_guarded))]
+pub(crate) fn told_of<'a>(
+    site: Site<'_>,
+    store: &'a Value,
+    d: &Designator,
+) -> Option<&'a SharedItems<TypeName>>
+    ensures { MatchOption result
+        (spec.told_of (scope_in site.entry.program.now site.entry.at) d.now (value_in store.now) ≡ [])
+        (λ type. spec.told_of (scope_in site.entry.program.now site.entry.at) d.now (value_in store.now) ≡ type.now) }
+{
+    match d {
+        Designator::Whole(variable) => told_variable(site, store, *variable),
+        Designator::Element(_, _, _) => None,
+        Designator::Field(_, _) => None,
+        Designator::Guarded(record, _, _, _) => told_of(site, store, record.get()),
+    }
+}
+
+/// Whether what is told of a place is this record type, or one that extends it.
+fn is_told(site: Site<'_>, store: &Value, d: &Designator, types: &[TypeName]) -> bool
+    ensures { result ≡ extends (spec.told_of (scope_in site.entry.program.now site.entry.at) d.now (value_in store.now)) types.now }
+{
+    match told_of(site, store, d) {
+        Some(told) => extends(told.as_slice(), types),
+        None => extends(&[], types),
+    }
+}
+
+/// The record so many levels up of which a place is the base part, where that is of the type of a guard.
+fn extension(
+    site: Site<'_>,
+    state: &State,
+    holds: bool,
+    levels: usize,
+    base: Vec<usize>,
+    line: usize,
+) -> Result<Vec<usize>, Stop>
+    ensures { Follows (λ path. place_of path.items) result state.now (spec.extension (scope_in site.entry.program.now site.entry.at) holds levels (place_of base.items) line (supply_in state.now) (world_in state.now)) }
+{
+    if !holds {
+        return Err(Stop::Stands(Outcome::Trapped(TrapKind::Guard, site.at.home, line)));
+    }
+    Ok(up(base, levels))
+}
+
 /// The place of a variable or a part of one.
 #[cycle(running)]
-#[tactic(auto, using(crate::proofs::Trees::element_is, crate::proofs::Trees::field_is))]
+#[tactic(auto, using(crate::proofs::Trees::element_is, crate::proofs::Trees::field_is, crate::proofs::Trees::guarded_is))]
 pub(crate) fn place(
     site: Site<'_>,
     room: u32,
@@ -211,6 +282,11 @@ pub(crate) fn place(
         Designator::Field(record, number) => {
             let whole = place(site, room - 1, state, record.get())?;
             Ok(part(whole, *number)?)
+        }
+        Designator::Guarded(record, line, kind, levels) => {
+            let base = place(site, room - 1, state, record.get())?;
+            let holds = is_told(site, &state.store, record.get(), kind.names.as_slice());
+            extension(site, state, holds, *levels, base, *line)
         }
     }
 }

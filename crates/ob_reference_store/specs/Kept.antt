@@ -14,7 +14,8 @@ place_of path = place_from Whole path
 
 abbrev pub value_in : declared.Value → Value
 value_in (kept.Cell z) = Cell z
-value_in (kept.Named path) = Named (place_of path.items)
+value_in (kept.Named path) = Named (place_of path.items) []
+value_in (kept.Typed path type) = Named (place_of path.items) type
 value_in (kept.Open path length) = Open (place_of path.items) length
 value_in kept.Nothing = Nothing
 value_in (kept.Beside' p v q rest) = Beside (value_in v) (value_in rest)

@@ -2,6 +2,7 @@
 //! writes.
 #![tactic(auto)]
 
+pub mod bases;
 pub mod frame;
 pub mod input;
 pub mod row;

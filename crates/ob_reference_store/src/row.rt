@@ -65,6 +65,7 @@ pub(crate) fn named(alloc: Global, value: &Value) -> Result<Vec<usize>, AllocErr
 {
     match value {
         Value::Named(path) => Vec::from_slice(alloc, path),
+        Value::Typed(path, _) => Vec::from_slice(alloc, path),
         Value::Open(path, _) => Vec::from_slice(alloc, path),
         _ => Ok(Vec::new(alloc)),
     }
@@ -77,6 +78,10 @@ pub fn copy(alloc: Global, value: &Value) -> Result<Value, AllocError>
     match value {
         Value::Cell(number) => Ok(Value::Cell(*number)),
         Value::Named(path) => Ok(Value::Named(Vec::from_slice(alloc, path)?)),
+        Value::Typed(path, type_names) => {
+            let path = Vec::from_slice(alloc, path)?;
+            Ok(Value::Typed(path, type_names.another()?))
+        }
         Value::Open(path, length) => Ok(Value::Open(Vec::from_slice(alloc, path)?, *length)),
         Value::Nothing => Ok(Value::Nothing),
         Value::Beside(first, rest) => {

@@ -1,8 +1,11 @@
 //! Values as the reference keeps them.
 
-ghost use Rattle.std.specs.Prelude.{◌≡◌, MatchOption};
+ghost use Rattle.std.specs.Prelude.{◌≡◌, [], MatchOption};
 ghost use Rattle.ob_mean.specs.Values as spec;
 ghost use Rattle.ob_reference_store.specs.Kept.{value_in, walk, walk_set};
+
+use ob_base::SharedItems;
+use ob_mean::TypeName;
 
 /// A value of basic type, what a parameter names, or a row of values.
 #[derive(Drop)]
@@ -10,9 +13,21 @@ pub enum Value {
     Cell(i32),
     /// The place as a path from the whole store.
     Named(Vec<usize>),
+    /// The same, and the record type that is told with it: its name, that of its base, and so on.
+    Typed(Vec<usize>, SharedItems<TypeName>),
     Open(Vec<usize>, usize),
     Nothing,
     Beside(Box<Value>, Box<Value>),
+}
+
+/// The record type that is told with a name.
+pub(crate) fn told(value: &Value) -> Option<&SharedItems<TypeName>>
+    ensures { MatchOption result (spec.told (value_in value.now) ≡ []) (λ type. spec.told (value_in value.now) ≡ type.now) }
+{
+    match value {
+        Value::Typed(_, type_names) => Some(type_names),
+        _ => None,
+    }
 }
 
 /// A value of a row.

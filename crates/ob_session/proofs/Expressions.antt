@@ -1,8 +1,8 @@
 -- Expressions, variables and what is passed.
-use Rattle.std.proofs.Common.{ℕ, ℤ, pos, List, [], ◌∷◌, Option, Some, None, refl}
+use Rattle.std.proofs.Common.{ℕ, ℤ, pos, Bool, true, false, List, [], ◌∷◌, Option, Some, None, refl}
 use Rattle.ob_mean.specs.declared.expression.Callee.{Callee}
 use Rattle.ob_mean.specs.declared.expression.TypedExpr.{TypedExpr, Row_of-TypedExpr, end_of-TypedExpr, more_of-TypedExpr}
-use Rattle.ob_mean.specs.declared.expression.TypedExpr.TheVariants.{Constant, Read, InputDone, Unary', Chain', Every', Either', Texts, Length, Function'}
+use Rattle.ob_mean.specs.declared.expression.TypedExpr.TheVariants.{Constant, Read, InputDone, Unary', Chain', Every', Either', Texts, Length, Function', Test}
 use Rattle.ob_mean.specs.declared.expression.Designator.{Designator, end_of-Designator, more_of-Designator}
 use Rattle.ob_mean.specs.declared.expression.Designator.TheVariants as designator
 use Rattle.ob_mean.specs.declared.expression.Argument.{Argument}
@@ -13,7 +13,7 @@ use Rattle.ob_mean.specs.declared.outcome.TrapKind.{TrapKind}
 use Rattle.ob_mean.specs.Values.{Place, Part, Value, Nothing}
 use Rattle.ob_mean.specs.Arithmetic.{Computed, Gives, Faults}
 use Rattle.ob_mean.specs.Runs.{Piece}
-use Rattle.ob_mean.specs.Expressions.{Scope, traps, computed, chained, every, either, passed, element, value_of, place_of, argument_of, values, arguments, operations}
+use Rattle.ob_mean.specs.Expressions.{Scope, traps, computed, chained, every, either, passed, element, extension, value_of, place_of, argument_of, values, arguments, operations}
 use Rattle.ob_session.proofs.Courses.{Sound, Good, goes_at, stands_at, bind_at, choose_at}
 use Rattle.ob_session.proofs.Control.{EachGood}
 
@@ -27,6 +27,10 @@ computed_good scope (Faults kind) line b w = traps_at b scope kind line w
 element_good : (scope : Scope) (i : Option ℕ) (p : Place) (line : ℕ) → Good (element scope i p line)
 element_good scope (Some i) p line b w = goes_at b w.written (Part p i) w refl
 element_good scope None p line b w = traps_at b scope _ line w
+
+extension_good : (scope : Scope) (told : Bool) (levels : ℕ) (p : Place) (line : ℕ) → Good (extension scope told levels p line)
+extension_good scope true levels p line b w = goes_at b w.written _ w refl
+extension_good scope false levels p line b w = traps_at b scope _ line w
 
 abbrev StepsGood : List (ℤ → Piece ℤ) → Type 0
 StepsGood [] = Unit {0}
@@ -65,6 +69,7 @@ module _ (scope : Scope) (calls : (f : Callee) (a : Value) (line : ℕ) → Good
     value_good (Length d) b w = bind_at (place_good d b w) (λ p w1. goes_at b w1.written _ w1 refl)
     value_good (Function' f line k args) b w =
         bind_at (passed_good (arguments scope args) (arguments_good args) b w) (λ a w1. bind_at (calls f a line b w1) (λ vs w2. goes_at b w2.written _ w2 refl))
+    value_good (Test d names) b w = bind_at (place_good d b w) (λ p w1. goes_at b w1.written _ w1 refl)
 
     pub place_good : (d : Designator) → Good (place_of scope d)
     place_good (designator.Whole v) b w = goes_at b w.written _ w refl
@@ -72,11 +77,15 @@ module _ (scope : Scope) (calls : (f : Callee) (a : Value) (line : ℕ) → Good
         bind_at (place_good d b w) (λ p w1. bind_at (value_good e b w1) (λ i w2. element_good scope _ p line b w2))
     place_good (designator.Field' h (more_of-Designator d end_of-Designator) i) b w =
         bind_at (place_good d b w) (λ p w1. goes_at b w1.written _ w1 refl)
+    place_good (designator.Guarded' h (more_of-Designator d end_of-Designator) line kind levels) b w =
+        bind_at (place_good d b w) (λ p w1. extension_good scope _ levels p line b w1)
 
     pub argument_good : (a : Argument) → Good (argument_of scope a)
     argument_good (argument.Value e) b w = bind_at (value_good e b w) (λ v w1. goes_at b w1.written _ w1 refl)
     argument_good (argument.Place d) b w = bind_at (place_good d b w) (λ p w1. goes_at b w1.written _ w1 refl)
     argument_good (argument.Open d) b w = bind_at (place_good d b w) (λ p w1. goes_at b w1.written _ w1 refl)
+    argument_good (argument.Typed d kind levels) b w = bind_at (place_good d b w) (λ p w1. goes_at b w1.written _ w1 refl)
+    argument_good (argument.Again d levels) b w = bind_at (place_good d b w) (λ p w1. goes_at b w1.written _ w1 refl)
 
     values_good : {k : _} (es : Row_of-TypedExpr k) → EachGood (values scope es)
     values_good end_of-TypedExpr = tt

@@ -93,7 +93,7 @@ stands m (x ∷ ms) =
 
 count-with : (v : Value) (i : ℕ) (x : Value) → count (with_item v i x) ≡ count v
 count-with (Cell z) i x = refl
-count-with (Named p) i x = refl
+count-with (Named p t) i x = refl
 count-with (Open p k) i x = refl
 count-with Nothing i x = refl
 count-with (Beside v rest) zero x = refl
@@ -101,7 +101,7 @@ count-with (Beside v rest) (suc i) x = ap suc (count-with rest i x)
 
 item-with : (v : Value) (i : ℕ) (x : Value) → i < count v → item (with_item v i x) i ≡ x
 item-with (Cell z) i x lt = absurd (omega (arith, lt))
-item-with (Named p) i x lt = absurd (omega (arith, lt))
+item-with (Named p t) i x lt = absurd (omega (arith, lt))
 item-with (Open p k) i x lt = absurd (omega (arith, lt))
 item-with Nothing i x lt = absurd (omega (arith, lt))
 item-with (Beside v rest) zero x lt = refl
@@ -109,7 +109,7 @@ item-with (Beside v rest) (suc i) x lt = item-with rest i x (omega (arith, lt))
 
 item-other : (v : Value) (i j : ℕ) (x : Value) → (j ≢ i) → item (with_item v i x) j ≡ item v j
 item-other (Cell z) i j x h = refl
-item-other (Named p) i j x h = refl
+item-other (Named p t) i j x h = refl
 item-other (Open p k) i j x h = refl
 item-other Nothing i j x h = refl
 item-other (Beside v rest) zero zero x h = absurd (h refl)
@@ -119,21 +119,21 @@ item-other (Beside v rest) (suc i) (suc j) x h = item-other rest i j x (λ e. h 
 
 count-append : (v x : Value) → count (append v (Beside x Nothing)) ≡ suc (count v)
 count-append (Cell z) x = refl
-count-append (Named p) x = refl
+count-append (Named p t) x = refl
 count-append (Open p k) x = refl
 count-append Nothing x = refl
 count-append (Beside v rest) x = ap suc (count-append rest x)
 
 item-append : (v x : Value) → item (append v (Beside x Nothing)) (count v) ≡ x
 item-append (Cell z) x = refl
-item-append (Named p) x = refl
+item-append (Named p t) x = refl
 item-append (Open p k) x = refl
 item-append Nothing x = refl
 item-append (Beside v rest) x = item-append rest x
 
 item-before : (v x : Value) (i : ℕ) → i < count v → item (append v (Beside x Nothing)) i ≡ item v i
 item-before (Cell z) x i lt = absurd (omega (arith, lt))
-item-before (Named p) x i lt = absurd (omega (arith, lt))
+item-before (Named p t) x i lt = absurd (omega (arith, lt))
 item-before (Open p k) x i lt = absurd (omega (arith, lt))
 item-before Nothing x i lt = absurd (omega (arith, lt))
 item-before (Beside v rest) x zero lt = refl

@@ -31,7 +31,7 @@ pub record AreBehind (es : List Extent) (cells : ℕ) : Type 0 where
 -- the cells of the values in a row
 abbrev pub row_sizes : Value → List ℕ
 row_sizes (Cell z) = []
-row_sizes (Named p) = []
+row_sizes (Named p t) = []
 row_sizes (Open p k) = []
 row_sizes Nothing = []
 row_sizes (Beside v rest) = size v ∷ row_sizes rest

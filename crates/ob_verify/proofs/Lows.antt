@@ -4,8 +4,8 @@ use Rattle.std.specs.Prelude.{slice_get, nat_lt, nat_le, if◌then◌else◌}
 use Rattle.std.proofs.lemmas.Bool.{cases_lt}
 use Rattle.std.proofs.lemmas.Bool.Decides.{nat_tests}
 use Rattle.ob_code.specs.declared.kinds.Kind.TheVariants.{Number, UpTo, Inside, Guarded}
-use Rattle.ob_code.specs.declared.instr.TypeName.{TypeName}
-use Rattle.ob_code.specs.RecordTypes.{TypeNames, AtMost}
+use Rattle.ob_mean.specs.declared.kind.TypeName.{TypeName}
+use Rattle.ob_mean.specs.RecordTypes.{TypeNames, AtMost}
 use Rattle.ob_code.specs.Kinds.{Kinds, NameKinds, CoversAt, CoverAll, SameAt, low, inside, in_record}
 
 pub low_fits : (n : ℕ) → n < 2147483648 → low n ≡ UpTo n

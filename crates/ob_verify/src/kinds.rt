@@ -2,11 +2,12 @@
 
 ghost use Rattle.std.specs.Prelude.{◌≡◌, ℕ, ◌+◌, ◌<◌, ◌≤◌, length, IsTrue};
 ghost use Rattle.ob_code.specs.Kinds as spec;
-ghost use Rattle.ob_code.specs.RecordTypes as types_of;
+ghost use Rattle.ob_mean.specs.RecordTypes as types_of;
 ghost use Rattle.ob_code.specs.Kinds.{Covers, CoversAt, CoverAll, SameAt};
 
-use ob_code::instr::{Length, NameKind, TypeName};
+use ob_code::instr::{Length, NameKind};
 use ob_code::kinds::Kind;
+use ob_mean::TypeName;
 
 // No number of 32 bits is this or more.
 pub(crate) const NUMBERS: usize = 2_147_483_648;

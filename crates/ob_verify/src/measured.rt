@@ -2,7 +2,7 @@
 
 ghost use Rattle.std.specs.Prelude.{◌≡◌, ℕ, ◌++◌, ◌-◌, ◌<◌, ◌≤◌, [], ◌∷◌, length, take, drop, option_copied, IsTrue, Some, slice_get};
 ghost use Rattle.ob_code.specs.Kinds.{LieAmong, LieInElement, LieInRecord, LieInName, Lie, IsLong, ArrayLies, TextLies, TargetLies, LengthIs, TellsType, IsFew, ArePassed, CoverAll, with_top, results_kinds, nothing, OperandsArrive, NamesArrive, Arrives, known_at, listed, Keeps, HasKinds};
-ghost use Rattle.ob_code.specs.RecordTypes.{AtMost};
+ghost use Rattle.ob_mean.specs.RecordTypes.{AtMost};
 ghost use Rattle.ob_code.specs.declared.instr.Line.{Line as LineOf};
 ghost use Rattle.ob_code.specs.declared.instr.NameKind.TheVariants.{ArrayOf};
 
@@ -11,9 +11,10 @@ use crate::kinds::{
 };
 use crate::validate::entry_of;
 use ob_code::instr::{
-    CodeModule, Entry, Instr, Length, Line, NameKind, Procedure, Root, Span, Target, TypeName,
+    CodeModule, Entry, Instr, Length, Line, NameKind, Procedure, Root, Span, Target,
 };
 use ob_code::kinds::{Kind, Known};
+use ob_mean::TypeName;
 
 fn lie_among(cells: usize, kind: Kind, count: usize) -> bool
     ensures { IsTrue result → LieAmong cells kind count }

@@ -1,6 +1,6 @@
 //! Records that extend others, numbers, and parameters that are the actual variables.
 
-use crate::replays::{assert_cells, assert_session, ok};
+use crate::replays::{assert_cells, assert_session, ok, trap};
 use std::test::Fail;
 
 #[test]
@@ -21,6 +21,42 @@ fn records_extend_those_of_other_modules(rt: HostRuntime) -> Result<(), Fail> {
                 "",
             ),
             ok("L.P", "55"),
+        ],
+    )
+}
+
+#[test]
+fn a_test_tells_an_extension(rt: HostRuntime) -> Result<(), Fail> {
+    assert_cells(
+        &rt,
+        &[
+            ok(
+                "MODULE V; IMPORT Out; TYPE T = RECORD a: INTEGER END; U = RECORD (T) b: INTEGER END; VAR t: T; u: U; PROCEDURE P(VAR r: T); BEGIN IF r IS U THEN r(U).b := r.a + 1 END; r.a := 9 END P; BEGIN u.a := 4; P(u); P(t); Out.Int(u.a, 0); Out.Char(41X); Out.Int(u.b, 0); Out.Char(41X); u.a := 3; t := u; Out.Int(t.a, 0) END V.",
+                "9A5A3",
+            ),
+            trap(
+                "MODULE W; TYPE T = RECORD a: INTEGER END; U = RECORD (T) b: INTEGER END; VAR t: T; PROCEDURE P(VAR r: T); BEGIN r(U).b := 1 END P; BEGIN P(t) END W.",
+                "",
+                "trap 10 in W, line 1",
+            ),
+        ],
+    )
+}
+
+#[test]
+fn a_guard_knows_the_types_of_other_modules(rt: HostRuntime) -> Result<(), Fail> {
+    assert_session(
+        &rt,
+        &[
+            ok(
+                "MODULE N; TYPE T* = RECORD a*: INTEGER; h: INTEGER END; U* = RECORD (T) b*: INTEGER END; PROCEDURE P*(VAR r: T); BEGIN IF r IS U THEN r(U).b := 5 END; r.h := 1 END P; PROCEDURE Q*(VAR r: T); BEGIN r(U).b := 6 END Q; END N.",
+                "",
+            ),
+            ok(
+                "MODULE M; IMPORT N, Out; TYPE W = RECORD (N.U) c: INTEGER END; X = RECORD (N.T) c: INTEGER END; VAR w: W; x: X; PROCEDURE Bad*; BEGIN N.Q(x) END Bad; BEGIN N.P(w); Out.Int(w.b, 0); N.P(x); Out.Int(x.c, 0) END M.",
+                "50",
+            ),
+            trap("M.Bad", "", "trap 10 in N, line 1"),
         ],
     )
 }

@@ -29,7 +29,7 @@ use Rattle.ob_code.specs.declared.instr.Instr.TheVariants.{Push, Drop, PushDone,
 use Rattle.ob_code.specs.declared.instr.Line.{Line}
 use Rattle.ob_code.specs.declared.instr.Procedure.{Procedure}
 use Rattle.ob_code.specs.declared.instr.Frame.{Frame}
-use Rattle.ob_code.specs.RecordTypes.{extends, cells_of}
+use Rattle.ob_mean.specs.RecordTypes.{extends, cells_of}
 use Rattle.ob_code.specs.Machine.{Code, Config, Effect, Moves, Turns, Reads, Fails, Finishes, Misses, procedure_in, lines_of, go, on, with_names, untold, name_at, type_of, object, elements, within, at_cells, overwritten, put, with_buffer, text_cells, characters_at, on_top, on_two, operated, indexed, stored_text, target_of, number_of, found, invoked, returned, found_in, target_object, kept, perform, act, effect, Point, Going, Standing, Lost, take_effect, after, Comes}
 use Rattle.ob_code.proofs.machine.Runs.{stays, goes_on, moves, takes_turn, has_no_turn, takes_line, has_no_line, finishes, fails, after-standing, after-lost}
 

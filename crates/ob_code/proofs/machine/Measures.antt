@@ -11,10 +11,10 @@ use Rattle.ob_code.specs.declared.kinds.Kind.{Kind}
 use Rattle.ob_code.specs.declared.kinds.Kind.TheVariants.{Number, UpTo, Inside, Guarded, Absent}
 use Rattle.ob_code.specs.declared.instr.NameKind.{NameKind}
 use Rattle.ob_code.specs.declared.instr.Name.{Name}
-use Rattle.ob_code.specs.declared.instr.TypeName.{TypeName}
+use Rattle.ob_mean.specs.declared.kind.TypeName.{TypeName}
 use Rattle.ob_code.specs.declared.instr.Length.{Length}
 use Rattle.ob_code.specs.declared.instr.Length.TheVariants.{Elements, OfName}
-use Rattle.ob_code.specs.RecordTypes.{TypeNames, same_name, is_among, extends, cells_of, AtMost}
+use Rattle.ob_mean.specs.RecordTypes.{TypeNames, same_name, is_among, extends, cells_of, AtMost}
 use Rattle.ob_code.specs.Machine.{Code, Config, no_name, elements}
 use Rattle.ob_code.specs.Places.{top_of, under_top}
 use Rattle.ob_code.specs.Steady.{Held, held, Match, AreOf}

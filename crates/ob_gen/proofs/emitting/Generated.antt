@@ -42,6 +42,7 @@ counts [] = omega arith
 counts (parameter.Value ∷ ps) = let e = counts ps in omega (arith, e)
 counts (parameter.Place shape ∷ ps) = let e = counts ps in omega (arith, e)
 counts (parameter.Open shape ∷ ps) = let e = counts ps in omega (arith, e)
+counts (parameter.Extended shape ∷ ps) = let e = counts ps in omega (arith, e)
 
 pub there_is : {A : Type 0} (o : Option A) → is_some o ≡ is_there o
 there_is None = refl

@@ -17,7 +17,7 @@ use Rattle.ob_table.proofs.Tables.{array_size, array_before}
 
 extent_from : (a : ℕ) (r : Value) (x : ℕ) → extent_in a (row_sizes r) x ≡ record { from = a + before r x; cells = size (item r x) }
 extent_from a (Cell z) x = ap (λ k. record { from = k; cells = 0 }) (omega arith)
-extent_from a (Named p) x = ap (λ k. record { from = k; cells = 0 }) (omega arith)
+extent_from a (Named p u) x = ap (λ k. record { from = k; cells = 0 }) (omega arith)
 extent_from a (Open p n) x = ap (λ k. record { from = k; cells = 0 }) (omega arith)
 extent_from a Nothing x = ap (λ k. record { from = k; cells = 0 }) (omega arith)
 extent_from a (Beside v rest) zero = ap (λ k. record { from = k; cells = size v }) (omega arith)

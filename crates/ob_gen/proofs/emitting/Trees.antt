@@ -1,5 +1,5 @@
 -- The code of a tree, by its parts and its lists.
-use Rattle.std.proofs.Common.{◌≡◌, ℕ, ◌+◌, List, [], ◌∷◌, ◌++◌, refl, sym, ap, ◌∙◌, Option}
+use Rattle.std.proofs.Common.{◌≡◌, ℕ, ◌+◌, List, [], ◌∷◌, ◌++◌, refl, sym, ap, ◌∙◌, Option, Some}
 use Rattle.ob_mean.specs.declared.operator.UnaryOperator.{UnaryOperator}
 use Rattle.ob_mean.specs.declared.expression.TypedExpr.{TypedExpr, Row_of-TypedExpr, end_of-TypedExpr, more_of-TypedExpr}
 use Rattle.ob_mean.specs.declared.expression.TypedExpr.TheVariants.{Unary, Chain, Chain', Every, Every', Either, Either', Function, Function'}
@@ -10,12 +10,15 @@ use Rattle.ob_mean.specs.declared.expression.Argument.{Argument}
 use Rattle.ob_mean.specs.declared.expression.Callee.{Callee}
 use Rattle.ob_mean.specs.declared.expression.Argument.TheBlock.{Row_of-Argument, end_of-Argument, more_of-Argument, items-the_row-Argument, Row_of-Operation, end_of-Operation, more_of-Operation, items-the_row-TypedExpr, items-the_row-Operation, items_hidden-the_row-Operation-2, items_hidden-the_row-TypedExpr-3, items_hidden-the_row-Argument-4}
 use Rattle.ob_mean.specs.Values.{before, size}
-use Rattle.ob_mean.specs.WellFormed.{Object, Names, object_of, shape_object, elements_in, field_in}
+use Rattle.ob_mean.specs.declared.kind.RecordKind.{RecordKind}
+use Rattle.ob_mean.specs.declared.outcome.TrapKind.TheVariants as trap
+use Rattle.ob_mean.specs.RecordTypes.{TypeNames}
+use Rattle.ob_mean.specs.WellFormed.{Object, Of, Names, object_of, shape_object, elements_in, field_in}
 use Rattle.ob_code.specs.declared.instr.Instr.TheVariants as instr
 use Rattle.ob_code.specs.declared.instr.Line.{Line}
 use Rattle.ob_code.specs.declared.instr.Length.{Length}
 use Rattle.ob_code.specs.declared.instr.Root.{Root}
-use Rattle.ob_gen.specs.Code.{line, and_code, or_code, expr_code, read_code, offset_code, operations_code, every_code, either_code, argument_code, arguments_code, passed_code, value_one, name_one, row_values, row_names, list_values, list_names, root_in, length_of, length_in, element_cells, zero_in, zero_element}
+use Rattle.ob_gen.specs.Code.{line, and_code, or_code, expr_code, read_code, offset_code, operations_code, every_code, either_code, argument_code, arguments_code, passed_code, value_one, name_one, row_values, row_names, list_values, list_names, root_in, name_in, name_number, length_of, length_in, element_cells, zero_in, zero_element}
 use Rattle.ob_gen.specs.Emitted.{operations_list, every_list, either_list}
 use Rattle.ob_gen.proofs.emitting.Lists.{one_more, two_more}
 
@@ -101,6 +104,22 @@ pub field_root : (names : Names) (d : Designator) (i : ℕ) → root_in names (d
 unfolding Rattle.ob_mean.specs.declared.expression.Argument.TheBlock.hidden-the_row-Designator-0 denote.Hole.Carrier.hidden
 field_root names d i = refl
 
+pub guarded_root : (names : Names) (d : Designator) (l : ℕ) (kind : RecordKind) (levels : ℕ) → root_in names (designator.Guarded d l kind levels) ≡ root_in names d
+unfolding Rattle.ob_mean.specs.declared.expression.Argument.TheBlock.hidden-the_row-Designator-0 denote.Hole.Carrier.hidden
+guarded_root names d l kind levels = refl
+
+pub guarded_offset : (names : Names) (h k : ℕ) (d : Designator) (l : ℕ) (kind : RecordKind) (levels : ℕ) → offset_code names h k (designator.Guarded d l kind levels) ≡ offset_code names h k d ++ line (h + 1) k (instr.Guard (name_in names d) kind.names trap.Guard l) ∷ []
+unfolding Rattle.ob_mean.specs.declared.expression.Argument.TheBlock.hidden-the_row-Designator-0 denote.Hole.Carrier.hidden
+guarded_offset names h k d l kind levels = refl
+
+pub guarded_object : (names : Names) (d : Designator) (l : ℕ) (kind : RecordKind) (levels : ℕ) → object_of names (designator.Guarded d l kind levels) ≡ Some (Of kind.shape)
+unfolding Rattle.ob_mean.specs.declared.expression.Argument.TheBlock.hidden-the_row-Designator-0 denote.Hole.Carrier.hidden
+guarded_object names d l kind levels = refl
+
+pub guarded_read : (names : Names) (h k : ℕ) (d : Designator) (l : ℕ) (kind : RecordKind) (levels : ℕ) (off : List Line) → read_code names h k (designator.Guarded d l kind levels) off ≡ off ++ line (h + 1) k (instr.LoadAt (root_in names (designator.Guarded d l kind levels))) ∷ []
+unfolding Rattle.ob_mean.specs.declared.expression.Argument.TheBlock.hidden-the_row-Designator-0 denote.Hole.Carrier.hidden
+guarded_read names h k d l kind levels off = refl
+
 pub element_object : (names : Names) (d : Designator) (l : ℕ) (e : TypedExpr) → object_of names (designator.Element d l e) ≡ shape_object (elements_in (object_of names d))
 unfolding Rattle.ob_mean.specs.declared.expression.Argument.TheBlock.hidden-the_row-Designator-0 denote.Hole.Carrier.hidden
 element_object names d l e = refl
@@ -136,3 +155,11 @@ field_emitted names h k base c1 c2 d d' i m o e1 e2 eo em ed =
     ∙ ap (λ x. base ++ (offset_code names h k d' ++ line (h + 1) k (instr.AddOffset x) ∷ [])) (em ∙ ap (λ x. before (zero_in x) i) eo)
     ∙ ap (λ x. base ++ (offset_code names h k x ++ line (h + 1) k (instr.AddOffset (before (zero_in (object_of names x)) i)) ∷ [])) ed
     ∙ ap (λ x. base ++ x) (sym (field_offset names h k d i))
+
+pub guarded_emitted : (names : Names) (h k : ℕ) (base c1 c2 : List Line) (d d' : Designator) (l : ℕ) (kind : RecordKind) (levels number : ℕ) (types : TypeNames) (r : Root) → c1 ≡ base ++ offset_code names h k d' → c2 ≡ c1 ++ line (h + 1) k (instr.Guard number types trap.Guard l) ∷ [] → r ≡ root_in names d' → number ≡ name_number r → types ≡ kind.names → d' ≡ d → c2 ≡ base ++ offset_code names h k (designator.Guarded d l kind levels)
+guarded_emitted names h k base c1 c2 d d' l kind levels number types r e1 e2 er en et ed =
+    e2 ∙ one_more base (offset_code names h k d') c1 (line (h + 1) k (instr.Guard number types trap.Guard l)) e1
+    ∙ ap (λ x. base ++ (offset_code names h k d' ++ line (h + 1) k (instr.Guard x types trap.Guard l) ∷ [])) (en ∙ ap name_number er)
+    ∙ ap (λ x. base ++ (offset_code names h k d' ++ line (h + 1) k (instr.Guard (name_in names d') x trap.Guard l) ∷ [])) et
+    ∙ ap (λ x. base ++ (offset_code names h k x ++ line (h + 1) k (instr.Guard (name_in names x) kind.names trap.Guard l) ∷ [])) ed
+    ∙ ap (λ x. base ++ x) (sym (guarded_offset names h k d l kind levels))

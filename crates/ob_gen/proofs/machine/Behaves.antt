@@ -13,6 +13,7 @@ use Rattle.ob_code.specs.declared.instr.Line.{Line}
 use Rattle.ob_code.specs.declared.instr.Procedure.{Procedure}
 use Rattle.ob_code.specs.Machine.{Code, picture, Going, procedure_in, lines_in as lines_of_procedure, body_number, start}
 use Rattle.ob_gen.specs.Code.{list_code}
+use Rattle.ob_gen.specs.TypesAgree.{Shapes}
 use Rattle.ob_gen.specs.Correct.{IsCodeOf, IsCodeOfProgram, MayBegin, BodyBehaves}
 use Rattle.ob_gen.proofs.machine.Reaches.{HasAt, has_all, here, lines_in, Reaches, AnyDone, moved}
 use Rattle.ob_gen.proofs.machine.Places.{FrameFits}
@@ -24,12 +25,12 @@ use Rattle.ob_gen.proofs.machine.Ends.{opening_fits, running, Comes_to, at_end, 
 use Rattle.ob_gen.proofs.machine.Linked.{body_compiled, names_at, OwnFits, frame_fits}
 use Rattle.ob_gen.proofs.machine.Calls.{calls_run}
 
-module _ (program : Program) (code : Code) (faces : ℕ → List Face) (runs : ℕ → Bool) (whole : IsCodeOfProgram program code faces runs) (home : ℕ) (ok : runs home ≡ true) where
+module _ (program : Program) (code : Code) (faces : ℕ → List Face) (shapes : Shapes) (runs : ℕ → Bool) (whole : IsCodeOfProgram program code faces shapes runs) (home : ℕ) (ok : runs home ≡ true) where
   abbrev s : Value
   s = shape (opening_store program)
 
   abbrev names : Names
-  names = names_at program code faces runs whole home ok [] []
+  names = names_at program code faces shapes runs whole home ok [] []
 
   tree : TypedModule
   tree = (whole home ok).m.tree
@@ -49,7 +50,7 @@ module _ (program : Program) (code : Code) (faces : ℕ → List Face) (runs : �
       let may = whole home ok in
       ap (λ x. lines_of_procedure (procedure_in x (body_number x))) may.found ∙ ap lines_of_procedure compiled.1 ∙ compiled.2.lines ∙ append-nil lines
 
-  own : (w : World) → OwnFits program code faces runs whole (running code home w) s names (scope w)
+  own : (w : World) → OwnFits program code faces shapes runs whole (running code home w) s names (scope w)
   own w = record {
     holds = λ x o e. absurd (none_own x o e);
     names_it = λ x o e. absurd (none_named x o e);
@@ -61,19 +62,19 @@ module _ (program : Program) (code : Code) (faces : ℕ → List Face) (runs : �
       none_named : (x : ℕ) (o : Object) → named_object (slice_get [] x) ≡ Some o → ⊥
       none_named x o e = let n : None ≡ Some o = e in cc
 
-  frame : (w : World) → FrameFits code (running code home w) s names (scope w)
-  frame w = frame_fits program code faces runs whole (running code home w) s [] [] max_depth (count w.store) ok (opening_fits program) (own w)
+  frame : (w : World) → FrameFits code shapes (running code home w) s names (scope w)
+  frame w = frame_fits program code faces shapes runs whole (running code home w) s [] [] max_depth (count w.store) ok (opening_fits program) (own w)
 
-  calls : (w : World) → CallsRun code (running code home w) s names (scope w)
-  calls w = calls_run program code faces runs whole max_depth (running code home w) s [] [] (count w.store) ok (opening_fits program) (omega arith)
+  calls : (w : World) → CallsRun code shapes (running code home w) s names (scope w)
+  calls w = calls_run program code faces shapes runs whole max_depth (running code home w) s [] [] (count w.store) ok (opening_fits program) (omega arith)
 
   body_runs : (n : Supply) (w : World) → MayBegin program w → Reaches code n.turns s AnyDone (Going n (start code home (picture w))) (λ d n' w'. here (running code home w) (length lines) [] [] n' w') (list_meaning (scope w) (whole home ok).m.tree.body n w)
   body_runs n w begins =
       let r = running code home w in
       let e : 0 + length lines ≡ length lines = omega arith in
       moved code n.turns s _ _ AnyDone (λ x d n' w'. here r x [] [] n' w') (here r 0 [] [] n w) (list_meaning (scope w) (whole home ok).m.tree.body n w) e
-      (list_runs code r s names (scope w) (expr_runs code r s names (scope w) (frame w) (calls w)) (action_runs code r s names (scope w) (frame w) (calls w)) (variables_hold code r s names (scope w) (frame w)) refl
-      (whole home ok).m.tree.body 0 n n.turns w (whole home ok).linked.formed.body (record { less = omega arith; fits = begins }) (subst (λ l. HasAt l 0 lines) (sym (lines_is w)) (has_all lines [])))
+      (list_runs code shapes r s names (scope w) (expr_runs code shapes r s names (scope w) (frame w) (calls w)) (action_runs code shapes r s names (scope w) (frame w) (calls w)) (variables_hold code shapes r s names (scope w) (frame w)) refl
+      (whole home ok).m.tree.body 0 n n.turns w (whole home ok).linked.formed.body (whole home ok).types.1 (record { less = omega arith; fits = begins }) (subst (λ l. HasAt l 0 lines) (sym (lines_is w)) (has_all lines [])))
 
   there : (n : Supply) (w : World) → MayBegin program w → Comes_to program code (start code home (picture w)) n (body_meaning program home n w)
   unfolding body_meaning

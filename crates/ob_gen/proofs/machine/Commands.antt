@@ -11,6 +11,7 @@ use Rattle.ob_mean.specs.Values.{Value, Nothing, count, shape}
 use Rattle.ob_mean.specs.Runs.{World, Supply, Goes, done, turn}
 use Rattle.ob_mean.specs.Programs.{Program, Command, opening_store, scope_at, procedure_in, procedure_meaning, found_meaning, call_at, in_turn, commands_meaning, max_depth}
 use Rattle.ob_code.specs.Machine.{Code, picture, procedure_in as code_procedure_in, lines_in as lines_of_procedure, body_number, start}
+use Rattle.ob_gen.specs.TypesAgree.{Shapes}
 use Rattle.ob_gen.specs.Correct.{IsCodeOfProgram, MayBegin}
 use Rattle.ob_gen.specs.Commands.{commands_code, LeadsTo, AllLead, IsCodeOfCommands, CommandsBehave}
 use Rattle.ob_code.proofs.machine.Runs.{stays}
@@ -29,13 +30,13 @@ call_is : (program : Program) (more home p : ℕ) (tree : TypedProcedure) (n : S
 unfolding call_at
 call_is program more home p tree n w e = ap (λ o. turn kind.ProcedureCall n w (λ n1. found_meaning (scope_at program more home (count w.store)) o Nothing n1 w)) e
 
-module _ (program : Program) (code : Code) (faces : ℕ → List Face) (runs : ℕ → Bool) (whole : IsCodeOfProgram program code faces runs) (home : ℕ) where
+module _ (program : Program) (code : Code) (faces : ℕ → List Face) (shapes : Shapes) (runs : ℕ → Bool) (whole : IsCodeOfProgram program code faces shapes runs) (home : ℕ) where
   abbrev s : Value
   s = shape (opening_store program)
 
   -- the call of a command in the module of commands
   record CommandAt (f : Callee) (c : Command) : Type 0 where
-    pub at : CodeAt program code faces runs whole home f plain
+    pub at : CodeAt program code faces shapes runs whole home f plain
     pub home_is : c.home ≡ at.there
     pub tree_is : procedure_in (slice_get program c.home) c.procedure ≡ Some at.tree
 
@@ -44,7 +45,7 @@ module _ (program : Program) (code : Code) (faces : ℕ → List Face) (runs : �
       let may = whole c.home l.may_run in
       let h = heading_found (procedure_in (slice_get program c.home) c.procedure) plain l.plain in
       let tree_is : slice_get may.m.tree.procedures c.procedure ≡ Some h.0 = ap (λ x. procedure_in x c.procedure) (sym may.loaded) ∙ h.1 in
-      record { at = code_at program code faces runs whole home c.home c.procedure l.may_run f plain h.0 l.target l.number tree_is h.2; home_is = refl; tree_is = h.1 }
+      record { at = code_at program code faces shapes runs whole home c.home c.procedure l.may_run f plain h.0 l.target l.number tree_is h.2; home_is = refl; tree_is = h.1 }
 
   command_runs : (f : Callee) (c : Command) (pc : ℕ) (w0 : World) (n : Supply) (most : ℕ) (w : World) → LeadsTo program code runs home f c → Good most s n w → HasAt (lines_in code (running code home w0)) pc (commands_code (f ∷ [])) → Reaches code most s (SoMany 0) (here (running code home w0) pc [] [] n w) (λ vs n' w'. here (running code home w0) (pc + 1) (vs ++ []) [] n' w') (call_at program max_depth c.home (callee.OfModule c.procedure) Nothing 0 n w)
   command_runs f c pc w0 n most w l good has =
@@ -53,9 +54,9 @@ module _ (program : Program) (code : Code) (faces : ℕ → List Face) (runs : �
       let to : List ℤ → Supply → World → _ = λ vs n' w'. here r (pc + 1) (vs ++ []) [] n' w' in
       let more : ℕ = 999 in
       let deep : suc more ≡ max_depth = omega arith in
-      let args : PassedFit s x.at.tree.parameters Nothing = subst (λ (y : Heading). PassedFit s y.parameters Nothing) (sym x.at.heading) refl in
-      let done = called_runs program code faces runs whole r s more (opening_fits program) f plain x.at 0 0 0 pc Nothing [] [] n.turns n.lines most w refl good args has.0
-      (λ r1 s1 ps1 ts1 frame1 ok1 fit1 len. calls_run program code faces runs whole more r1 s1 ps1 ts1 frame1 ok1 fit1 (omega (arith, len))) in
+      let args : PassedFit code shapes s [] x.at.tree.parameters Nothing = subst (λ (y : Heading). PassedFit code shapes s [] y.parameters Nothing) (sym x.at.heading) refl in
+      let done = called_runs program code faces shapes runs whole r s more (opening_fits program) f plain x.at 0 0 0 pc [] Nothing [] [] n.turns n.lines most w refl good args has.0
+      (λ r1 s1 ps1 ts1 frame1 ok1 fit1 len. calls_run program code faces shapes runs whole more r1 s1 ps1 ts1 frame1 ok1 fit1 (omega (arith, len))) in
       subst (λ d. Reaches code most s (SoMany 0) (here r pc [] [] n w) to (call_at program d c.home (callee.OfModule c.procedure) Nothing 0 n w)) deep
       (subst (Reaches code most s (SoMany 0) (here r pc [] [] n w) to) (sym (call_is program more c.home c.procedure x.at.tree n w x.tree_is))
       (subst (λ y. Reaches code most s (SoMany 0) (here r pc [] [] n w) to (turn kind.ProcedureCall n w (λ n1. procedure_meaning (scope_at program more y (count w.store)) x.at.tree Nothing n1 w))) (sym x.home_is) done))

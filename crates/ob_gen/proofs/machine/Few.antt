@@ -26,6 +26,7 @@ own_few [] ts x h = shapes_few ts x h
 own_few (parameter.Value ∷ ps) ts zero h = omega arith
 own_few (parameter.Place t ∷ ps) ts zero h = omega arith
 own_few (parameter.Open t ∷ ps) ts zero h = omega arith
+own_few (parameter.Extended t ∷ ps) ts zero h = omega arith
 own_few (p ∷ ps) ts (suc x) h = own_few ps ts x h
 
 -- of an import, where there is one

@@ -1,5 +1,5 @@
 -- The code of a well-formed tree is valid.
-use Rattle.std.proofs.Common.{◌≡◌, ℕ, zero, suc, ◌+◌, ◌-◌, ◌<◌, ◌≤◌, pos, List, [], ◌∷◌, ◌++◌, length, Option, Some, None, refl, sym, ap, ◌∙◌, subst, arith}
+use Rattle.std.proofs.Common.{◌≡◌, ℕ, zero, suc, ◌+◌, ◌-◌, ◌<◌, ◌≤◌, pos, List, [], ◌∷◌, ◌++◌, length, Option, Some, None, true, refl, sym, ap, ◌∙◌, subst, arith}
 use Rattle.std.specs.Prelude.{slice_get, option_map}
 use Rattle.std.proofs.lemmas.Option.{slice_get-map}
 use Rattle.ob_mean.specs.declared.expression.Variable.{Variable}
@@ -34,9 +34,10 @@ use Rattle.ob_mean.specs.declared.statement.ForHead.{ForHead}
 use Rattle.ob_mean.specs.declared.statement.TypedStatement.{TypedStatement, Row_of-TypedStatement, end_of-TypedStatement, more_of-TypedStatement}
 use Rattle.ob_mean.specs.declared.statement.TypedStatement.TheBlock.{Row_of-Branch, end_of-Branch, more_of-Branch, Row_of-CaseArm, end_of-CaseArm, more_of-CaseArm}
 use Rattle.ob_mean.specs.declared.statement.TypedStatement.TheVariants.{Simple, If', Case', While', Repeat', For'}
+use Rattle.ob_mean.specs.declared.outcome.TrapKind.TheVariants as trap
 use Rattle.ob_mean.specs.Values.{size}
 use Rattle.ob_mean.specs.Shapes.{zeros, opening_row}
-use Rattle.ob_mean.specs.WellFormed.{face_object, Object, Of, OpenOf, Names, is_there, object_of, variable_object, named_object, elements_in, called, heading_of, face_heading, IsBasic, IsText, ExprFits, ExprsFit, OperationsFit, IndexesFit, IsPassed, RowPassed, ListPassed, IsRead, InputFits, OutputFits, ActionFits, HeadFits, StatFits, StatsFit, BranchesFit, ArmsFit, ListFits, ResultFits, names_in, names_of, ProceduresFit, AllBelow, IsWellFormed}
+use Rattle.ob_mean.specs.WellFormed.{face_object, Object, Of, OpenOf, Names, is_there, object_of, variable_object, named_object, is_told, elements_in, called, heading_of, face_heading, IsBasic, IsText, ExprFits, ExprsFit, OperationsFit, IndexesFit, IsPassed, RowPassed, ListPassed, IsRead, InputFits, OutputFits, ActionFits, HeadFits, StatFits, StatsFit, BranchesFit, ArmsFit, ListFits, ResultFits, names_in, names_of, ProceduresFit, AllBelow, IsWellFormed}
 use Rattle.ob_code.specs.declared.instr.Instr.{Instr}
 use Rattle.ob_code.specs.declared.instr.Instr.TheVariants as instr
 use Rattle.ob_code.specs.declared.instr.Line.{Line}
@@ -46,11 +47,12 @@ use Rattle.ob_code.specs.declared.instr.Procedure.{Procedure}
 use Rattle.ob_code.specs.declared.instr.CodeModule.{CodeModule}
 use Rattle.ob_code.specs.Valid.{height, results, asks, RootFits, LengthFits, SpanFits, TargetFits, own_entry, known_entry, entry_of, Calls, Fits, ProcedureFits, IsBody, IsValid}
 use Rattle.ob_code.proofs.machine.Laid.{entry_same}
-use Rattle.ob_gen.specs.Code.{line, parameter_row, own_row, face_row, named_one, named_before, root_of, root_in, name_number, length_in, length_of, span_of, element_cells, and_code, or_code, value_one, name_one, row_values, row_names, read_code, expr_code, offset_code, operations_code, every_code, either_code, argument_code, arguments_code, list_values, list_names, passed_code, target_of, input_code, output_code, assign_code, action_code, Guarded, loop_code, for_relation, for_guard, for_step, for_code, stat_code, stats_code, branches, arms_code, list_code, result_code, procedure_code}
+use Rattle.ob_gen.specs.Code.{line, name_in, parameter_row, own_row, face_row, named_one, named_before, root_of, root_in, name_number, length_in, length_of, span_of, element_cells, and_code, or_code, value_one, name_one, row_values, row_names, read_code, expr_code, offset_code, operations_code, every_code, either_code, argument_code, arguments_code, list_values, list_names, passed_code, target_of, input_code, output_code, assign_code, action_code, Guarded, loop_code, for_relation, for_guard, for_step, for_code, stat_code, stats_code, branches, arms_code, list_code, result_code, procedure_code}
 use Rattle.ob_gen.specs.Correct.{named_count, name_kinds, parameter_count, IsCodeOf, AreCompiled}
 use Rattle.ob_gen.specs.Generated.{valued_count, heading_entry, IsOfFace, AreOfFaces, most_operands, most_names, HasRoom, AllHaveRoom, IsGenerated}
 use Rattle.ob_gen.proofs.machine.Store.{IsRow, size-append, before-within}
-use Rattle.ob_gen.proofs.machine.Places.{some_same, shape_some, elements_some, field_some, open_named}
+use Rattle.ob_gen.proofs.machine.Places.{shape_some, elements_some, open_named, told_object, told_root}
+use Rattle.ob_gen.proofs.machine.Records.{some_same, field_some}
 use Rattle.ob_gen.proofs.machine.Linked.{heading_found, compiled_at, body_compiled}
 use Rattle.ob_gen.proofs.machine.Flows.{none, one, at, height_here, Flows, flows_none, flows_join, flows_to, flows_one, flows_then, becomes, flows_choice, AllFlow, first_flows, loop_flows, repeat_flows, arm_flows, whole_fits}
 
@@ -62,6 +64,7 @@ named_below [] x o e = absurd (let n : None ≡ Some o = e in cc)
 named_below (parameter.Value ∷ ps) zero o e = absurd (let n : None ≡ Some o = e in cc)
 named_below (parameter.Place t ∷ ps) zero o e = omega arith
 named_below (parameter.Open t ∷ ps) zero o e = omega arith
+named_below (parameter.Extended t ∷ ps) zero o e = omega arith
 named_below (p ∷ ps) (suc x) o e = let h = named_below ps x o e in omega (arith, h)
 
 one_of_each : (names : Names) (a : Argument) (p : Parameter) → IsPassed names a p → (value_one a + name_one a ≡ 1) × (name_one a ≡ named_one p)
@@ -74,6 +77,17 @@ one_of_each names (argument.Place d) parameter.Value h = absurd h
 one_of_each names (argument.Place d) (parameter.Open t) h = absurd h
 one_of_each names (argument.Open d) parameter.Value h = absurd h
 one_of_each names (argument.Open d) (parameter.Place t) h = absurd h
+one_of_each names (argument.Typed d kind levels) (parameter.Extended t) h = (refl, refl)
+one_of_each names (argument.Again d levels) (parameter.Extended t) h = (refl, refl)
+one_of_each names (argument.Value e) (parameter.Extended t) h = absurd h
+one_of_each names (argument.Place d) (parameter.Extended t) h = absurd h
+one_of_each names (argument.Open d) (parameter.Extended t) h = absurd h
+one_of_each names (argument.Typed d kind levels) parameter.Value h = absurd h
+one_of_each names (argument.Typed d kind levels) (parameter.Place t) h = absurd h
+one_of_each names (argument.Typed d kind levels) (parameter.Open t) h = absurd h
+one_of_each names (argument.Again d levels) parameter.Value h = absurd h
+one_of_each names (argument.Again d levels) (parameter.Place t) h = absurd h
+one_of_each names (argument.Again d levels) (parameter.Open t) h = absurd h
 
 -- so many values and names are passed
 pub row_counts : (names : Names) {k : _} (row : Row_of-Argument k) (ps : List Parameter) → RowPassed names row ps → (row_names row ≡ named_count ps) × (row_values row + row_names row ≡ parameter_count ps)
@@ -99,6 +113,7 @@ valued [] = refl
 valued (parameter.Value ∷ ps) = let h = valued ps in omega (arith, h)
 valued (parameter.Place t ∷ ps) = let h = valued ps in omega (arith, h)
 valued (parameter.Open t ∷ ps) = let h = valued ps in omega (arith, h)
+valued (parameter.Extended t ∷ ps) = let h = valued ps in omega (arith, h)
 
 -- the values have cells
 pub parameters_row : (ps : List Parameter) → IsRow (parameter_row ps)
@@ -110,6 +125,7 @@ parameters_size [] = refl
 parameters_size (parameter.Value ∷ ps) = let h = parameters_size ps in omega (arith, h)
 parameters_size (parameter.Place t ∷ ps) = let h = parameters_size ps in omega (arith, h)
 parameters_size (parameter.Open t ∷ ps) = let h = parameters_size ps in omega (arith, h)
+parameters_size (parameter.Extended t ∷ ps) = let h = parameters_size ps in omega (arith, h)
 
 -- ---- room
 
@@ -176,25 +192,34 @@ module _ (names : Names) (m : CodeModule) (f : Procedure) (known : IsNamed names
   root_there (variable.OfProcedure x) o e = let w = before-within (own_row names) x in omega (arith, w, known.own)
   root_there (variable.ByParameter x) o e = let h = named_below names.parameters x o e in omega (arith, h, known.parameters)
 
-  root_fits : (d : Designator) (o : Object) → object_of names d ≡ Some o → RootFits m f (root_in names d)
-  root_fits (designator.Whole v) o e = root_there v o e
-  root_fits (designator.Element' g (more_of-Designator d end_of-Designator) l h row) o e =
+  root_fits : (d : Designator) (o : Object) → IndexesFit names d → object_of names d ≡ Some o → RootFits m f (root_in names d)
+  root_fits (designator.Whole v) o ty e = root_there v o e
+  root_fits (designator.Element' g (more_of-Designator d end_of-Designator) l h (more_of-TypedExpr i end_of-TypedExpr)) o ty e =
       let t = shape_some (elements_in (object_of names d)) o e in
       let u = elements_some (object_of names d) t.0 t.1 in
-      root_fits d u.0 u.1
-  root_fits (designator.Field' h (more_of-Designator d end_of-Designator) i) o e =
+      root_fits d u.0 ty.0 u.1
+  root_fits (designator.Field' h (more_of-Designator d end_of-Designator) i) o ty e =
       let t = field_some (object_of names d) i o e in
-      root_fits d (Of t.0) t.1
+      root_fits d (Of t.0) ty t.1
+  root_fits (designator.Guarded' h (more_of-Designator d end_of-Designator) l kind levels) o ty e =
+      let t = told_object names d ty.1 in
+      root_fits d (Of t.0) ty.0 t.1
 
-  length_fits : (d : Designator) (o : Object) → object_of names d ≡ Some o → LengthFits f (length_of names d)
-  length_fits d (Of t) e = subst (λ o. LengthFits f (length_in o (root_in names d))) (sym e) tt
-  length_fits d (OpenOf t) e =
+  -- the name that tells a type is one of a parameter
+  name_there : (d : Designator) → IndexesFit names d → is_told names d ≡ true → name_in names d < f.entry.names
+  name_there d ty t =
+      let o = told_object names d t in
+      subst (RootFits m f) (told_root names d t) (root_fits d (Of o.0) ty o.1)
+
+  length_fits : (d : Designator) (o : Object) → IndexesFit names d → object_of names d ≡ Some o → LengthFits f (length_of names d)
+  length_fits d (Of t) ty e = subst (λ o. LengthFits f (length_in o (root_in names d))) (sym e) tt
+  length_fits d (OpenOf t) ty e =
       let x = open_named names d t e in
       subst (λ o. LengthFits f (length_in o (root_in names d))) (sym e)
-      (subst (λ r. name_number r < f.entry.names) (sym x.1) (subst (RootFits m f) x.1 (root_fits d (OpenOf t) e)))
+      (subst (λ r. name_number r < f.entry.names) (sym x.1) (subst (RootFits m f) x.1 (root_fits d (OpenOf t) ty e)))
 
-  span_fits : (d : Designator) (o : Object) → object_of names d ≡ Some o → SpanFits m f (span_of names d)
-  span_fits d o e = (root_fits d o e, length_fits d o e)
+  span_fits : (d : Designator) (o : Object) → IndexesFit names d → object_of names d ≡ Some o → SpanFits m f (span_of names d)
+  span_fits d o ty e = (root_fits d o ty e, length_fits d o ty e)
 
   text_object : (d : Designator) → IsText (object_of names d) → (o : Object) × (object_of names d ≡ Some o)
   text_object d e = elements_some (object_of names d) Basic e
@@ -258,17 +283,19 @@ module _ (names : Names) (m : CodeModule) (f : Procedure) (known : IsNamed names
       flows_join m f lines c (line (h + 1) k i ∷ []) (height h k) (height (h + 1) k) (height (h + 0) (k + 1)) fc
       (flows_one m f lines (line (h + 1) k i) (height (h + 1) k) (height (h + 0) (k + 1)) refl (λ pc e behind. fit pc (omega arith) (low_names f pc (line (h + 1) k i) known.rooms e) (becomes m f lines (pc + 1) (h + 0) (h + 1 - 1) (k + 1) down behind)))
 
-  read_leads : (h k : ℕ) (d : Designator) (offset : List Line) → IsBasic (object_of names d) → Leads offset (height h k) (height (h + 1) k) → Leads (read_code names h k d offset) (height h k) (height (h + 1) k)
-  read_leads h k (designator.Whole v) offset basic fo = push_leads (instr.Load (root_of names v)) h k (λ pc low behind. (root_there v (Of Basic) basic, low, behind))
-  read_leads h k (designator.Element' g (more_of-Designator d end_of-Designator) l i row) offset basic fo =
-      same_leads offset (instr.LoadAt (root_in names d)) h k fo (λ pc le behind. (root_fits (designator.Element' g (more_of-Designator d end_of-Designator) l i row) (Of Basic) basic, le, behind))
-  read_leads h k (designator.Field' g (more_of-Designator d end_of-Designator) i) offset basic fo =
-      same_leads offset (instr.LoadAt (root_in names d)) h k fo (λ pc le behind. (root_fits (designator.Field' g (more_of-Designator d end_of-Designator) i) (Of Basic) basic, le, behind))
+  read_leads : (h k : ℕ) (d : Designator) (offset : List Line) → IndexesFit names d → IsBasic (object_of names d) → Leads offset (height h k) (height (h + 1) k) → Leads (read_code names h k d offset) (height h k) (height (h + 1) k)
+  read_leads h k (designator.Whole v) offset ty basic fo = push_leads (instr.Load (root_of names v)) h k (λ pc low behind. (root_there v (Of Basic) basic, low, behind))
+  read_leads h k (designator.Element' g (more_of-Designator d end_of-Designator) l i row) offset ty basic fo =
+      same_leads offset (instr.LoadAt (root_in names d)) h k fo (λ pc le behind. (root_fits (designator.Element' g (more_of-Designator d end_of-Designator) l i row) (Of Basic) ty basic, le, behind))
+  read_leads h k (designator.Field' g (more_of-Designator d end_of-Designator) i) offset ty basic fo =
+      same_leads offset (instr.LoadAt (root_in names d)) h k fo (λ pc le behind. (root_fits (designator.Field' g (more_of-Designator d end_of-Designator) i) (Of Basic) ty basic, le, behind))
+  read_leads h k (designator.Guarded' g (more_of-Designator d end_of-Designator) l kind levels) offset ty basic fo =
+      same_leads offset (instr.LoadAt (root_in names d)) h k fo (λ pc le behind. (root_fits (designator.Guarded' g (more_of-Designator d end_of-Designator) l kind levels) (Of Basic) ty basic, le, behind))
 
   mutual
     expr_leads : (e : TypedExpr) (h k : ℕ) → ExprFits names e → Leads (expr_code names h k e) (height h k) (height (h + 1) k)
     expr_leads (expr.Constant v) h k fit = push_leads (instr.Push v) h k (λ pc low behind. (low, behind))
-    expr_leads (expr.Read d) h k fit = read_leads h k d (offset_code names h k d) fit.1 (offset_leads d h k fit.0 (Of Basic) fit.1)
+    expr_leads (expr.Read d) h k fit = read_leads h k d (offset_code names h k d) fit.0 fit.1 (offset_leads d h k fit.0 (Of Basic) fit.1)
     expr_leads expr.InputDone h k fit = push_leads instr.PushDone h k (λ pc low behind. (low, behind))
     expr_leads (expr.Unary' op l g (more_of-TypedExpr a end_of-TypedExpr)) h k fit = same_leads (expr_code names h k a) (instr.Unary op l) h k (expr_leads a h k fit) (λ pc le behind. (le, behind))
     expr_leads (expr.Chain' g (more_of-TypedExpr a end_of-TypedExpr) n steps) h k fit =
@@ -279,10 +306,10 @@ module _ (names : Names) (m : CodeModule) (f : Procedure) (known : IsNamed names
         let x = text_object a fit.2 in
         let y = text_object b fit.3 in
         two_leads (offset_code names h k a) (offset_code names (h + 1) k b) (instr.RelateTexts relation (span_of names a) (span_of names b)) h k
-        (offset_leads a h k fit.0 x.0 x.1) (offset_leads b (h + 1) k fit.1 y.0 y.1) (λ pc le behind. (span_fits a x.0 x.1, span_fits b y.0 y.1, le, behind))
+        (offset_leads a h k fit.0 x.0 x.1) (offset_leads b (h + 1) k fit.1 y.0 y.1) (λ pc le behind. (span_fits a x.0 fit.0 x.1, span_fits b y.0 fit.1 y.1, le, behind))
     expr_leads (expr.Length d) h k fit =
         let x = elements_some (object_of names d) fit.1.0 fit.1.1 in
-        same_leads (offset_code names h k d) (instr.TakeLength (length_of names d)) h k (offset_leads d h k fit.0 x.0 x.1) (λ pc le behind. (length_fits d x.0 x.1, le, behind))
+        same_leads (offset_code names h k d) (instr.TakeLength (length_of names d)) h k (offset_leads d h k fit.0 x.0 x.1) (λ pc le behind. (length_fits d x.0 fit.0 x.1, le, behind))
     expr_leads (expr.Function' g l n args) h k fit =
         let counts = row_counts names args fit.0.parameters fit.3 in
         let one_more : results fit.0.is_function ≡ 1 = ap results fit.2 in
@@ -290,6 +317,9 @@ module _ (names : Names) (m : CodeModule) (f : Procedure) (known : IsNamed names
         flows_join m f lines (arguments_code names h k args) _ (height h k) (height (h + row_values args) (k + row_names args)) (height (h + 1) k) (arguments_leads args fit.0.parameters h k fit.3)
         (flows_one m f lines (line (h + row_values args) (k + row_names args) (instr.Invoke g l)) (height (h + row_values args) (k + row_names args)) (height (h + 1) k) refl (λ pc e behind.
         call_fits g fit.0 h k (row_values args) (row_names args) pc fit.1 counts.0 all (behind ∙ ap (λ n. Some (height (h + n) k)) (sym one_more))))
+    expr_leads (expr.Test d type) h k fit =
+        let o = told_object names d fit.1 in
+        same_leads (offset_code names h k d) (instr.Test (name_in names d) type) h k (offset_leads d h k fit.0 (Of o.0) o.1) (λ pc le behind. (name_there d fit.0 fit.1, le, behind))
 
     offset_leads : (d : Designator) (h k : ℕ) → IndexesFit names d → (o : Object) → object_of names d ≡ Some o → Leads (offset_code names h k d) (height h k) (height (h + 1) k)
     offset_leads (designator.Whole v) h k fit o e = value_leads 0 h k
@@ -297,10 +327,13 @@ module _ (names : Names) (m : CodeModule) (f : Procedure) (known : IsNamed names
         let t = shape_some (elements_in (object_of names d)) o e in
         let u = elements_some (object_of names d) t.0 t.1 in
         two_leads (offset_code names h k d) (expr_code names (h + 1) k index) (instr.Index (length_of names d) (element_cells names d) l) h k
-        (offset_leads d h k fit.0 u.0 u.1) (expr_leads index (h + 1) k fit.1) (λ pc le behind. (length_fits d u.0 u.1, le, behind))
+        (offset_leads d h k fit.0 u.0 u.1) (expr_leads index (h + 1) k fit.1) (λ pc le behind. (length_fits d u.0 fit.0 u.1, le, behind))
     offset_leads (designator.Field' g (more_of-Designator d end_of-Designator) i) h k fit o e =
         let t = field_some (object_of names d) i o e in
         same_leads (offset_code names h k d) _ h k (offset_leads d h k fit (Of t.0) t.1) (λ pc le behind. (le, behind))
+    offset_leads (designator.Guarded' g (more_of-Designator d end_of-Designator) l kind levels) h k fit o e =
+        let t = told_object names d fit.1 in
+        same_leads (offset_code names h k d) (instr.Guard (name_in names d) kind.names trap.Guard l) h k (offset_leads d h k fit.0 (Of t.0) t.1) (λ pc le behind. (name_there d fit.0 fit.1, le, behind))
 
     operations_leads : {n : _} (steps : Row_of-Operation n) (h k : ℕ) → OperationsFit names steps → Leads (operations_code names h k steps) (height (h + 1) k) (height (h + 1) k)
     operations_leads end_of-Operation h k fit = flows_none m f lines (height (h + 1) k)
@@ -324,16 +357,30 @@ module _ (names : Names) (m : CodeModule) (f : Procedure) (known : IsNamed names
         let none_more : k ≡ k + 0 = omega arith in
         flows_to m f lines (expr_code names h k e) (height h k) (height (h + 1) k) (height (h + 1) (k + 0)) (ap (λ n. height (h + 1) n) none_more) (expr_leads e h k fit)
     argument_leads (argument.Place d) (parameter.Place t) h k fit =
-        name_leads (offset_code names h k d) _ h k (offset_leads d h k fit.0 (Of t) fit.1) (λ pc le low behind. (root_fits d (Of t) fit.1, le, low, behind))
+        name_leads (offset_code names h k d) _ h k (offset_leads d h k fit.0 (Of t) fit.1) (λ pc le low behind. (root_fits d (Of t) fit.0 fit.1, le, low, behind))
     argument_leads (argument.Open d) (parameter.Open t) h k fit =
         let x = elements_some (object_of names d) t fit.1 in
-        name_leads (offset_code names h k d) _ h k (offset_leads d h k fit.0 x.0 x.1) (λ pc le low behind. (root_fits d x.0 x.1, length_fits d x.0 x.1, le, low, behind))
+        name_leads (offset_code names h k d) _ h k (offset_leads d h k fit.0 x.0 x.1) (λ pc le low behind. (root_fits d x.0 fit.0 x.1, length_fits d x.0 fit.0 x.1, le, low, behind))
     argument_leads (argument.Value e) (parameter.Place t) h k fit = absurd fit
     argument_leads (argument.Value e) (parameter.Open t) h k fit = absurd fit
     argument_leads (argument.Place d) parameter.Value h k fit = absurd fit
     argument_leads (argument.Place d) (parameter.Open t) h k fit = absurd fit
     argument_leads (argument.Open d) parameter.Value h k fit = absurd fit
     argument_leads (argument.Open d) (parameter.Place t) h k fit = absurd fit
+    argument_leads (argument.Typed d kind levels) (parameter.Extended t) h k fit =
+        name_leads (offset_code names h k d) _ h k (offset_leads d h k fit.0 (Of kind.shape) fit.3) (λ pc le low behind. (root_fits d (Of kind.shape) fit.0 fit.3, le, low, behind))
+    argument_leads (argument.Again d levels) (parameter.Extended t) h k fit =
+        let o = told_object names d fit.1 in
+        name_leads (offset_code names h k d) _ h k (offset_leads d h k fit.0 (Of o.0) o.1) (λ pc le low behind. (name_there d fit.0 fit.1, le, low, behind))
+    argument_leads (argument.Value e) (parameter.Extended t) h k fit = absurd fit
+    argument_leads (argument.Place d) (parameter.Extended t) h k fit = absurd fit
+    argument_leads (argument.Open d) (parameter.Extended t) h k fit = absurd fit
+    argument_leads (argument.Typed d kind levels) parameter.Value h k fit = absurd fit
+    argument_leads (argument.Typed d kind levels) (parameter.Place t) h k fit = absurd fit
+    argument_leads (argument.Typed d kind levels) (parameter.Open t) h k fit = absurd fit
+    argument_leads (argument.Again d levels) parameter.Value h k fit = absurd fit
+    argument_leads (argument.Again d levels) (parameter.Place t) h k fit = absurd fit
+    argument_leads (argument.Again d levels) (parameter.Open t) h k fit = absurd fit
 
     arguments_leads : {n : _} (row : Row_of-Argument n) (ps : List Parameter) (h k : ℕ) → RowPassed names row ps → Leads (arguments_code names h k row) (height h k) (height (h + row_values row) (k + row_names row))
     arguments_leads end_of-Argument [] h k fit =
@@ -384,16 +431,19 @@ module _ (names : Names) (m : CodeModule) (f : Procedure) (known : IsNamed names
   assign_leads (designator.Whole v) e indexes basic fit = uses_one (expr_code names 0 0 e) (instr.Store (root_of names v)) (expr_leads e 0 0 fit) (λ pc le behind. (root_there v (Of Basic) basic, le, behind))
   assign_leads (designator.Element' g d l i row) e indexes basic fit =
       uses_two (offset_code names 0 0 (designator.Element' g d l i row)) (expr_code names 1 0 e) _ (offset_leads (designator.Element' g d l i row) 0 0 indexes (Of Basic) basic) (expr_leads e 1 0 fit)
-      (λ pc le behind. (root_fits (designator.Element' g d l i row) (Of Basic) basic, le, behind))
+      (λ pc le behind. (root_fits (designator.Element' g d l i row) (Of Basic) indexes basic, le, behind))
   assign_leads (designator.Field' g d i) e indexes basic fit =
       uses_two (offset_code names 0 0 (designator.Field' g d i)) (expr_code names 1 0 e) _ (offset_leads (designator.Field' g d i) 0 0 indexes (Of Basic) basic) (expr_leads e 1 0 fit)
-      (λ pc le behind. (root_fits (designator.Field' g d i) (Of Basic) basic, le, behind))
+      (λ pc le behind. (root_fits (designator.Field' g d i) (Of Basic) indexes basic, le, behind))
+  assign_leads (designator.Guarded' g d l kind levels) e indexes basic fit =
+      uses_two (offset_code names 0 0 (designator.Guarded' g d l kind levels)) (expr_code names 1 0 e) _ (offset_leads (designator.Guarded' g d l kind levels) 0 0 indexes (Of Basic) basic) (expr_leads e 1 0 fit)
+      (λ pc le behind. (root_fits (designator.Guarded' g d l kind levels) (Of Basic) indexes basic, le, behind))
 
-  target_fits : (r : Reader) (d : Designator) → IsRead r (object_of names d) → (o : Object) × (object_of names d ≡ Some o) × TargetFits m f (target_of names r d)
-  target_fits reader.Char d e = (Of Basic, e, root_fits d (Of Basic) e)
-  target_fits reader.Int d e = (Of Basic, e, root_fits d (Of Basic) e)
-  target_fits reader.String d e = let x = text_object d e in (x.0, x.1, span_fits d x.0 x.1)
-  target_fits reader.Name d e = let x = text_object d e in (x.0, x.1, span_fits d x.0 x.1)
+  target_fits : (r : Reader) (d : Designator) → IndexesFit names d → IsRead r (object_of names d) → (o : Object) × (object_of names d ≡ Some o) × TargetFits m f (target_of names r d)
+  target_fits reader.Char d ty e = (Of Basic, e, root_fits d (Of Basic) ty e)
+  target_fits reader.Int d ty e = (Of Basic, e, root_fits d (Of Basic) ty e)
+  target_fits reader.String d ty e = let x = text_object d e in (x.0, x.1, span_fits d x.0 ty x.1)
+  target_fits reader.Name d ty e = let x = text_object d e in (x.0, x.1, span_fits d x.0 ty x.1)
 
   -- a reader, and where it asks for a line
   reading_leads : (r : Reader) (d : Designator) → TargetFits m f (target_of names r d) → Leads (line 1 0 instr.CallInput ∷ (line 1 0 (instr.Read (target_of names r d)) ∷ (line 1 0 instr.AskLine ∷ (line 1 0 instr.TakeLine ∷ [])))) one none
@@ -412,7 +462,7 @@ module _ (names : Names) (m : CodeModule) (f : Procedure) (known : IsNamed names
   input_leads : (call : InputCall) → InputFits names call → Leads (input_code names call) none none
   input_leads incoming.Open fit = step_leads instr.OpenInput (λ pc behind. behind)
   input_leads (incoming.Read r d) fit =
-      let t = target_fits r d fit.1 in
+      let t = target_fits r d fit.0 fit.1 in
       flows_join m f lines (offset_code names 0 0 d) _ none one none (offset_leads d 0 0 fit.0 t.0 t.1) (reading_leads r d t.2)
 
   output_leads : (call : OutputCall) → OutputFits names call → Leads (output_code names call) none none
@@ -420,7 +470,7 @@ module _ (names : Names) (m : CodeModule) (f : Procedure) (known : IsNamed names
   output_leads (outgoing.Char e) fit = uses_one (expr_code names 0 0 e) instr.PutChar (expr_leads e 0 0 fit) (λ pc le behind. (le, behind))
   output_leads (outgoing.String d) fit =
       let x = text_object d fit.1 in
-      uses_one (offset_code names 0 0 d) (instr.PutText (span_of names d)) (offset_leads d 0 0 fit.0 x.0 x.1) (λ pc le behind. (span_fits d x.0 x.1, le, behind))
+      uses_one (offset_code names 0 0 d) (instr.PutText (span_of names d)) (offset_leads d 0 0 fit.0 x.0 x.1) (λ pc le behind. (span_fits d x.0 fit.0 x.1, le, behind))
   output_leads (outgoing.Int e width) fit = uses_two (expr_code names 0 0 e) (expr_code names 1 0 width) instr.PutInt (expr_leads e 0 0 fit.0) (expr_leads width 1 0 fit.1) (λ pc le behind. (le, behind))
   output_leads outgoing.Ln fit = step_leads instr.PutLine (λ pc behind. behind)
 
@@ -428,12 +478,12 @@ module _ (names : Names) (m : CodeModule) (f : Procedure) (known : IsNamed names
   action_leads (action.Assign d e) fit = assign_leads d e fit.0 fit.1 fit.2
   action_leads (action.Copy d e) fit =
       uses_two (offset_code names 0 0 d) (offset_code names 1 0 e) _ (offset_leads d 0 0 fit.0 (Of fit.2.0) fit.2.1) (offset_leads e 1 0 fit.1 (Of fit.2.0) fit.2.2)
-      (λ pc le behind. (root_fits d (Of fit.2.0) fit.2.1, root_fits e (Of fit.2.0) fit.2.2, le, behind))
+      (λ pc le behind. (root_fits d (Of fit.2.0) fit.0 fit.2.1, root_fits e (Of fit.2.0) fit.1 fit.2.2, le, behind))
   action_leads (action.AssignText d l text) fit =
       let x = text_object d fit.1 in
-      uses_one (offset_code names 0 0 d) (instr.StoreText (span_of names d) text l) (offset_leads d 0 0 fit.0 x.0 x.1) (λ pc le behind. (span_fits d x.0 x.1, le, behind))
+      uses_one (offset_code names 0 0 d) (instr.StoreText (span_of names d) text l) (offset_leads d 0 0 fit.0 x.0 x.1) (λ pc le behind. (span_fits d x.0 fit.0 x.1, le, behind))
   action_leads (action.Adjust a d e) fit =
-      uses_two (offset_code names 0 0 d) (expr_code names 1 0 e) _ (offset_leads d 0 0 fit.0 (Of Basic) fit.1) (expr_leads e 1 0 fit.2) (λ pc le behind. (root_fits d (Of Basic) fit.1, le, behind))
+      uses_two (offset_code names 0 0 d) (expr_code names 1 0 e) _ (offset_leads d 0 0 fit.0 (Of Basic) fit.1) (expr_leads e 1 0 fit.2) (λ pc le behind. (root_fits d (Of Basic) fit.0 fit.1, le, behind))
   action_leads (action.Assert l e) fit = uses_one (expr_code names 0 0 e) (instr.Assert l) (expr_leads e 0 0 fit) (λ pc le behind. (le, behind))
   action_leads (action.Call g l args) fit =
       let counts = list_counts names args fit.0.parameters fit.3 in

@@ -1,5 +1,5 @@
 -- What stands where in the store: the modules' variables, and those of the running call.
-use Rattle.std.proofs.Common.{◌≡◌, ℕ, zero, suc, ◌+◌, ◌<◌, pos, List, [], ◌∷◌, ◌++◌, length, Some, None, refl, sym, ap, ◌∙◌, subst, arith, length-append}
+use Rattle.std.proofs.Common.{◌≡◌, ℕ, zero, suc, ◌+◌, ◌<◌, ◌≤◌, pos, List, [], ◌∷◌, ◌++◌, length, Option, Some, None, false, true, refl, sym, ap, ◌∙◌, subst, arith, length-append}
 use Rattle.std.specs.Prelude.{slice_get}
 use Rattle.ob_mean.specs.declared.shape.Shape.{Shape}
 use Rattle.ob_mean.specs.declared.shape.Shape.TheVariants.{Basic}
@@ -8,20 +8,23 @@ use Rattle.ob_mean.specs.declared.module.ModuleVariable.TheVariants.{Declared, T
 use Rattle.ob_mean.specs.declared.module.Parameter.{Parameter}
 use Rattle.ob_mean.specs.declared.module.Parameter.TheVariants as parameter
 use Rattle.ob_mean.specs.declared.module.Loaded.{Loaded}
-use Rattle.ob_mean.specs.Values.{Place, Whole, Part, Value, Cell, Named, Open, Beside, count, size, item, before, get, named, offset, shape, image, append}
+use Rattle.ob_mean.specs.Values.{Place, Whole, Part, Value, Cell, Named, Open, Beside, count, size, item, before, get, named, told, offset, shape, image, append}
 use Rattle.ob_mean.specs.Shapes.{zero_of, zeros, opening_value, opening_row}
 use Rattle.ob_mean.specs.Texts.{text_row}
 use Rattle.ob_mean.specs.Programs.{Program, opening_store}
-use Rattle.ob_mean.specs.WellFormed.{Object, Of, OpenOf, module_object, shape_object, value_object, own_object, named_object, StartWith, cell_limit}
+use Rattle.ob_mean.specs.WellFormed.{Object, Of, OpenOf, module_object, shape_object, value_object, own_object, named_object, is_extended, StartWith, cell_limit}
 use Rattle.ob_code.specs.declared.instr.Extent.{Extent}
 use Rattle.ob_code.specs.declared.instr.Name.{Name}
-use Rattle.ob_code.specs.Machine.{untold}
+use Rattle.ob_code.specs.declared.instr.Told.{Told}
+use Rattle.ob_code.specs.Machine.{Code, untold, type_of}
+use Rattle.ob_gen.specs.TypesAgree.{Shapes}
 use Rattle.ob_gen.specs.Code.{extent_at, parameter_value, parameter_row, named_one, named_before}
 use Rattle.ob_gen.specs.Correct.{named_count, parameter_count}
 use Rattle.ob_gen.proofs.machine.Store.{Inside, IsRow, size-shape, count-append, item-front, before-front, name_is, open_is}
 use Rattle.ob_gen.proofs.machine.Zeros.{declared_shape, declared_row, shape-opening, shape-opening_value, shape-text_row, zero-array}
-use Rattle.ob_gen.proofs.machine.Places.{IsObject, PlaceFits, some_same}
-use Rattle.ob_gen.proofs.machine.Passing.{OneFits, PassedFit, one_name, names_passed}
+use Rattle.ob_gen.proofs.machine.Records.{some_same, named_cells, HoldsTold, part_stands, told_within, told_few}
+use Rattle.ob_gen.proofs.machine.Places.{IsObject, PlaceFits}
+use Rattle.ob_gen.proofs.machine.Passing.{Tells, OneFits, PassedFit, one_name, names_passed}
 
 -- ---- a variable in a row of variables, and where code looks for it
 
@@ -68,10 +71,11 @@ held_zeros (t ∷ ts) (suc x) o e =
     let k = held_zeros ts x o e in
     (k.0, k.1, held_later (zero_of t) (zeros ts) x k.0 (extent_at (zeros ts) x) (extent_at (zeros (t ∷ ts)) (suc x)) refl refl k.2)
 
-one_size : (s : Value) (p : Parameter) (v : Value) → OneFits s p v → size (shape v) ≡ size (parameter_value p)
-one_size s parameter.Value v h = ap (λ x. size (shape x)) h.1
-one_size s (parameter.Place t) v h = ap (λ x. size (shape x)) h.1
-one_size s (parameter.Open t) v h = ap (λ x. size (shape x)) h.2
+one_size : (code : Code) (shapes : Shapes) (s : Value) (x : Told) (p : Parameter) (v : Value) → OneFits code shapes s x p v → size (shape v) ≡ size (parameter_value p)
+one_size code shapes s x parameter.Value v h = ap (λ y. size (shape y)) h.1
+one_size code shapes s x (parameter.Place t) v h = ap (λ y. size (shape y)) h.1
+one_size code shapes s x (parameter.Open t) v h = ap (λ y. size (shape y)) h.2
+one_size code shapes s x (parameter.Extended t) v h = ap (λ y. size (shape y)) h.2
 
 -- the variables of a call, of what was passed
 abbrev pub own_of : Value → List Shape → Value
@@ -80,120 +84,183 @@ own_of a ts = append (shape a) (zeros ts)
 abbrev own_rows : List Parameter → List Shape → Value
 own_rows ps ts = append (parameter_row ps) (zeros ts)
 
-held_first : (s : Value) (p : Parameter) (v u u' : Value) (o : Object) → OneFits s p v → value_object p ≡ Some o → (t : Shape) × (o ≡ Of t) × HeldAt (Beside (shape v) u) 0 t (extent_at (Beside (parameter_value p) u') 0)
-held_first s parameter.Value v u u' o h e =
+held_first : (code : Code) (shapes : Shapes) (s : Value) (x : Told) (p : Parameter) (v u u' : Value) (o : Object) → OneFits code shapes s x p v → value_object p ≡ Some o → (t : Shape) × (o ≡ Of t) × HeldAt (Beside (shape v) u) 0 t (extent_at (Beside (parameter_value p) u') 0)
+held_first code shapes s x parameter.Value v u u' o h e =
     let same : shape v ≡ Cell (pos 0) = ap shape h.1 in
     (Basic, sym (some_same (Of Basic) o e), record { there = omega arith; is = same; from = refl; cells = ap size same })
-held_first s (parameter.Place t) v u u' o h e = absurd (let n : None ≡ Some o = e in cc)
-held_first s (parameter.Open t) v u u' o h e = absurd (let n : None ≡ Some o = e in cc)
+held_first code shapes s x (parameter.Place t) v u u' o h e = absurd (let n : None ≡ Some o = e in cc)
+held_first code shapes s x (parameter.Open t) v u u' o h e = absurd (let n : None ≡ Some o = e in cc)
+held_first code shapes s x (parameter.Extended t) v u u' o h e = absurd (let n : None ≡ Some o = e in cc)
 
-pub held_own : (s : Value) (ps : List Parameter) (ts : List Shape) (a : Value) (x : ℕ) (o : Object) → PassedFit s ps a → own_object ps ts x ≡ Some o → (t : Shape) × (o ≡ Of t) × HeldAt (own_of a ts) x t (extent_at (own_rows ps ts) x)
-held_own s [] ts a x o h e = subst (λ y. (t : Shape) × (o ≡ Of t) × HeldAt (own_of y ts) x t (extent_at (own_rows [] ts) x)) (sym h) (held_zeros ts x o e)
-held_own s (p ∷ ps) ts a zero o h e =
+pub held_own : (code : Code) (shapes : Shapes) (s : Value) (xs : List Told) (ps : List Parameter) (ts : List Shape) (a : Value) (x : ℕ) (o : Object) → PassedFit code shapes s xs ps a → own_object ps ts x ≡ Some o → (t : Shape) × (o ≡ Of t) × HeldAt (own_of a ts) x t (extent_at (own_rows ps ts) x)
+held_own code shapes s xs [] ts a x o h e = subst (λ y. (t : Shape) × (o ≡ Of t) × HeldAt (own_of y ts) x t (extent_at (own_rows [] ts) x)) (sym h) (held_zeros ts x o e)
+held_own code shapes s [] (p ∷ ps) ts a x o h e = absurd h
+held_own code shapes s (y ∷ xs) (p ∷ ps) ts a zero o h e =
     subst (λ y. (t : Shape) × (o ≡ Of t) × HeldAt (own_of y ts) 0 t (extent_at (own_rows (p ∷ ps) ts) 0)) (sym h.2)
-    (held_first s p h.0 (own_of h.1 ts) (own_rows ps ts) o h.3 e)
-held_own s (p ∷ ps) ts a (suc x) o h e =
-    let k = held_own s ps ts h.1 x o h.4 e in
-    let same = one_size s p h.0 h.3 in
+    (held_first code shapes s y p h.0 (own_of h.1 ts) (own_rows ps ts) o h.3 e)
+held_own code shapes s (y ∷ xs) (p ∷ ps) ts a (suc x) o h e =
+    let k = held_own code shapes s xs ps ts h.1 x o h.4 e in
+    let same = one_size code shapes s y p h.0 h.3 in
     subst (λ y. (t : Shape) × (o ≡ Of t) × HeldAt (own_of y ts) (suc x) t (extent_at (own_rows (p ∷ ps) ts) (suc x))) (sym h.2)
     (k.0, k.1, held_later (shape h.0) (own_of h.1 ts) x k.0 (extent_at (own_rows ps ts) x) (extent_at (own_rows (p ∷ ps) ts) (suc x)) (omega (arith, same)) refl k.2)
 
 -- ---- what a parameter names
 
-pub record NamesAt (s : Value) (u : Value) (names : List Name) (x y : ℕ) (o : Object) : Type 0 where
+-- where a type is told of it, its name tells that type
+pub record TellsAt (code : Code) (shapes : Shapes) (s : Value) (u : Value) (x : ℕ) (name : Name) (o : Object) (place : Place) : Type 0 where
+  pub kind : Shape
+  pub is : o ≡ Of kind
+  pub called : (v : Value) → shape v ≡ item u x → told v ≡ type_of code name
+  pub holds : HoldsTold shapes s place (type_of code name) kind
+  pub cells : name.cells ≡ named_cells s place (type_of code name)
+  pub plain : name.length ≡ 0
+
+pub record NamesAt (code : Code) (shapes : Shapes) (s : Value) (u : Value) (names : List Name) (p : Option Parameter) (x y : ℕ) (o : Object) : Type 0 where
   pub place : Place
-  pub many : ℕ
+  pub name : Name
   pub there : x < count u
   pub called : (v : Value) → shape v ≡ item u x → named v ≡ place
-  pub found : slice_get names y ≡ Some (record { address = offset s place; cells = size (get s place); length = many; told = untold })
+  pub found : slice_get names y ≡ Some name
   pub leads : Inside s place
-  pub is : IsObject s many o place
-  pub low : size (get s place) < cell_limit
+  pub at : offset s place ≡ name.address
+  pub whole : size (get s place) ≤ name.cells
+  pub is : IsObject s name.length o place
+  pub low : name.cells < cell_limit
+  pub told : is_extended p ≡ true → TellsAt code shapes s u x name o place
 
-names_first : (s : Value) (p : Parameter) (v u : Value) (rest : List Name) (o : Object) → OneFits s p v → named_object (Some p) ≡ Some o → NamesAt s (Beside (shape v) u) (one_name s v ++ rest) 0 0 o
-names_first s parameter.Value v u rest o h e = absurd (let n : None ≡ Some o = e in cc)
-names_first s (parameter.Place t) v u rest o h e =
+names_first : (code : Code) (shapes : Shapes) (s : Value) (x : Told) (p : Parameter) (v u : Value) (rest : List Name) (o : Object) → OneFits code shapes s x p v → named_object (Some p) ≡ Some o → NamesAt code shapes s (Beside (shape v) u) (one_name s x v ++ rest) (Some p) 0 0 o
+names_first code shapes s x parameter.Value v u rest o h e = absurd (let n : None ≡ Some o = e in cc)
+names_first code shapes s x (parameter.Place t) v u rest o h e =
     let same : Of t ≡ o = some_same (Of t) o e in
-    let is_name : shape v ≡ Named h.0 = ap shape h.1 in
+    let is_name : shape v ≡ Named h.0 [] = ap shape h.1 in
     record {
       place = h.0;
-      many = 0;
+      name = record { address = offset s h.0; cells = size (get s h.0); length = 0; told = x };
       there = omega arith;
-      called = λ y q. ap named (name_is y h.0 (q ∙ is_name));
-      found = ap (λ y. slice_get (one_name s y ++ rest) 0) h.1;
+      called = λ y q. ap named (name_is y h.0 [] (q ∙ is_name));
+      found = ap (λ y. slice_get (one_name s x y ++ rest) 0) h.1;
       leads = h.2;
+      at = refl;
+      whole = omega arith;
       is = subst (λ y. IsObject s 0 y h.0) same h.3;
       low = h.4;
+      told = λ e. absurd (let n : false ≡ true = e in cc);
     }
-names_first s (parameter.Open t) v u rest o h e =
+names_first code shapes s x (parameter.Open t) v u rest o h e =
     let same : OpenOf t ≡ o = some_same (OpenOf t) o e in
     let is_name : shape v ≡ Open h.0 h.1 = ap shape h.2 in
     record {
       place = h.0;
-      many = h.1;
+      name = record { address = offset s h.0; cells = size (get s h.0); length = h.1; told = untold };
       there = omega arith;
       called = λ y q. ap named (open_is y h.0 h.1 (q ∙ is_name));
-      found = ap (λ y. slice_get (one_name s y ++ rest) 0) h.2;
+      found = ap (λ y. slice_get (one_name s x y ++ rest) 0) h.2;
       leads = h.3;
+      at = refl;
+      whole = omega arith;
       is = subst (λ y. IsObject s h.1 y h.0) same h.4;
       low = h.5;
+      told = λ e. absurd (let n : false ≡ true = e in cc);
+    }
+names_first code shapes s x (parameter.Extended t) v u rest o h e =
+    let q = h.0 in
+    let types = h.1 in
+    let tells : Tells code x types = h.3 in
+    let holds : HoldsTold shapes s q types t = h.4 in
+    let same : Of t ≡ o = some_same (Of t) o e in
+    let is_name : shape v ≡ Named q types = ap shape h.2 in
+    let stands = part_stands shapes s q types t holds in
+    let name : Name = record { address = offset s q; cells = named_cells s q types; length = 0; told = x } in
+    record {
+      place = q;
+      name = name;
+      there = omega arith;
+      called = λ y e. ap named (name_is y q types (e ∙ is_name));
+      found = ap (λ y. slice_get (one_name s x y ++ rest) 0) h.2;
+      leads = stands.leads;
+      at = refl;
+      whole = told_within shapes s q types t holds;
+      is = subst (λ y. IsObject s 0 y q) same stands.is;
+      low = told_few shapes s q types t holds;
+      told = λ e. record {
+        kind = t;
+        is = sym same;
+        called = λ y e. ap told (name_is y q types (e ∙ is_name)) ∙ sym tells;
+        holds = subst (λ y. HoldsTold shapes s q y t) (sym tells) holds;
+        cells = ap (named_cells s q) (sym tells);
+        plain = refl;
+      };
     }
 
-names_skip : (s : Value) (p : Parameter) (v : Value) (rest : List Name) (n : ℕ) → OneFits s p v → slice_get (one_name s v ++ rest) (named_one p + n) ≡ slice_get rest n
-names_skip s parameter.Value v rest n h = let e : 0 + n ≡ n = omega arith in ap (λ y. slice_get (one_name s y ++ rest) (0 + n)) h.1 ∙ ap (slice_get rest) e
-names_skip s (parameter.Place t) v rest n h = let e : 1 + n ≡ suc n = omega arith in ap (λ y. slice_get (one_name s y ++ rest) (1 + n)) h.1 ∙ ap (slice_get (one_name s (Named h.0) ++ rest)) e
-names_skip s (parameter.Open t) v rest n h = let e : 1 + n ≡ suc n = omega arith in ap (λ y. slice_get (one_name s y ++ rest) (1 + n)) h.2 ∙ ap (slice_get (one_name s (Open h.0 h.1) ++ rest)) e
+names_skip : (code : Code) (shapes : Shapes) (s : Value) (x : Told) (p : Parameter) (v : Value) (rest : List Name) (n : ℕ) → OneFits code shapes s x p v → slice_get (one_name s x v ++ rest) (named_one p + n) ≡ slice_get rest n
+names_skip code shapes s x parameter.Value v rest n h = let e : 0 + n ≡ n = omega arith in ap (λ y. slice_get (one_name s x y ++ rest) (0 + n)) h.1 ∙ ap (slice_get rest) e
+names_skip code shapes s x (parameter.Place t) v rest n h = let e : 1 + n ≡ suc n = omega arith in ap (λ y. slice_get (one_name s x y ++ rest) (1 + n)) h.1 ∙ ap (slice_get (one_name s x (Named h.0 []) ++ rest)) e
+names_skip code shapes s x (parameter.Open t) v rest n h = let e : 1 + n ≡ suc n = omega arith in ap (λ y. slice_get (one_name s x y ++ rest) (1 + n)) h.2 ∙ ap (slice_get (one_name s x (Open h.0 h.1) ++ rest)) e
+names_skip code shapes s x (parameter.Extended t) v rest n h = let e : 1 + n ≡ suc n = omega arith in ap (λ y. slice_get (one_name s x y ++ rest) (1 + n)) h.2 ∙ ap (slice_get (one_name s x (Named h.0 h.1) ++ rest)) e
 
-pub names_own : (s : Value) (ps : List Parameter) (ts : List Shape) (a : Value) (x : ℕ) (o : Object) → PassedFit s ps a → named_object (slice_get ps x) ≡ Some o → NamesAt s (own_of a ts) (names_passed s a) x (named_before ps x) o
-names_own s [] ts a x o h e = absurd (let n : None ≡ Some o = e in cc)
-names_own s (p ∷ ps) ts a zero o h e =
-    subst (λ y. NamesAt s (own_of y ts) (names_passed s y) 0 0 o) (sym h.2) (names_first s p h.0 (own_of h.1 ts) (names_passed s h.1) o h.3 e)
-names_own s (p ∷ ps) ts a (suc x) o h e =
-    let k = names_own s ps ts h.1 x o h.4 e in
-    subst (λ y. NamesAt s (own_of y ts) (names_passed s y) (suc x) (named_before (p ∷ ps) (suc x)) o) (sym h.2)
+later : (code : Code) (shapes : Shapes) (s v u : Value) (x : ℕ) (name : Name) (o : Object) (place : Place) → TellsAt code shapes s u x name o place → TellsAt code shapes s (Beside v u) (suc x) name o place
+later code shapes s v u x name o place h = record { kind = h.kind; is = h.is; called = h.called; holds = h.holds; cells = h.cells; plain = h.plain }
+
+pub names_own : (code : Code) (shapes : Shapes) (s : Value) (xs : List Told) (ps : List Parameter) (ts : List Shape) (a : Value) (x : ℕ) (o : Object) → PassedFit code shapes s xs ps a → named_object (slice_get ps x) ≡ Some o → NamesAt code shapes s (own_of a ts) (names_passed s xs a) (slice_get ps x) x (named_before ps x) o
+names_own code shapes s xs [] ts a x o h e = absurd (let n : None ≡ Some o = e in cc)
+names_own code shapes s [] (p ∷ ps) ts a x o h e = absurd h
+names_own code shapes s (y ∷ xs) (p ∷ ps) ts a zero o h e =
+    subst (λ z. NamesAt code shapes s (own_of z ts) (names_passed s (y ∷ xs) z) (Some p) 0 0 o) (sym h.2) (names_first code shapes s y p h.0 (own_of h.1 ts) (names_passed s xs h.1) o h.3 e)
+names_own code shapes s (y ∷ xs) (p ∷ ps) ts a (suc x) o h e =
+    let k = names_own code shapes s xs ps ts h.1 x o h.4 e in
+    subst (λ z. NamesAt code shapes s (own_of z ts) (names_passed s (y ∷ xs) z) (slice_get ps x) (suc x) (named_before (p ∷ ps) (suc x)) o) (sym h.2)
     (record {
       place = k.place;
-      many = k.many;
+      name = k.name;
       there = omega (arith, k.there);
       called = k.called;
-      found = names_skip s p h.0 (names_passed s h.1) (named_before ps x) h.3 ∙ k.found;
+      found = names_skip code shapes s y p h.0 (names_passed s xs h.1) (named_before ps x) h.3 ∙ k.found;
       leads = k.leads;
+      at = k.at;
+      whole = k.whole;
       is = k.is;
       low = k.low;
+      told = λ e. later code shapes s (shape h.0) (own_of h.1 ts) x k.name o k.place (k.told e);
     })
 
 -- ---- how much is passed
 
-pub passed_row : (s : Value) (ps : List Parameter) (a : Value) → PassedFit s ps a → IsRow a
-passed_row s [] a h = subst IsRow (sym h) tt
-passed_row s (p ∷ ps) a h = subst IsRow (sym h.2) (passed_row s ps h.1 h.4)
+pub passed_row : (code : Code) (shapes : Shapes) (s : Value) (xs : List Told) (ps : List Parameter) (a : Value) → PassedFit code shapes s xs ps a → IsRow a
+passed_row code shapes s xs [] a h = subst IsRow (sym h) tt
+passed_row code shapes s [] (p ∷ ps) a h = absurd h
+passed_row code shapes s (x ∷ xs) (p ∷ ps) a h = subst IsRow (sym h.2) (passed_row code shapes s xs ps h.1 h.4)
 
-one_named : (s : Value) (p : Parameter) (v : Value) → OneFits s p v → length (one_name s v) ≡ named_one p
-one_named s parameter.Value v h = ap (λ y. length (one_name s y)) h.1
-one_named s (parameter.Place t) v h = ap (λ y. length (one_name s y)) h.1
-one_named s (parameter.Open t) v h = ap (λ y. length (one_name s y)) h.2
+one_named : (code : Code) (shapes : Shapes) (s : Value) (x : Told) (p : Parameter) (v : Value) → OneFits code shapes s x p v → length (one_name s x v) ≡ named_one p
+one_named code shapes s x parameter.Value v h = ap (λ y. length (one_name s x y)) h.1
+one_named code shapes s x (parameter.Place t) v h = ap (λ y. length (one_name s x y)) h.1
+one_named code shapes s x (parameter.Open t) v h = ap (λ y. length (one_name s x y)) h.2
+one_named code shapes s x (parameter.Extended t) v h = ap (λ y. length (one_name s x y)) h.2
 
-one_either : (s : Value) (p : Parameter) (v : Value) → OneFits s p v → length (image v) + named_one p ≡ 1
-one_either s parameter.Value v h = ap (λ y. length (image y) + 0) h.1
-one_either s (parameter.Place t) v h = ap (λ y. length (image y) + 1) h.1
-one_either s (parameter.Open t) v h = ap (λ y. length (image y) + 1) h.2
+one_either : (code : Code) (shapes : Shapes) (s : Value) (x : Told) (p : Parameter) (v : Value) → OneFits code shapes s x p v → length (image v) + named_one p ≡ 1
+one_either code shapes s x parameter.Value v h = ap (λ y. length (image y) + 0) h.1
+one_either code shapes s x (parameter.Place t) v h = ap (λ y. length (image y) + 1) h.1
+one_either code shapes s x (parameter.Open t) v h = ap (λ y. length (image y) + 1) h.2
+one_either code shapes s x (parameter.Extended t) v h = ap (λ y. length (image y) + 1) h.2
 
-pub passed_names : (s : Value) (ps : List Parameter) (a : Value) → PassedFit s ps a → length (names_passed s a) ≡ named_count ps
-passed_names s [] a h = ap (λ y. length (names_passed s y)) h
-passed_names s (p ∷ ps) a h =
-    ap (λ y. length (names_passed s y)) h.2
-    ∙ (let one = one_named s p h.0 h.3 in let others = passed_names s ps h.1 h.4 in omega (arith, length-append (one_name s h.0) (names_passed s h.1), one, others))
+pub passed_names : (code : Code) (shapes : Shapes) (s : Value) (xs : List Told) (ps : List Parameter) (a : Value) → PassedFit code shapes s xs ps a → length (names_passed s xs a) ≡ named_count ps
+passed_names code shapes s xs [] a h = ap (λ y. length (names_passed s xs y)) h
+passed_names code shapes s [] (p ∷ ps) a h = absurd h
+passed_names code shapes s (x ∷ xs) (p ∷ ps) a h =
+    ap (λ y. length (names_passed s (x ∷ xs) y)) h.2
+    ∙ (let one = one_named code shapes s x p h.0 h.3 in let others = passed_names code shapes s xs ps h.1 h.4 in omega (arith, length-append (one_name s x h.0) (names_passed s xs h.1), one, others))
 
-pub passed_all : (s : Value) (ps : List Parameter) (a : Value) → PassedFit s ps a → length (image a) + named_count ps ≡ parameter_count ps
-passed_all s [] a h = ap (λ y. length (image y) + 0) h
-passed_all s (p ∷ ps) a h =
+pub passed_all : (code : Code) (shapes : Shapes) (s : Value) (xs : List Told) (ps : List Parameter) (a : Value) → PassedFit code shapes s xs ps a → length (image a) + named_count ps ≡ parameter_count ps
+passed_all code shapes s xs [] a h = ap (λ y. length (image y) + 0) h
+passed_all code shapes s [] (p ∷ ps) a h = absurd h
+passed_all code shapes s (x ∷ xs) (p ∷ ps) a h =
     ap (λ y. length (image y) + named_count (p ∷ ps)) h.2
-    ∙ (let one = one_either s p h.0 h.3 in let others = passed_all s ps h.1 h.4 in omega (arith, length-append (image h.0) (image h.1), one, others))
+    ∙ (let one = one_either code shapes s x p h.0 h.3 in let others = passed_all code shapes s xs ps h.1 h.4 in omega (arith, length-append (image h.0) (image h.1), one, others))
 
-pub passed_size : (s : Value) (ps : List Parameter) (a : Value) → PassedFit s ps a → size (shape a) ≡ size (parameter_row ps)
-passed_size s [] a h = ap (λ y. size (shape y)) h
-passed_size s (p ∷ ps) a h =
-    ap (λ y. size (shape y)) h.2 ∙ (let one = one_size s p h.0 h.3 in let others = passed_size s ps h.1 h.4 in omega (arith, one, others))
+pub passed_size : (code : Code) (shapes : Shapes) (s : Value) (xs : List Told) (ps : List Parameter) (a : Value) → PassedFit code shapes s xs ps a → size (shape a) ≡ size (parameter_row ps)
+passed_size code shapes s xs [] a h = ap (λ y. size (shape y)) h
+passed_size code shapes s [] (p ∷ ps) a h = absurd h
+passed_size code shapes s (x ∷ xs) (p ∷ ps) a h =
+    ap (λ y. size (shape y)) h.2 ∙ (let one = one_size code shapes s x p h.0 h.3 in let others = passed_size code shapes s xs ps h.1 h.4 in omega (arith, one, others))
 
 -- ---- a row of variables in the store
 

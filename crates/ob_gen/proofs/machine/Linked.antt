@@ -1,5 +1,5 @@
 -- Modules that are linked: what a text names is there, and its code is where the machine looks for it.
-use Rattle.std.proofs.Common.{◌≡◌, ℕ, zero, suc, ◌+◌, ◌-◌, ◌<◌, List, [], ◌∷◌, length, Option, Some, None, Bool, true, refl, sym, ap, ◌∙◌, subst, arith}
+use Rattle.std.proofs.Common.{◌≡◌, ℕ, zero, suc, ◌+◌, ◌-◌, ◌<◌, List, [], ◌∷◌, length, Option, Some, None, Bool, false, true, refl, sym, ap, ◌∙◌, subst, arith}
 use Rattle.std.specs.Prelude.{slice_get, slice_index}
 use Rattle.ob_mean.specs.declared.expression.Variable.{Variable}
 use Rattle.ob_mean.specs.declared.expression.Variable.TheVariants as variable
@@ -19,12 +19,14 @@ use Rattle.ob_mean.specs.Programs.{Program, opening_store, imports_in, imports_o
 use Rattle.ob_mean.specs.WellFormed.{Object, Of, Names, face_object, shape_object, variable_object, own_object, named_object, own_heading, face_heading, heading_of, called, names_in, names_of, ProcedureFits, ProceduresFit, AreHeadings, IsFaceOf, Shows, AllShow}
 use Rattle.ob_code.specs.declared.instr.Procedure.{Procedure}
 use Rattle.ob_code.specs.Machine.{Code, imports_in as code_imports_in, import_number, cells_in, procedure_in as code_procedure_in, exported_number, target_of, number_of, part_of}
+use Rattle.ob_gen.specs.TypesAgree.{Shapes, ProcedureAgrees, ProceduresAgree}
 use Rattle.ob_gen.specs.Code.{extent_at, face_row}
 use Rattle.ob_gen.specs.Correct.{IsCodeOf, AreCompiled, AllRun, IsCodeOfProgram}
 use Rattle.ob_gen.proofs.machine.Reaches.{Running}
 use Rattle.ob_gen.proofs.machine.Few.{variables_few, faces_few}
 use Rattle.ob_gen.proofs.machine.Zeros.{declared_row}
-use Rattle.ob_gen.proofs.machine.Places.{VariableFits, FrameFits, some_same}
+use Rattle.ob_gen.proofs.machine.Records.{some_same}
+use Rattle.ob_gen.proofs.machine.Places.{VariableFits, FrameFits}
 use Rattle.ob_gen.proofs.machine.Frames.{HeldAt, held_module, held_import, variable_at, StoreFits, module_at}
 
 -- ---- lists that go side by side
@@ -81,7 +83,16 @@ procedure_fits faces m [] p f h e = absurd (let n : None ≡ Some f = e in cc)
 procedure_fits faces m (y ∷ fs) zero f h e = subst (λ x. ProcedureFits (names_of faces m x) x) (some_same y f e) h.0
 procedure_fits faces m (y ∷ fs) (suc p) f h e = procedure_fits faces m fs p f h.1 e
 
-module _ (program : Program) (code : Code) (faces : ℕ → List Face) (runs : ℕ → Bool) (whole : IsCodeOfProgram program code faces runs) where
+pub procedure_agrees : (shapes : Shapes) (fs : List TypedProcedure) (p : ℕ) (f : TypedProcedure) → ProceduresAgree shapes fs → slice_get fs p ≡ Some f → ProcedureAgrees shapes f
+procedure_agrees shapes [] p f h e = absurd (let n : None ≡ Some f = e in cc)
+procedure_agrees shapes (y ∷ fs) zero f h e = subst (ProcedureAgrees shapes) (some_same y f e) h.0
+procedure_agrees shapes (y ∷ fs) (suc p) f h e = procedure_agrees shapes fs p f h.1 e
+
+-- of a variable of its own nothing is told
+pub no_type : {A : Type 0} → false ≡ true → A
+no_type e = absurd (let n : false ≡ true = e in cc)
+
+module _ (program : Program) (code : Code) (faces : ℕ → List Face) (shapes : Shapes) (runs : ℕ → Bool) (whole : IsCodeOfProgram program code faces shapes runs) where
   -- the tree of a module that may run
   abbrev pub tree_at : (home : ℕ) → runs home ≡ true → TypedModule
   tree_at home ok = (whole home ok).m.tree
@@ -120,6 +131,7 @@ module _ (program : Program) (code : Code) (faces : ℕ → List Face) (runs : �
     pub found : code_procedure_in (slice_get code there) p ≡ Some proc
     pub is_code : IsCodeOf (names_at there ok tree.parameters tree.variables) tree.body tree.result proc
     pub fits : ProcedureFits (names_at there ok tree.parameters tree.variables) tree
+    pub types : ProcedureAgrees shapes tree
 
   -- it is what the text calls
   pub record CalleeAt (home : ℕ) (f : Callee) (g : Heading) : Type 0 where
@@ -143,6 +155,7 @@ module _ (program : Program) (code : Code) (faces : ℕ → List Face) (runs : �
         found = ap (λ x. code_procedure_in x p) may.found ∙ c.1;
         is_code = c.2;
         fits = procedure_fits (faces there) may.m.tree may.m.tree.procedures p tree may.linked.formed.procedures tree_is;
+        types = procedure_agrees shapes may.m.tree.procedures p tree may.types.0 tree_is;
       }
 
   callee_in : (home there p : ℕ) (ok : runs there ≡ true) (f : Callee) (g : Heading) → home_of program home f ≡ there → target_of code home f ≡ there → number_of code home f ≡ p → procedure_of program home f ≡ slice_get (tree_at there ok).procedures p → own_heading (slice_get (tree_at there ok).procedures p) ≡ Some g → CalleeAt home f g
@@ -173,10 +186,10 @@ module _ (program : Program) (code : Code) (faces : ℕ → List Face) (runs : �
 
   -- the call's own variables, and what its parameters name
   pub record OwnFits (r : Running) (s : Value) (names : Names) (scope : Scope) : Type 0 where
-    pub holds : (x : ℕ) (o : Object) → own_object names.parameters names.own x ≡ Some o → VariableFits code r s names scope (variable.OfProcedure x) o
-    pub names_it : (x : ℕ) (o : Object) → named_object (slice_get names.parameters x) ≡ Some o → VariableFits code r s names scope (variable.ByParameter x) o
+    pub holds : (x : ℕ) (o : Object) → own_object names.parameters names.own x ≡ Some o → VariableFits code shapes r s names scope (variable.OfProcedure x) o
+    pub names_it : (x : ℕ) (o : Object) → named_object (slice_get names.parameters x) ≡ Some o → VariableFits code shapes r s names scope (variable.ByParameter x) o
 
-  module_fits : (r : Running) (s : Value) (ps : List Parameter) (ts : List Shape) (more k : ℕ) (ok : runs r.home ≡ true) (x : ℕ) (t : Shape) → StoreFits program s → HeldAt (declared_row (tree_at r.home ok).variables) x t (extent_at (opening_row (tree_at r.home ok).variables) x) → VariableFits code r s (names_at r.home ok ps ts) (scope_at program more r.home k) (variable.OfModule x) (Of t)
+  module_fits : (r : Running) (s : Value) (ps : List Parameter) (ts : List Shape) (more k : ℕ) (ok : runs r.home ≡ true) (x : ℕ) (t : Shape) → StoreFits program s → HeldAt (declared_row (tree_at r.home ok).variables) x t (extent_at (opening_row (tree_at r.home ok).variables) x) → VariableFits code shapes r s (names_at r.home ok ps ts) (scope_at program more r.home k) (variable.OfModule x) (Of t)
   module_fits r s ps ts more k ok x t fit held =
       let may = whole r.home ok in
       let vs = may.m.tree.variables in
@@ -191,9 +204,11 @@ module _ (program : Program) (code : Code) (faces : ℕ → List Face) (runs : �
         root = record { found = λ pc stack pending w. refl; low = variables_few vs x may.linked.formed.variables };
         fits = v.0;
         at = v.1;
+        told = λ t. no_type t;
+        tells = λ w q t. no_type t;
       }
 
-  import_fits : (r : Running) (s : Value) (ps : List Parameter) (ts : List Shape) (more k : ℕ) (ok : runs r.home ≡ true) (i x : ℕ) (face : Face) (t : Shape) → StoreFits program s → slice_get (faces r.home) i ≡ Some face → (shows : Shows (slice_get program (slice_index (whole r.home ok).m.imports i)) face × (runs (slice_index (whole r.home ok).m.imports i) ≡ true)) → HeldAt (declared_row (tree_at (slice_index (whole r.home ok).m.imports i) shows.1).variables) x t (extent_at (zeros face.variables) x) → VariableFits code r s (names_at r.home ok ps ts) (scope_at program more r.home k) (variable.OfImport i x) (Of t)
+  import_fits : (r : Running) (s : Value) (ps : List Parameter) (ts : List Shape) (more k : ℕ) (ok : runs r.home ≡ true) (i x : ℕ) (face : Face) (t : Shape) → StoreFits program s → slice_get (faces r.home) i ≡ Some face → (shows : Shows (slice_get program (slice_index (whole r.home ok).m.imports i)) face × (runs (slice_index (whole r.home ok).m.imports i) ≡ true)) → HeldAt (declared_row (tree_at (slice_index (whole r.home ok).m.imports i) shows.1).variables) x t (extent_at (zeros face.variables) x) → VariableFits code shapes r s (names_at r.home ok ps ts) (scope_at program more r.home k) (variable.OfImport i x) (Of t)
   import_fits r s ps ts more k ok i x face t fit has_face shows held =
       let may = whole r.home ok in
       let there = slice_index may.m.imports i in
@@ -213,15 +228,17 @@ module _ (program : Program) (code : Code) (faces : ℕ → List Face) (runs : �
         root = record { found = λ pc stack pending w. refl; low = faces_few (faces r.home) i x may.linked.formed.known };
         fits = v.0;
         at = v.1;
+        told = λ t. no_type t;
+        tells = λ w q t. no_type t;
       }
 
-  pub frame_fits : (r : Running) (s : Value) (ps : List Parameter) (ts : List Shape) (more k : ℕ) (ok : runs r.home ≡ true) → StoreFits program s → OwnFits r s (names_at r.home ok ps ts) (scope_at program more r.home k) → FrameFits code r s (names_at r.home ok ps ts) (scope_at program more r.home k)
+  pub frame_fits : (r : Running) (s : Value) (ps : List Parameter) (ts : List Shape) (more k : ℕ) (ok : runs r.home ≡ true) → StoreFits program s → OwnFits r s (names_at r.home ok ps ts) (scope_at program more r.home k) → FrameFits code shapes r s (names_at r.home ok ps ts) (scope_at program more r.home k)
   frame_fits r s ps ts more k ok fit own = record { home = refl; variables = variables_at }
     where
-      variables_at : (v : Variable) (o : Object) → variable_object (names_at r.home ok ps ts) v ≡ Some o → VariableFits code r s (names_at r.home ok ps ts) (scope_at program more r.home k) v o
+      variables_at : (v : Variable) (o : Object) → variable_object (names_at r.home ok ps ts) v ≡ Some o → VariableFits code shapes r s (names_at r.home ok ps ts) (scope_at program more r.home k) v o
       variables_at (variable.OfModule x) o e =
           let h = held_module (tree_at r.home ok).variables x o e in
-          subst (VariableFits code r s (names_at r.home ok ps ts) (scope_at program more r.home k) (variable.OfModule x)) (sym h.1) (module_fits r s ps ts more k ok x h.0 fit h.2)
+          subst (VariableFits code shapes r s (names_at r.home ok ps ts) (scope_at program more r.home k) (variable.OfModule x)) (sym h.1) (module_fits r s ps ts more k ok x h.0 fit h.2)
       variables_at (variable.OfImport i x) o e =
           let may = whole r.home ok in
           let face = face_holds (slice_get (faces r.home) i) x o e in
@@ -230,6 +247,6 @@ module _ (program : Program) (code : Code) (faces : ℕ → List Face) (runs : �
           let other = whole there shows.1 in
           let is_face = face_of (slice_get program there) other.m face.0 other.loaded shows.0 in
           let h = held_import face.0.variables other.m.tree.variables x o is_face.variables face.2 in
-          subst (VariableFits code r s (names_at r.home ok ps ts) (scope_at program more r.home k) (variable.OfImport i x)) (sym h.1) (import_fits r s ps ts more k ok i x face.0 h.0 fit face.1 shows h.2)
+          subst (VariableFits code shapes r s (names_at r.home ok ps ts) (scope_at program more r.home k) (variable.OfImport i x)) (sym h.1) (import_fits r s ps ts more k ok i x face.0 h.0 fit face.1 shows h.2)
       variables_at (variable.OfProcedure x) o e = own.holds x o e
       variables_at (variable.ByParameter x) o e = own.names_it x o e

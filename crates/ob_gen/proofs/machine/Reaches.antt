@@ -19,6 +19,7 @@ use Rattle.ob_code.specs.declared.instr.Line.{Line}
 use Rattle.ob_code.specs.declared.instr.Name.{Name}
 use Rattle.ob_code.specs.declared.instr.Frame.{Frame}
 use Rattle.ob_code.specs.Machine.{Code, Config, picture, Point, Going, Standing, lines_of, Comes}
+use Rattle.ob_gen.specs.TypesAgree.{Shapes, ExprAgrees, ActionAgrees, ListAgrees}
 use Rattle.ob_gen.specs.Code.{line, root_of, expr_code, action_code, list_code}
 use Rattle.ob_code.proofs.machine.Runs.{goes_on, performs}
 
@@ -115,16 +116,16 @@ SoMany k vs = length vs ≡ k
 -- ---- what the halves of the proof ask of each other
 
 -- the code of each expression does what it means
-abbrev pub ExprRuns : Code → Running → Value → Names → Scope → Type 0
-ExprRuns code r s names scope = (e : TypedExpr) (h k pc : ℕ) (stack : List ℤ) (pending : List Name) (n : Supply) (most : ℕ) (w : World) → ExprFits names e → Good most s n w → HasAt (lines_in code r) pc (expr_code names h k e) → Reaches code most s AnyNumber (here r pc stack pending n w) (λ v n' w'. here r (pc + length (expr_code names h k e)) (v ∷ stack) pending n' w') (value_of scope e n w)
+abbrev pub ExprRuns : Code → Shapes → Running → Value → Names → Scope → Type 0
+ExprRuns code shapes r s names scope = (e : TypedExpr) (h k pc : ℕ) (stack : List ℤ) (pending : List Name) (n : Supply) (most : ℕ) (w : World) → ExprFits names e → ExprAgrees shapes e → Good most s n w → HasAt (lines_in code r) pc (expr_code names h k e) → Reaches code most s AnyNumber (here r pc stack pending n w) (λ v n' w'. here r (pc + length (expr_code names h k e)) (v ∷ stack) pending n' w') (value_of scope e n w)
 
 -- and of each statement without others in it
-abbrev pub ActionRuns : Code → Running → Value → Names → Scope → Type 0
-ActionRuns code r s names scope = (a : Action) (pc : ℕ) (n : Supply) (most : ℕ) (w : World) → ActionFits names a → Good most s n w → HasAt (lines_in code r) pc (action_code names a) → Reaches code most s AnyDone (here r pc [] [] n w) (λ d n' w'. here r (pc + length (action_code names a)) [] [] n' w') (action_meaning scope a n w)
+abbrev pub ActionRuns : Code → Shapes → Running → Value → Names → Scope → Type 0
+ActionRuns code shapes r s names scope = (a : Action) (pc : ℕ) (n : Supply) (most : ℕ) (w : World) → ActionFits names a → ActionAgrees shapes a → Good most s n w → HasAt (lines_in code r) pc (action_code names a) → Reaches code most s AnyDone (here r pc [] [] n w) (λ d n' w'. here r (pc + length (action_code names a)) [] [] n' w') (action_meaning scope a n w)
 
 -- and of a list of statements
-abbrev pub ListRuns : Code → Running → Value → Names → Scope → Type 0
-ListRuns code r s names scope = (xs : List TypedStatement) (pc : ℕ) (n : Supply) (most : ℕ) (w : World) → ListFits names xs → Good most s n w → HasAt (lines_in code r) pc (list_code names xs) → Reaches code most s AnyDone (here r pc [] [] n w) (λ d n' w'. here r (pc + length (list_code names xs)) [] [] n' w') (list_meaning scope xs n w)
+abbrev pub ListRuns : Code → Shapes → Running → Value → Names → Scope → Type 0
+ListRuns code shapes r s names scope = (xs : List TypedStatement) (pc : ℕ) (n : Supply) (most : ℕ) (w : World) → ListFits names xs → ListAgrees shapes xs → Good most s n w → HasAt (lines_in code r) pc (list_code names xs) → Reaches code most s AnyDone (here r pc [] [] n w) (λ d n' w'. here r (pc + length (list_code names xs)) [] [] n' w') (list_meaning scope xs n w)
 
 -- a variable of basic type is at one place as long as the procedure runs, and is read and set there
 pub record Holds (code : Code) (r : Running) (s : Value) (names : Names) (scope : Scope) (v : Variable) : Type 0 where
@@ -143,6 +144,11 @@ module _ (code : Code) where
   pub weaken : {A : Type 0} (m most : ℕ) (s : Value) (keep : A → Type 0) (from : Point) (to : A → Supply → World → Point) (r : Run A) → m ≤ most → Reaches code m s keep from to r → Reaches code most s keep from to r
   weaken m most s keep from to (Goes a n w) le h = let g = h.0 in (record { less = omega (arith, g.less); fits = g.fits }, h.1, h.2)
   weaken m most s keep from to (Stands why n w) le h = h
+
+  -- a value of more than is asked
+  pub keeps_less : {A : Type 0} (most : ℕ) (s : Value) (keep less : A → Type 0) (from : Point) (to : A → Supply → World → Point) (r : Run A) → ((a : A) → keep a → less a) → Reaches code most s keep from to r → Reaches code most s less from to r
+  keeps_less most s keep less from to (Goes a n w) f h = (h.0, f a h.1, h.2)
+  keeps_less most s keep less from to (Stands why n w) f h = h
 
   -- what follows a stretch
   pub follows : {A : Type 0} (most : ℕ) (s : Value) (keep : A → Type 0) (p q : Point) (to : A → Supply → World → Point) (r : Run A) → Comes code p q → Reaches code most s keep q to r → Reaches code most s keep p to r

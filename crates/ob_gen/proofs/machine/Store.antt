@@ -2,6 +2,7 @@
 use Rattle.std.proofs.Common.{◌≡◌, ℕ, zero, suc, ◌+◌, ◌*◌, ◌<◌, ◌≤◌, ℤ, pos, List, [], ◌∷◌, ◌++◌, length, take, drop, refl, sym, ap, ◌∙◌, subst, arith, append_assoc, length-append, append-nil}
 use Rattle.std.specs.Prelude.{slice_index_or}
 use Rattle.std.proofs.Math.Seq.{take-append_seam, drop-append_seam, drop-append-add}
+use Rattle.ob_mean.specs.RecordTypes.{TypeNames}
 use Rattle.ob_mean.specs.Values.{Place, Whole, Part, Value, Cell, Named, Open, Nothing, Beside, count, size, item, before, with_item, get, set, number, offset, shape, image, append, first, row}
 
 -- ---- places that are there, and rows
@@ -17,7 +18,7 @@ Inside s (Part p i) = Leads s p × (i < count (get s p))
 
 abbrev pub IsRow : Value → Type 0
 IsRow (Cell z) = ⊥
-IsRow (Named p) = ⊥
+IsRow (Named p u) = ⊥
 IsRow (Open p k) = ⊥
 IsRow Nothing = Unit {0}
 IsRow (Beside v rest) = IsRow rest
@@ -28,7 +29,7 @@ inside-leads s (Part p i) h = h
 
 pub length-image : (v : Value) → length (image v) ≡ size v
 length-image (Cell z) = refl
-length-image (Named p) = refl
+length-image (Named p u) = refl
 length-image (Open p k) = refl
 length-image Nothing = refl
 length-image (Beside v rest) = omega (arith, length-append (image v) (image rest), length-image v, length-image rest)
@@ -37,28 +38,28 @@ length-image (Beside v rest) = omega (arith, length-append (image v) (image rest
 
 pub shape-shape : (v : Value) → shape (shape v) ≡ shape v
 shape-shape (Cell z) = refl
-shape-shape (Named p) = refl
+shape-shape (Named p u) = refl
 shape-shape (Open p k) = refl
 shape-shape Nothing = refl
 shape-shape (Beside v rest) = let a = shape-shape v in let b = shape-shape rest in cc
 
 pub count-shape : (v : Value) → count (shape v) ≡ count v
 count-shape (Cell z) = refl
-count-shape (Named p) = refl
+count-shape (Named p u) = refl
 count-shape (Open p k) = refl
 count-shape Nothing = refl
 count-shape (Beside v rest) = ap suc (count-shape rest)
 
 pub size-shape : (v : Value) → size (shape v) ≡ size v
 size-shape (Cell z) = refl
-size-shape (Named p) = refl
+size-shape (Named p u) = refl
 size-shape (Open p k) = refl
 size-shape Nothing = refl
 size-shape (Beside v rest) = omega (arith, size-shape v, size-shape rest)
 
 pub item-shape : (v : Value) (i : ℕ) → item (shape v) i ≡ shape (item v i)
 item-shape (Cell z) i = refl
-item-shape (Named p) i = refl
+item-shape (Named p u) i = refl
 item-shape (Open p k) i = refl
 item-shape Nothing i = refl
 item-shape (Beside v rest) zero = refl
@@ -70,7 +71,7 @@ get-shape s (Part p i) = ap (λ v. item v i) (get-shape s p) ∙ item-shape (get
 
 pub with_item-shape : (v : Value) (i : ℕ) (x : Value) → shape x ≡ shape (item v i) → shape (with_item v i x) ≡ shape v
 with_item-shape (Cell z) i x e = refl
-with_item-shape (Named p) i x e = refl
+with_item-shape (Named p u) i x e = refl
 with_item-shape (Open p k) i x e = refl
 with_item-shape Nothing i x e = refl
 with_item-shape (Beside v rest) zero x e = ap (λ y. Beside y (shape rest)) e
@@ -83,7 +84,7 @@ set-shape s (Part p i) v e = set-shape s p (with_item (get s p) i v) (with_item-
 
 pub before-shape : (v : Value) (i : ℕ) → before (shape v) i ≡ before v i
 before-shape (Cell z) i = refl
-before-shape (Named p) i = refl
+before-shape (Named p u) i = refl
 before-shape (Open p k) i = refl
 before-shape Nothing i = refl
 before-shape (Beside v rest) zero = refl
@@ -99,21 +100,21 @@ leads-shape s (Part p i) h = (leads-shape s p h.0, omega (arith, h.1, ap count (
 
 pub shape-append : (s t : Value) → shape (append s t) ≡ append (shape s) (shape t)
 shape-append (Cell z) t = refl
-shape-append (Named p) t = refl
+shape-append (Named p u) t = refl
 shape-append (Open p k) t = refl
 shape-append Nothing t = refl
 shape-append (Beside v rest) t = ap (Beside (shape v)) (shape-append rest t)
 
 pub row-shape : (s : Value) → IsRow (shape s) → IsRow s
 row-shape (Cell z) r = r
-row-shape (Named p) r = r
+row-shape (Named p u) r = r
 row-shape (Open p k) r = r
 row-shape Nothing r = r
 row-shape (Beside v rest) r = row-shape rest r
 
 pub shape-row : (s : Value) → IsRow s → IsRow (shape s)
 shape-row (Cell z) r = r
-shape-row (Named p) r = r
+shape-row (Named p u) r = r
 shape-row (Open p k) r = r
 shape-row Nothing r = r
 shape-row (Beside v rest) r = shape-row rest r
@@ -130,7 +131,7 @@ pub record Slice (whole : List ℤ) (at : ℕ) (now : Value) (again : Value → 
 
 pub item_slice : (v : Value) (i : ℕ) → i < count v → Slice (image v) (before v i) (item v i) (λ x. image (with_item v i x))
 item_slice (Cell z) i lt = absurd (omega arith)
-item_slice (Named p) i lt = absurd (omega arith)
+item_slice (Named p u) i lt = absurd (omega arith)
 item_slice (Open p k) i lt = absurd (omega arith)
 item_slice Nothing i lt = absurd (omega arith)
 item_slice (Beside v rest) zero lt = record { pre = []; post = image rest; far = refl; stands = refl; changed = λ x. refl }
@@ -163,21 +164,21 @@ place_slice s (Part p i) lead =
 
 pub cell_is : (v : Value) → shape v ≡ Cell (pos 0) → v ≡ Cell (number v)
 cell_is (Cell z) e = refl
-cell_is (Named p) e = absurd (let x : Named p ≡ Cell (pos 0) = e in cc)
+cell_is (Named p u) e = absurd (let x : Named p u ≡ Cell (pos 0) = e in cc)
 cell_is (Open p k) e = absurd (let x : Open p k ≡ Cell (pos 0) = e in cc)
 cell_is Nothing e = absurd (let x : Nothing ≡ Cell (pos 0) = e in cc)
 cell_is (Beside a b) e = absurd (let x : Beside (shape a) (shape b) ≡ Cell (pos 0) = e in cc)
 
-pub name_is : (v : Value) (q : Place) → shape v ≡ Named q → v ≡ Named q
-name_is (Cell z) q e = absurd (let x : Cell (pos 0) ≡ Named q = e in cc)
-name_is (Named p) q e = e
-name_is (Open p k) q e = absurd (let x : Open p k ≡ Named q = e in cc)
-name_is Nothing q e = absurd (let x : Nothing ≡ Named q = e in cc)
-name_is (Beside a b) q e = absurd (let x : Beside (shape a) (shape b) ≡ Named q = e in cc)
+pub name_is : (v : Value) (q : Place) (t : TypeNames) → shape v ≡ Named q t → v ≡ Named q t
+name_is (Cell z) q t e = absurd (let x : Cell (pos 0) ≡ Named q t = e in cc)
+name_is (Named p u) q t e = e
+name_is (Open p k) q t e = absurd (let x : Open p k ≡ Named q t = e in cc)
+name_is Nothing q t e = absurd (let x : Nothing ≡ Named q t = e in cc)
+name_is (Beside a b) q t e = absurd (let x : Beside (shape a) (shape b) ≡ Named q t = e in cc)
 
 pub open_is : (v : Value) (q : Place) (n : ℕ) → shape v ≡ Open q n → v ≡ Open q n
 open_is (Cell z) q n e = absurd (let x : Cell (pos 0) ≡ Open q n = e in cc)
-open_is (Named p) q n e = absurd (let x : Named p ≡ Open q n = e in cc)
+open_is (Named p u) q n e = absurd (let x : Named p u ≡ Open q n = e in cc)
 open_is (Open p k) q n e = e
 open_is Nothing q n e = absurd (let x : Nothing ≡ Open q n = e in cc)
 open_is (Beside a b) q n e = absurd (let x : Beside (shape a) (shape b) ≡ Open q n = e in cc)
@@ -191,8 +192,8 @@ shape_at s t p e = sym (get-shape t p) ∙ ap (λ y. get y p) e
 pub cell_at : (s t : Value) (p : Place) → shape t ≡ s → get s p ≡ Cell (pos 0) → get t p ≡ Cell (number (get t p))
 cell_at s t p e is = cell_is (get t p) (shape_at s t p e ∙ is)
 
-pub name_at : (s t : Value) (p q : Place) → shape t ≡ s → get s p ≡ Named q → get t p ≡ Named q
-name_at s t p q e is = name_is (get t p) q (shape_at s t p e ∙ is)
+pub name_at : (s t : Value) (p q : Place) (types : TypeNames) → shape t ≡ s → get s p ≡ Named q types → get t p ≡ Named q types
+name_at s t p q types e is = name_is (get t p) q types (shape_at s t p e ∙ is)
 
 pub open_at : (s t : Value) (p q : Place) (n : ℕ) → shape t ≡ s → get s p ≡ Open q n → get t p ≡ Open q n
 open_at s t p q n e is = open_is (get t p) q n (shape_at s t p e ∙ is)
@@ -252,42 +253,42 @@ keeps_shape s t p v e fits = set-shape t p v (fits ∙ sym (shape_at s t p e)) �
 
 pub count-append : (s t : Value) → count (append s t) ≡ count s + count t
 count-append (Cell z) t = omega arith
-count-append (Named p) t = omega arith
+count-append (Named p u) t = omega arith
 count-append (Open p k) t = omega arith
 count-append Nothing t = omega arith
 count-append (Beside v rest) t = omega (arith, count-append rest t)
 
 pub size-append : (s t : Value) → IsRow s → size (append s t) ≡ size s + size t
 size-append (Cell z) t r = absurd r
-size-append (Named p) t r = absurd r
+size-append (Named p u) t r = absurd r
 size-append (Open p k) t r = absurd r
 size-append Nothing t r = omega arith
 size-append (Beside v rest) t r = omega (arith, size-append rest t r)
 
 pub image-append : (s t : Value) → IsRow s → image (append s t) ≡ image s ++ image t
 image-append (Cell z) t r = absurd r
-image-append (Named p) t r = absurd r
+image-append (Named p u) t r = absurd r
 image-append (Open p k) t r = absurd r
 image-append Nothing t r = refl
 image-append (Beside v rest) t r = ap (λ l. image v ++ l) (image-append rest t r) ∙ sym (append_assoc (image v) (image rest) (image t))
 
 pub row-append : (s t : Value) → IsRow s → IsRow t → IsRow (append s t)
 row-append (Cell z) t r q = q
-row-append (Named p) t r q = q
+row-append (Named p u) t r q = q
 row-append (Open p k) t r q = q
 row-append Nothing t r q = q
 row-append (Beside v rest) t r q = row-append rest t r q
 
 pub append-assoc : (a b c : Value) → append (append a b) c ≡ append a (append b c)
 append-assoc (Cell z) b c = refl
-append-assoc (Named p) b c = refl
+append-assoc (Named p u) b c = refl
 append-assoc (Open p k) b c = refl
 append-assoc Nothing b c = refl
 append-assoc (Beside v rest) b c = ap (Beside v) (append-assoc rest b c)
 
 pub append-nothing : (a : Value) → IsRow a → append a Nothing ≡ a
 append-nothing (Cell z) r = absurd r
-append-nothing (Named p) r = absurd r
+append-nothing (Named p u) r = absurd r
 append-nothing (Open p k) r = absurd r
 append-nothing Nothing r = refl
 append-nothing (Beside v rest) r = ap (Beside v) (append-nothing rest r)
@@ -295,7 +296,7 @@ append-nothing (Beside v rest) r = ap (Beside v) (append-nothing rest r)
 -- what stood in the first row
 pub item-front : (s t : Value) (i : ℕ) → i < count s → item (append s t) i ≡ item s i
 item-front (Cell z) t i lt = absurd (omega arith)
-item-front (Named p) t i lt = absurd (omega arith)
+item-front (Named p u) t i lt = absurd (omega arith)
 item-front (Open p k) t i lt = absurd (omega arith)
 item-front Nothing t i lt = absurd (omega arith)
 item-front (Beside v rest) t zero lt = refl
@@ -303,7 +304,7 @@ item-front (Beside v rest) t (suc i) lt = item-front rest t i (omega arith)
 
 pub before-front : (s t : Value) (i : ℕ) → i < count s → before (append s t) i ≡ before s i
 before-front (Cell z) t i lt = absurd (omega arith)
-before-front (Named p) t i lt = absurd (omega arith)
+before-front (Named p u) t i lt = absurd (omega arith)
 before-front (Open p k) t i lt = absurd (omega arith)
 before-front Nothing t i lt = absurd (omega arith)
 before-front (Beside v rest) t zero lt = refl
@@ -312,17 +313,17 @@ before-front (Beside v rest) t (suc i) lt = omega (arith, before-front rest t i 
 -- and what comes first in the second
 pub item-next : (s v rest : Value) → IsRow s → item (append s (Beside v rest)) (count s) ≡ v
 item-next (Cell z) v rest r = absurd r
-item-next (Named p) v rest r = absurd r
+item-next (Named p u) v rest r = absurd r
 item-next (Open p k) v rest r = absurd r
 item-next Nothing v rest r = refl
 item-next (Beside u s) v rest r = item-next s v rest r
 
 pub before-next : (s t : Value) → IsRow s → before (append s t) (count s) ≡ size s
 before-next (Cell z) t r = absurd r
-before-next (Named p) t r = absurd r
+before-next (Named p u) t r = absurd r
 before-next (Open p k) t r = absurd r
 before-next Nothing (Cell z) r = refl
-before-next Nothing (Named p) r = refl
+before-next Nothing (Named p u) r = refl
 before-next Nothing (Open p k) r = refl
 before-next Nothing Nothing r = refl
 before-next Nothing (Beside v rest) r = refl
@@ -355,14 +356,14 @@ grows s own r = image-append s (Beside own Nothing) r ∙ ap (λ l. image s ++ l
 pub first-shape : (k : ℕ) (v : Value) → shape (first k v) ≡ first k (shape v)
 first-shape zero v = refl
 first-shape (suc k) (Cell z) = refl
-first-shape (suc k) (Named p) = refl
+first-shape (suc k) (Named p u) = refl
 first-shape (suc k) (Open p n) = refl
 first-shape (suc k) Nothing = refl
 first-shape (suc k) (Beside v rest) = ap (Beside (shape v)) (first-shape k rest)
 
 pub first-append : (s t : Value) → IsRow s → first (count s) (append s t) ≡ s
 first-append (Cell z) t r = absurd r
-first-append (Named p) t r = absurd r
+first-append (Named p u) t r = absurd r
 first-append (Open p k) t r = absurd r
 first-append Nothing t r = refl
 first-append (Beside v rest) t r = ap (Beside v) (first-append rest t r)
@@ -370,7 +371,7 @@ first-append (Beside v rest) t r = ap (Beside v) (first-append rest t r)
 first-image : (k : ℕ) (v : Value) → (more : List ℤ) × (image v ≡ image (first k v) ++ more)
 first-image zero v = (image v, refl)
 first-image (suc k) (Cell z) = (z ∷ [], refl)
-first-image (suc k) (Named p) = ([], refl)
+first-image (suc k) (Named p u) = ([], refl)
 first-image (suc k) (Open p n) = ([], refl)
 first-image (suc k) Nothing = ([], refl)
 first-image (suc k) (Beside v rest) =
@@ -417,7 +418,7 @@ shape-row_of (suc n) v e = let r = shape-row_of n v e in cc
 
 pub before-within : (v : Value) (i : ℕ) → before v i + size (item v i) ≤ size v
 before-within (Cell z) i = omega arith
-before-within (Named p) i = omega arith
+before-within (Named p u) i = omega arith
 before-within (Open p k) i = omega arith
 before-within Nothing i = omega arith
 before-within (Beside v rest) zero = omega arith

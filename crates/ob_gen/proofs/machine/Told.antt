@@ -36,9 +36,11 @@ use Rattle.ob_mean.specs.declared.statement.ForHead.{ForHead}
 use Rattle.ob_mean.specs.declared.statement.TypedStatement.{TypedStatement, Row_of-TypedStatement, end_of-TypedStatement, more_of-TypedStatement}
 use Rattle.ob_mean.specs.declared.statement.TypedStatement.TheBlock.{Row_of-Branch, end_of-Branch, more_of-Branch, Row_of-CaseArm, end_of-CaseArm, more_of-CaseArm}
 use Rattle.ob_mean.specs.declared.statement.TypedStatement.TheVariants.{Simple, If', Case', While', Repeat', For'}
+use Rattle.ob_mean.specs.declared.kind.RecordKind.{RecordKind}
+use Rattle.ob_mean.specs.RecordTypes.{cells_of as record_cells}
 use Rattle.ob_mean.specs.Values.{Value, append, count, size, item, before, row}
 use Rattle.ob_mean.specs.Shapes.{zero_of, zeros, opening_row}
-use Rattle.ob_mean.specs.WellFormed.{face_object, own_object, Object, Of, OpenOf, Names, is_there, object_of, variable_object, elements_in, called, named_object, IsBasic, IsText, ExprFits, ExprsFit, OperationsFit, IndexesFit, IsPassed, RowPassed, ListPassed, IsRead, InputFits, OutputFits, ActionFits, HeadFits, StatFits, StatsFit, BranchesFit, ArmsFit, ListFits, ResultFits, ShapesFit, VariablesFit, FacesFit, names_in, names_of, ProceduresFit, IsWellFormed}
+use Rattle.ob_mean.specs.WellFormed.{face_object, own_object, Object, Of, OpenOf, Names, is_there, object_of, variable_object, elements_in, called, named_object, is_extended, is_told_variable, is_told, KindFits, base_object, IsBasic, IsText, ExprFits, ExprsFit, OperationsFit, IndexesFit, IsPassed, RowPassed, ListPassed, IsRead, InputFits, OutputFits, ActionFits, HeadFits, StatFits, StatsFit, BranchesFit, ArmsFit, ListFits, ResultFits, ShapesFit, VariablesFit, FacesFit, names_in, names_of, ProceduresFit, IsWellFormed}
 use Rattle.ob_code.specs.declared.kinds.Kind.{Kind}
 use Rattle.ob_code.specs.declared.kinds.Kind.TheVariants.{Number, UpTo, Inside, Guarded as InRecord, Absent}
 use Rattle.ob_code.specs.declared.kinds.Known.{Known}
@@ -56,19 +58,17 @@ use Rattle.ob_code.specs.declared.instr.Entry.{Entry}
 use Rattle.ob_code.specs.declared.instr.Procedure.{Procedure}
 use Rattle.ob_code.specs.declared.instr.CodeModule.{CodeModule}
 use Rattle.ob_code.specs.Valid.{entry_of}
-use Rattle.ob_code.specs.Kinds.{Kinds, NameKinds, Rows, Covers, LieAmong, LieInElement, LieInRecord, LieInName, Lie, IsLong, ArrayLies, TextLies, TargetLies, LengthIs, IsFew as FewCells, ArePassed, literal, low, inside, in_record, moved, element, operands_of, names_of as passed_names, entry_results, results_kinds, nothing, Arrives, known_at, Keeps, HasKinds, IsMeasured}
-use Rattle.ob_gen.specs.Code.{line, extent_at, parameter_row, own_row, face_row, root_of, root_in, zero_in, zero_element, cells_of, length_in, length_of, span_of, element_cells, and_code, or_code, value_one, name_one, row_values, row_names, list_values, list_names, read_code, expr_code, offset_code, operations_code, every_code, either_code, argument_code, arguments_code, passed_code, target_of, input_code, output_code, assign_code, action_code, Guarded, loop_code, for_relation, for_guard, for_step, for_code, stat_code, stats_code, branches, arms_code, list_code, result_code, procedure_code, named_before, name_number}
+use Rattle.ob_code.specs.Kinds.{Kinds, NameKinds, Rows, Covers, LieAmong, LieInElement, LieInRecord, LieInName, Lie, IsLong, ArrayLies, TextLies, TargetLies, LengthIs, IsFew as FewCells, ArePassed, literal, low, inside, in_record, moved, guarded, TellsType, element, operands_of, names_of as passed_names, entry_results, results_kinds, nothing, Arrives, known_at, Keeps, HasKinds, IsMeasured}
+use Rattle.ob_gen.specs.Code.{line, name_in, base_cells, extent_at, parameter_row, own_row, face_row, root_of, root_in, zero_in, zero_element, cells_of, length_in, length_of, span_of, element_cells, and_code, or_code, value_one, name_one, row_values, row_names, list_values, list_names, read_code, expr_code, offset_code, operations_code, every_code, either_code, argument_code, arguments_code, passed_code, target_of, input_code, output_code, assign_code, action_code, Guarded, loop_code, for_relation, for_guard, for_step, for_code, stat_code, stats_code, branches, arms_code, list_code, result_code, procedure_code, named_before, name_number}
 use Rattle.ob_gen.specs.Correct.{named_count, name_kind, name_kinds, IsCodeOf, AreCompiled}
 use Rattle.ob_gen.specs.Generated.{valued_count, heading_entry, IsGenerated}
 use Rattle.ob_gen.proofs.machine.Store.{before-within, count-row, size-row}
-use Rattle.ob_gen.proofs.machine.Places.{some_same, not_open, closed_module, closed_shape, closed_face, closed_own, shape_some, elements_some, field_some, field_is}
+use Rattle.ob_gen.proofs.machine.Places.{not_open, closed_module, closed_shape, closed_face, closed_own, shape_some, elements_some, told_object, told_root}
+use Rattle.ob_gen.proofs.machine.Records.{some_same, of_same, field_some, field_is, base_size, record_size, types_at_most}
 use Rattle.ob_gen.proofs.machine.Few.{variables_few, own_few, faces_few}
 use Rattle.ob_gen.proofs.machine.Frames.{HeldAt, held_module, held_zeros}
 use Rattle.ob_gen.proofs.machine.Fitting.{row_counts, list_counts, valued, face_there, IsNamed, callee_entry, room_at, IsRoomy, named_in, generated_valid}
 use Rattle.ob_gen.proofs.machine.Telling.{push, number, with_results, cover_self, arrives_at, result, here, Tells, tells_none, tells_join, tells_more, tells_one, tells_choice, AllTell, first_tells, loop_tells, repeat_tells, arm_tells, whole_tells}
-
-of_same : (t u : Shape) → Of t ≡ Of u → t ≡ u
-of_same t u e = cc
 
 -- ---- numbers of cells
 
@@ -77,6 +77,7 @@ abbrev pub offset_kind : Names → Designator → Kind
 offset_kind names (designator.Whole v) = UpTo 0
 offset_kind names (designator.Element' g (more_of-Designator d end_of-Designator) l i row) = element (length_of names d) (element_cells names d) (offset_kind names d)
 offset_kind names (designator.Field' h (more_of-Designator d end_of-Designator) i) = moved (before (zero_in (object_of names d)) i) (offset_kind names d)
+offset_kind names (designator.Guarded' h (more_of-Designator d end_of-Designator) l kind levels) = guarded (name_in names d) (record_cells kind.names) (offset_kind names d)
 
 low_lies : (cells most size : ℕ) → most + size ≤ cells → cells < 2147483648 → LieAmong cells (low most) size
 low_lies cells most size le few = subst (λ b. LieAmong cells (if b then UpTo most else Number) size) (sym fits) le
@@ -126,6 +127,14 @@ moved_in_record x cells (Inside y whole most) n by size le few h = absurd h
 moved_in_record x cells (InRecord y more most) n by size le few h =
     subst (λ z. LieInRecord x cells (in_record z more (most + by)) size) (sym h.0) (more_in_record x cells more (most + by) size (omega (arith, le, h.1)))
 moved_in_record x cells Absent n by size le few h = tt
+
+-- fewer cells
+fewer_in_record : (x cells : ℕ) (k : Kind) (n size : ℕ) → size ≤ n → LieInRecord x cells k n → LieInRecord x cells k size
+fewer_in_record x cells Number n size le h = absurd h
+fewer_in_record x cells (UpTo most) n size le h = omega (arith, le, h)
+fewer_in_record x cells (Inside y whole most) n size le h = absurd h
+fewer_in_record x cells (InRecord y more most) n size le h = (h.0, omega (arith, le, h.1))
+fewer_in_record x cells Absent n size le h = tt
 
 moved_in_name : (o : Option NameKind) (x : ℕ) (k : Kind) (n by size : ℕ) → by + size ≤ n → LieInName o x k n → LieInName o x (moved by k) size
 moved_in_name None x k n by size le h = absurd h
@@ -204,30 +213,55 @@ element_lies ns (root.Named x) (OfName y) size k few h =
 first_of : {A : Type 0} (x : A) (xs : List A) (y : ℕ) → slice_get (x ∷ xs) (1 + y) ≡ slice_get xs y
 first_of x xs y = let e : 1 + y ≡ suc y = omega arith in ap (slice_get (x ∷ xs)) e
 
--- the kind of the name that a parameter makes
-place_kind : (ps : List Parameter) (x : ℕ) (t : Shape) → named_object (slice_get ps x) ≡ Some (Of t) → slice_get (name_kinds ps) (named_before ps x) ≡ Some (Cells (size (zero_of t)))
-place_kind [] x t e = absurd (let n : None ≡ Some (Of t) = e in cc)
-place_kind (parameter.Value ∷ ps) zero t e = absurd (let n : None ≡ Some (Of t) = e in cc)
-place_kind (parameter.Place u ∷ ps) zero t e = ap (λ y. Some (Cells (size (zero_of y)))) (of_same u t (some_same (Of u) (Of t) e))
-place_kind (parameter.Open u ∷ ps) zero t e = absurd (let n : OpenOf u ≡ Of t = some_same (OpenOf u) (Of t) e in cc)
-place_kind (parameter.Value ∷ ps) (suc x) t e = let same : 0 + named_before ps x ≡ named_before ps x = omega arith in ap (slice_get (name_kinds ps)) same ∙ place_kind ps x t e
-place_kind (parameter.Place u ∷ ps) (suc x) t e = first_of (Cells (size (zero_of u))) (name_kinds ps) (named_before ps x) ∙ place_kind ps x t e
-place_kind (parameter.Open u ∷ ps) (suc x) t e = first_of (ArrayOf (size (zero_of u))) (name_kinds ps) (named_before ps x) ∙ place_kind ps x t e
+-- what a parameter names lies in what its name stands for
+place_lies : (ps : List Parameter) (x y : ℕ) (t : Shape) → named_object (slice_get ps x) ≡ Some (Of t) → LieInName (slice_get (name_kinds ps) (named_before ps x)) y (UpTo 0) (size (zero_of t))
+place_lies [] x y t e = absurd (let n : None ≡ Some (Of t) = e in cc)
+place_lies (parameter.Value ∷ ps) zero y t e = absurd (let n : None ≡ Some (Of t) = e in cc)
+place_lies (parameter.Place u ∷ ps) zero y t e = let same = ap (λ z. size (zero_of z)) (of_same u t (some_same (Of u) (Of t) e)) in λ few. omega (arith, same)
+place_lies (parameter.Extended u ∷ ps) zero y t e = let same = ap (λ z. size (zero_of z)) (of_same u t (some_same (Of u) (Of t) e)) in λ few. omega (arith, same)
+place_lies (parameter.Open u ∷ ps) zero y t e = absurd (let n : OpenOf u ≡ Of t = some_same (OpenOf u) (Of t) e in cc)
+place_lies (parameter.Value ∷ ps) (suc x) y t e =
+    let same : 0 + named_before ps x ≡ named_before ps x = omega arith in
+    subst (λ i. LieInName (slice_get (name_kinds ps) i) y (UpTo 0) (size (zero_of t))) (sym same) (place_lies ps x y t e)
+place_lies (parameter.Place u ∷ ps) (suc x) y t e =
+    subst (λ o. LieInName o y (UpTo 0) (size (zero_of t))) (sym (first_of (Cells (size (zero_of u))) (name_kinds ps) (named_before ps x))) (place_lies ps x y t e)
+place_lies (parameter.Open u ∷ ps) (suc x) y t e =
+    subst (λ o. LieInName o y (UpTo 0) (size (zero_of t))) (sym (first_of (ArrayOf (size (zero_of u))) (name_kinds ps) (named_before ps x))) (place_lies ps x y t e)
+place_lies (parameter.Extended u ∷ ps) (suc x) y t e =
+    subst (λ o. LieInName o y (UpTo 0) (size (zero_of t))) (sym (first_of (RecordOf (size (zero_of u))) (name_kinds ps) (named_before ps x))) (place_lies ps x y t e)
+
+-- the name of one of which a type is told tells it
+told_kind : (ps : List Parameter) (x : ℕ) → is_extended (slice_get ps x) ≡ true → (n : ℕ) × (slice_get (name_kinds ps) (named_before ps x) ≡ Some (RecordOf n))
+told_kind [] x e = absurd (let n : false ≡ true = e in cc)
+told_kind (parameter.Value ∷ ps) zero e = absurd (let n : false ≡ true = e in cc)
+told_kind (parameter.Place u ∷ ps) zero e = absurd (let n : false ≡ true = e in cc)
+told_kind (parameter.Open u ∷ ps) zero e = absurd (let n : false ≡ true = e in cc)
+told_kind (parameter.Extended u ∷ ps) zero e = (size (zero_of u), refl)
+told_kind (parameter.Value ∷ ps) (suc x) e =
+    let same : 0 + named_before ps x ≡ named_before ps x = omega arith in
+    let k = told_kind ps x e in
+    (k.0, ap (slice_get (name_kinds ps)) same ∙ k.1)
+told_kind (parameter.Place u ∷ ps) (suc x) e = let k = told_kind ps x e in (k.0, first_of (Cells (size (zero_of u))) (name_kinds ps) (named_before ps x) ∙ k.1)
+told_kind (parameter.Open u ∷ ps) (suc x) e = let k = told_kind ps x e in (k.0, first_of (ArrayOf (size (zero_of u))) (name_kinds ps) (named_before ps x) ∙ k.1)
+told_kind (parameter.Extended u ∷ ps) (suc x) e = let k = told_kind ps x e in (k.0, first_of (RecordOf (size (zero_of u))) (name_kinds ps) (named_before ps x) ∙ k.1)
 
 open_kind : (ps : List Parameter) (x : ℕ) (t : Shape) → named_object (slice_get ps x) ≡ Some (OpenOf t) → slice_get (name_kinds ps) (named_before ps x) ≡ Some (ArrayOf (size (zero_of t)))
 open_kind [] x t e = absurd (let n : None ≡ Some (OpenOf t) = e in cc)
 open_kind (parameter.Value ∷ ps) zero t e = absurd (let n : None ≡ Some (OpenOf t) = e in cc)
 open_kind (parameter.Place u ∷ ps) zero t e = absurd (let n : Of u ≡ OpenOf t = some_same (Of u) (OpenOf t) e in cc)
 open_kind (parameter.Open u ∷ ps) zero t e = let same : u ≡ t = (let n : OpenOf u ≡ OpenOf t = some_same (OpenOf u) (OpenOf t) e in cc) in ap (λ y. Some (ArrayOf (size (zero_of y)))) same
+open_kind (parameter.Extended u ∷ ps) zero t e = absurd (let n : Of u ≡ OpenOf t = some_same (Of u) (OpenOf t) e in cc)
 open_kind (parameter.Value ∷ ps) (suc x) t e = let same : 0 + named_before ps x ≡ named_before ps x = omega arith in ap (slice_get (name_kinds ps)) same ∙ open_kind ps x t e
 open_kind (parameter.Place u ∷ ps) (suc x) t e = first_of (Cells (size (zero_of u))) (name_kinds ps) (named_before ps x) ∙ open_kind ps x t e
 open_kind (parameter.Open u ∷ ps) (suc x) t e = first_of (ArrayOf (size (zero_of u))) (name_kinds ps) (named_before ps x) ∙ open_kind ps x t e
+open_kind (parameter.Extended u ∷ ps) (suc x) t e = first_of (RecordOf (size (zero_of u))) (name_kinds ps) (named_before ps x) ∙ open_kind ps x t e
 
 kinds_counted : (ps : List Parameter) → length (name_kinds ps) ≡ named_count ps
 kinds_counted [] = refl
 kinds_counted (parameter.Value ∷ ps) = let e = kinds_counted ps in omega (arith, e)
 kinds_counted (parameter.Place u ∷ ps) = let e = kinds_counted ps in omega (arith, e)
 kinds_counted (parameter.Open u ∷ ps) = let e = kinds_counted ps in omega (arith, e)
+kinds_counted (parameter.Extended u ∷ ps) = let e = kinds_counted ps in omega (arith, e)
 
 -- ---- variables
 
@@ -240,6 +274,7 @@ own_cells [] ts x t e = let h = held_zeros ts x (Of t) e in held_cells (zeros ts
 own_cells (parameter.Value ∷ ps) ts zero t e = let same : Basic ≡ t = of_same Basic t (some_same (Of Basic) (Of t) e) in ap (λ y. size (zero_of y)) (sym same)
 own_cells (parameter.Place u ∷ ps) ts zero t e = absurd (let n : None ≡ Some (Of t) = e in cc)
 own_cells (parameter.Open u ∷ ps) ts zero t e = absurd (let n : None ≡ Some (Of t) = e in cc)
+own_cells (parameter.Extended u ∷ ps) ts zero t e = absurd (let n : None ≡ Some (Of t) = e in cc)
 own_cells (p ∷ ps) ts (suc x) t e = own_cells ps ts x t e
 
 -- each variable of modules and calls has so few cells
@@ -295,8 +330,8 @@ module _ (names : Names) (m : CodeModule) (f : Procedure) (known : IsNamed names
       subst (λ o. LieAmong (extent_at (face_row o) x).cells (UpTo 0) (size (zero_of t))) (sym face.1) (omega (arith, s))
   variable_lies (variable.OfProcedure x) t e = let s = own_cells names.parameters names.own x t e in omega (arith, s)
   variable_lies (variable.ByParameter x) t e =
-      let kind = ap (λ ks. slice_get ks (named_before names.parameters x)) known.kinds ∙ place_kind names.parameters x t e in
-      subst (λ o. LieInName o (named_before names.parameters x) (UpTo 0) (size (zero_of t))) (sym kind) (λ few. omega arith)
+      let y = named_before names.parameters x in
+      subst (λ ks. LieInName (slice_get ks y) y (UpTo 0) (size (zero_of t))) (sym known.kinds) (place_lies names.parameters x y t e)
 
   -- an open array stands at the first cell of a name
   open_stands : (d : Designator) (t : Shape) → object_of names d ≡ Some (OpenOf t) → (x : ℕ) × (root_in names d ≡ root.Named x) × (slice_get own x ≡ Some (ArrayOf (size (zero_of t)))) × (offset_kind names d ≡ UpTo 0)
@@ -310,6 +345,44 @@ module _ (names : Names) (m : CodeModule) (f : Procedure) (known : IsNamed names
       let p = field_some (object_of names d) i (OpenOf t) e in
       let k = field_is p.0 i (OpenOf t) p.2 in
       absurd (not_open k.kind t (sym k.object))
+  open_stands (designator.Guarded' h (more_of-Designator d end_of-Designator) l kind levels) t e = absurd (not_open kind.shape t (some_same _ _ e))
+
+  -- ---- what is told
+
+  told_name_of : (v : Variable) → is_told_variable names v ≡ true → (n : ℕ) × (slice_get own (name_number (root_of names v)) ≡ Some (RecordOf n))
+  told_name_of (variable.OfModule x) t = absurd (let n : false ≡ true = t in cc)
+  told_name_of (variable.OfImport i x) t = absurd (let n : false ≡ true = t in cc)
+  told_name_of (variable.OfProcedure x) t = absurd (let n : false ≡ true = t in cc)
+  told_name_of (variable.ByParameter x) t =
+      let k = told_kind names.parameters x t in
+      (k.0, ap (λ ks. slice_get ks (named_before names.parameters x)) known.kinds ∙ k.1)
+
+  told_name : (d : Designator) → is_told names d ≡ true → (n : ℕ) × (slice_get own (name_in names d) ≡ Some (RecordOf n))
+  told_name (designator.Whole v) t = told_name_of v t
+  told_name (designator.Element' g d l h row) t = absurd (let n : false ≡ true = t in cc)
+  told_name (designator.Field' h d i) t = absurd (let n : false ≡ true = t in cc)
+  told_name (designator.Guarded' h (more_of-Designator d end_of-Designator) l kind levels) t = told_name d t
+
+  tells_type : (d : Designator) → is_told names d ≡ true → TellsType (slice_get own (name_in names d))
+  tells_type d t = subst TellsType (sym (told_name d t).1) tt
+
+  -- a guard finds its record at the first cell of the name
+  guarded_start : (d : Designator) (x cells : ℕ) → is_told names d ≡ true → guarded x cells (offset_kind names d) ≡ InRecord x cells 0
+  guarded_start (designator.Whole v) x cells t = refl
+  guarded_start (designator.Element' g d l h row) x cells t = absurd (let n : false ≡ true = t in cc)
+  guarded_start (designator.Field' h d i) x cells t = absurd (let n : false ≡ true = t in cc)
+  guarded_start (designator.Guarded' h (more_of-Designator d end_of-Designator) l kind levels) x cells t =
+      ap (guarded x cells) (guarded_start d (name_in names d) (record_cells kind.names) t)
+
+  guard_lies : (d : Designator) (kind : RecordKind) → is_told names d ≡ true → KindFits kind → Lie own (root_in names d) (guarded (name_in names d) (record_cells kind.names) (offset_kind names d)) (size (zero_of kind.shape))
+  guard_lies d kind t fits =
+      let x = name_in names d in
+      let n = told_name d t in
+      let cells = record_size kind fits in
+      let lies : LieInName (Some (RecordOf n.0)) x (InRecord x (record_cells kind.names) 0) (size (zero_of kind.shape)) = λ few. (refl, omega (arith, cells)) in
+      subst (λ r. Lie own r (guarded x (record_cells kind.names) (offset_kind names d)) (size (zero_of kind.shape))) (sym (told_root names d t))
+      (subst (λ k. LieInName (slice_get own x) x k (size (zero_of kind.shape))) (sym (guarded_start d x (record_cells kind.names) t))
+      (subst (λ o. LieInName o x (InRecord x (record_cells kind.names) 0) (size (zero_of kind.shape))) (sym n.1) lies))
 
   variable_low : (v : Variable) → FewCells (root_of names v)
   variable_low (variable.OfModule x) = let c = variables_few names.variables x few.variables in omega (arith, c)
@@ -321,6 +394,7 @@ module _ (names : Names) (m : CodeModule) (f : Procedure) (known : IsNamed names
   root_low (designator.Whole v) = variable_low v
   root_low (designator.Element' g (more_of-Designator d end_of-Designator) l h row) = root_low d
   root_low (designator.Field' h (more_of-Designator d end_of-Designator) i) = root_low d
+  root_low (designator.Guarded' h (more_of-Designator d end_of-Designator) l kind levels) = root_low d
 
   -- ---- designators
 
@@ -342,25 +416,37 @@ module _ (names : Names) (m : CodeModule) (f : Procedure) (known : IsNamed names
         subst (Covers (UpTo 0)) (sym x.3) (omega arith),
       )
 
-  offset_lies : (d : Designator) (t : Shape) → object_of names d ≡ Some (Of t) → Lie own (root_in names d) (offset_kind names d) (size (zero_of t))
-  offset_lies (designator.Whole v) t e = variable_lies v t e
-  offset_lies (designator.Element' g (more_of-Designator d end_of-Designator) l i row) t e =
+  offset_lies : (d : Designator) (t : Shape) → IndexesFit names d → object_of names d ≡ Some (Of t) → Lie own (root_in names d) (offset_kind names d) (size (zero_of t))
+  offset_lies (designator.Whole v) t ty e = variable_lies v t e
+  offset_lies (designator.Element' g (more_of-Designator d end_of-Designator) l i (more_of-TypedExpr index end_of-TypedExpr)) t ty e =
       let u = shape_some (elements_in (object_of names d)) (Of t) e in
       let o = elements_some (object_of names d) u.0 u.1 in
       let inside : elements_in (Some o.0) ≡ Some u.0 = ap elements_in (sym o.1) ∙ u.1 in
-      let lies = array_of d o.0 u.0 o.1 inside (λ w same. offset_lies d w (o.1 ∙ ap Some same)) in
+      let lies = array_of d o.0 u.0 o.1 inside (λ w same. offset_lies d w ty.0 (o.1 ∙ ap Some same)) in
       let cells : size (zero_of u.0) ≡ element_cells names d = ap (λ x. size (zero_element x)) (sym u.1) in
       let same : size (zero_of u.0) ≡ size (zero_of t) = ap (λ y. size (zero_of y)) (sym (of_same t u.0 u.2)) in
       subst (Lie own (root_in names d) (element (length_of names d) (element_cells names d) (offset_kind names d))) (sym cells ∙ same)
       (element_lies own (root_in names d) (length_of names d) (element_cells names d) (offset_kind names d) (root_low d)
       (subst (λ s. ArrayLies own (root_in names d) (length_of names d) s (offset_kind names d)) cells lies))
-  offset_lies (designator.Field' g (more_of-Designator d end_of-Designator) i) t e =
+  offset_lies (designator.Field' g (more_of-Designator d end_of-Designator) i) t ty e =
       let w = field_some (object_of names d) i (Of t) e in
       let k = field_is w.0 i (Of t) w.2 in
       let by : before (zero_in (object_of names d)) i ≡ before (zero_of w.0) i = ap (λ o. before (zero_in o) i) w.1 in
       let cells : size (zero_of t) ≡ size (item (zero_of w.0) i) = ap (λ y. size (zero_of y)) (of_same t k.kind k.object) ∙ ap size (sym k.is) in
       let within = before-within (zero_of w.0) i in
-      moved_lies own (root_in names d) (offset_kind names d) (size (zero_of w.0)) (before (zero_in (object_of names d)) i) (size (zero_of t)) (omega (arith, by, cells, within)) (root_low d) (offset_lies d w.0 w.1)
+      moved_lies own (root_in names d) (offset_kind names d) (size (zero_of w.0)) (before (zero_in (object_of names d)) i) (size (zero_of t)) (omega (arith, by, cells, within)) (root_low d) (offset_lies d w.0 ty w.1)
+  offset_lies (designator.Guarded' g (more_of-Designator d end_of-Designator) l kind levels) t ty e =
+      subst (λ u. Lie own (root_in names d) (guarded (name_in names d) (record_cells kind.names) (offset_kind names d)) (size (zero_of u))) (of_same kind.shape t (some_same _ _ e))
+      (guard_lies d kind ty.1 ty.2)
+
+  -- a part of what a name stands for, which begins with it
+  again_lies : (d : Designator) (t : Shape) (n : ℕ) → is_told names d ≡ true → n ≤ size (zero_of t) → Lie own (root_in names d) (offset_kind names d) (size (zero_of t)) → Lie own (root.Named (name_in names d)) (offset_kind names d) n
+  again_lies d t n is le h =
+      let x = name_in names d in
+      let k = told_name d is in
+      let whole : LieInName (slice_get own x) x (offset_kind names d) (size (zero_of t)) = subst (λ r. Lie own r (offset_kind names d) (size (zero_of t))) (told_root names d is) h in
+      let lies = subst (λ o. LieInName o x (offset_kind names d) (size (zero_of t))) k.1 whole in
+      subst (λ o. LieInName o x (offset_kind names d) n) (sym k.1) (λ few. fewer_in_record x k.0 (offset_kind names d) (size (zero_of t)) n le (lies few))
 
   -- the elements of an array that is indexed
   length_holds : (d : Designator) (o : Object) → object_of names d ≡ Some o → LengthIs own (length_of names d) (element_cells names d)
@@ -371,29 +457,29 @@ module _ (names : Names) (m : CodeModule) (f : Procedure) (known : IsNamed names
       subst (λ o. LengthIs own (length_in o (root_in names d)) (element_cells names d)) (sym e)
       (subst (λ r. slice_get own (name_number r) ≡ Some (ArrayOf (element_cells names d))) (sym x.1) (x.2 ∙ ap (λ n. Some (ArrayOf n)) cells))
 
-  array_lies : (d : Designator) (u : Shape) → elements_in (object_of names d) ≡ Some u → ArrayLies own (root_in names d) (length_of names d) (size (zero_of u)) (offset_kind names d)
-  array_lies d u e =
+  array_lies : (d : Designator) (u : Shape) → IndexesFit names d → elements_in (object_of names d) ≡ Some u → ArrayLies own (root_in names d) (length_of names d) (size (zero_of u)) (offset_kind names d)
+  array_lies d u ty e =
       let o = elements_some (object_of names d) u e in
-      array_of d o.0 u o.1 (ap elements_in (sym o.1) ∙ e) (λ w same. offset_lies d w (o.1 ∙ ap Some same))
+      array_of d o.0 u o.1 (ap elements_in (sym o.1) ∙ e) (λ w same. offset_lies d w ty (o.1 ∙ ap Some same))
 
-  named_lies : (d : Designator) (u : Shape) → elements_in (object_of names d) ≡ Some u → ArrayLies own (root_in names d) (length_of names d) (element_cells names d) (offset_kind names d)
-  named_lies d u e =
+  named_lies : (d : Designator) (u : Shape) → IndexesFit names d → elements_in (object_of names d) ≡ Some u → ArrayLies own (root_in names d) (length_of names d) (element_cells names d) (offset_kind names d)
+  named_lies d u ty e =
       let cells : size (zero_of u) ≡ element_cells names d = ap (λ x. size (zero_element x)) (sym e) in
-      subst (λ s. ArrayLies own (root_in names d) (length_of names d) s (offset_kind names d)) cells (array_lies d u e)
+      subst (λ s. ArrayLies own (root_in names d) (length_of names d) s (offset_kind names d)) cells (array_lies d u ty e)
 
-  cells_lie : (d : Designator) (t : Shape) → object_of names d ≡ Some (Of t) → Lie own (root_in names d) (offset_kind names d) (cells_of names d)
-  cells_lie d t e =
+  cells_lie : (d : Designator) (t : Shape) → IndexesFit names d → object_of names d ≡ Some (Of t) → Lie own (root_in names d) (offset_kind names d) (cells_of names d)
+  cells_lie d t ty e =
       let cells : size (zero_of t) ≡ cells_of names d = ap (λ o. size (zero_in o)) (sym e) in
-      subst (Lie own (root_in names d) (offset_kind names d)) cells (offset_lies d t e)
+      subst (Lie own (root_in names d) (offset_kind names d)) cells (offset_lies d t ty e)
 
-  text_lies : (d : Designator) → IsText (object_of names d) → TextLies own (span_of names d) (offset_kind names d)
-  text_lies d e = array_lies d Basic e
+  text_lies : (d : Designator) → IndexesFit names d → IsText (object_of names d) → TextLies own (span_of names d) (offset_kind names d)
+  text_lies d ty e = array_lies d Basic ty e
 
-  target_lies : (r : Reader) (d : Designator) → IsRead r (object_of names d) → (o : Object) × (object_of names d ≡ Some o) × TargetLies own (target_of names r d) (offset_kind names d)
-  target_lies reader.Char d e = (Of Basic, e, offset_lies d Basic e)
-  target_lies reader.Int d e = (Of Basic, e, offset_lies d Basic e)
-  target_lies reader.String d e = let x = elements_some (object_of names d) Basic e in (x.0, x.1, text_lies d e)
-  target_lies reader.Name d e = let x = elements_some (object_of names d) Basic e in (x.0, x.1, text_lies d e)
+  target_lies : (r : Reader) (d : Designator) → IndexesFit names d → IsRead r (object_of names d) → (o : Object) × (object_of names d ≡ Some o) × TargetLies own (target_of names r d) (offset_kind names d)
+  target_lies reader.Char d ty e = (Of Basic, e, offset_lies d Basic ty e)
+  target_lies reader.Int d ty e = (Of Basic, e, offset_lies d Basic ty e)
+  target_lies reader.String d ty e = let x = elements_some (object_of names d) Basic e in (x.0, x.1, text_lies d ty e)
+  target_lies reader.Name d ty e = let x = elements_some (object_of names d) Basic e in (x.0, x.1, text_lies d ty e)
 
   -- ---- code
 
@@ -465,20 +551,23 @@ module _ (names : Names) (m : CodeModule) (f : Procedure) (known : IsNamed names
 
   -- ---- expressions
 
-  read_tells : (h k : ℕ) (ks : Known) (d : Designator) (offset : List Line) → IsBasic (object_of names d) → Leads offset ks (push (offset_kind names d) ks) → Leads (read_code names h k d offset) ks (push Number ks)
-  read_tells h k ks (designator.Whole v) offset basic t =
+  read_tells : (h k : ℕ) (ks : Known) (d : Designator) (offset : List Line) → IndexesFit names d → IsBasic (object_of names d) → Leads offset ks (push (offset_kind names d) ks) → Leads (read_code names h k d offset) ks (push Number ks)
+  read_tells h k ks (designator.Whole v) offset ty basic t =
       one_tells h k (instr.Load (root_of names v)) ks (push Number ks) (λ rows pc behind. (omega arith, variable_lies v Basic basic, behind))
-  read_tells h k ks (designator.Element' g (more_of-Designator d end_of-Designator) l i row) offset basic t =
+  read_tells h k ks (designator.Element' g (more_of-Designator d end_of-Designator) l i row) offset ty basic t =
       let whole = designator.Element' g (more_of-Designator d end_of-Designator) l i row in
-      then_tells offset (h + 1) k (instr.LoadAt (root_in names d)) ks (push (offset_kind names whole) ks) (push Number ks) t (λ rows pc behind. (omega arith, offset_lies whole Basic basic, behind))
-  read_tells h k ks (designator.Field' g (more_of-Designator d end_of-Designator) i) offset basic t =
+      then_tells offset (h + 1) k (instr.LoadAt (root_in names d)) ks (push (offset_kind names whole) ks) (push Number ks) t (λ rows pc behind. (omega arith, offset_lies whole Basic ty basic, behind))
+  read_tells h k ks (designator.Field' g (more_of-Designator d end_of-Designator) i) offset ty basic t =
       let whole = designator.Field' g (more_of-Designator d end_of-Designator) i in
-      then_tells offset (h + 1) k (instr.LoadAt (root_in names d)) ks (push (offset_kind names whole) ks) (push Number ks) t (λ rows pc behind. (omega arith, offset_lies whole Basic basic, behind))
+      then_tells offset (h + 1) k (instr.LoadAt (root_in names d)) ks (push (offset_kind names whole) ks) (push Number ks) t (λ rows pc behind. (omega arith, offset_lies whole Basic ty basic, behind))
+  read_tells h k ks (designator.Guarded' g (more_of-Designator d end_of-Designator) l kind levels) offset ty basic t =
+      let whole = designator.Guarded' g (more_of-Designator d end_of-Designator) l kind levels in
+      then_tells offset (h + 1) k (instr.LoadAt (root_in names d)) ks (push (offset_kind names whole) ks) (push Number ks) t (λ rows pc behind. (omega arith, offset_lies whole Basic ty basic, behind))
 
   mutual
     expr_tells : (e : TypedExpr) (h k : ℕ) (ks : Known) → ExprFits names e → Leads (expr_code names h k e) ks (push Number ks)
     expr_tells (expr.Constant v) h k ks fit = one_tells h k (instr.Push v) ks (push Number ks) (λ rows pc behind. (omega arith, tt, arrives_at (known_at f rows (pc + 1)) (push Number ks) (push (literal v) ks) ((tt, cover_self ks.operands), refl) behind))
-    expr_tells (expr.Read d) h k ks fit = read_tells h k ks d (offset_code names h k d) fit.1 (offset_tells d h k ks fit.0 (Of Basic) fit.1)
+    expr_tells (expr.Read d) h k ks fit = read_tells h k ks d (offset_code names h k d) fit.0 fit.1 (offset_tells d h k ks fit.0 (Of Basic) fit.1)
     expr_tells expr.InputDone h k ks fit = one_tells h k instr.PushDone ks (push Number ks) (λ rows pc behind. (omega arith, tt, behind))
     expr_tells (expr.Unary' op l g (more_of-TypedExpr a end_of-TypedExpr)) h k ks fit =
         then_tells (expr_code names h k a) (h + 1) k (instr.Unary op l) ks (push Number ks) (push Number ks) (expr_tells a h k ks fit) (λ rows pc behind. (omega arith, tt, behind))
@@ -491,7 +580,7 @@ module _ (names : Names) (m : CodeModule) (f : Procedure) (known : IsNamed names
         let y = elements_some (object_of names b) Basic fit.3 in
         let one = push (offset_kind names a) ks in
         two_tells (offset_code names h k a) (offset_code names (h + 1) k b) (h + 2) k (instr.RelateTexts relation (span_of names a) (span_of names b)) ks one (push (offset_kind names b) one) (push Number ks)
-        (offset_tells a h k ks fit.0 x.0 x.1) (offset_tells b (h + 1) k one fit.1 y.0 y.1) (λ rows pc behind. (omega arith, (text_lies a fit.2, text_lies b fit.3), behind))
+        (offset_tells a h k ks fit.0 x.0 x.1) (offset_tells b (h + 1) k one fit.1 y.0 y.1) (λ rows pc behind. (omega arith, (text_lies a fit.0 fit.2, text_lies b fit.1 fit.3), behind))
     expr_tells (expr.Length d) h k ks fit =
         let x = elements_some (object_of names d) fit.1.0 fit.1.1 in
         then_tells (offset_code names h k d) (h + 1) k (instr.TakeLength (length_of names d)) ks (push (offset_kind names d) ks) (push Number ks) (offset_tells d h k ks fit.0 x.0 x.1) (λ rows pc behind. (omega arith, tt, behind))
@@ -501,6 +590,9 @@ module _ (names : Names) (m : CodeModule) (f : Procedure) (known : IsNamed names
         let counted : valued_count fit.0.parameters ≡ row_values args = omega (arith, counts.0, counts.1, values) in
         tells_join m f (arguments_code names h k args) _ ks (given (row_values args) (name_kinds fit.0.parameters) ks) (push Number ks) (arguments_tell args fit.0.parameters h k ks fit.3)
         (invoke_tells (h + row_values args) (k + row_names args) (row_values args) l g fit.0 true ks fit.1 fit.2 counted)
+    expr_tells (expr.Test d type) h k ks fit =
+        let o = told_object names d fit.1 in
+        then_tells (offset_code names h k d) (h + 1) k (instr.Test (name_in names d) type) ks (push (offset_kind names d) ks) (push Number ks) (offset_tells d h k ks fit.0 (Of o.0) o.1) (λ rows pc behind. (omega arith, tells_type d fit.1, behind))
 
     offset_tells : (d : Designator) (h k : ℕ) (ks : Known) → IndexesFit names d → (o : Object) → object_of names d ≡ Some o → Leads (offset_code names h k d) ks (push (offset_kind names d) ks)
     offset_tells (designator.Whole v) h k ks fit o e = value_tells 0 h k ks
@@ -514,6 +606,9 @@ module _ (names : Names) (m : CodeModule) (f : Procedure) (known : IsNamed names
         let t = field_some (object_of names d) i o e in
         let by = before (zero_in (object_of names d)) i in
         then_tells (offset_code names h k d) (h + 1) k (instr.AddOffset by) ks (push (offset_kind names d) ks) (push (moved by (offset_kind names d)) ks) (offset_tells d h k ks fit (Of t.0) t.1) (λ rows pc behind. (omega arith, tt, behind))
+    offset_tells (designator.Guarded' g (more_of-Designator d end_of-Designator) l kind levels) h k ks fit o e =
+        let t = told_object names d fit.1 in
+        then_tells (offset_code names h k d) (h + 1) k (instr.Guard (name_in names d) kind.names trap.Guard l) ks (push (offset_kind names d) ks) (push (guarded (name_in names d) (record_cells kind.names) (offset_kind names d)) ks) (offset_tells d h k ks fit.0 (Of t.0) t.1) (λ rows pc behind. (omega arith, tells_type d fit.1, behind))
 
     operations_tell : {n : _} (steps : Row_of-Operation n) (h k : ℕ) (ks : Known) → OperationsFit names steps → Leads (operations_code names h k steps) (push Number ks) (push Number ks)
     operations_tell end_of-Operation h k ks fit = tells_none m f (push Number ks)
@@ -536,18 +631,49 @@ module _ (names : Names) (m : CodeModule) (f : Procedure) (known : IsNamed names
     argument_tells (argument.Place d) (parameter.Place t) h k ks fit =
         let cells : cells_of names d ≡ size (zero_of t) = ap (λ o. size (zero_in o)) fit.1 in
         then_tells (offset_code names h k d) (h + 1) k (instr.NamePlace (root_in names d) (cells_of names d)) ks (push (offset_kind names d) ks) (given 0 (name_kind (parameter.Place t)) ks) (offset_tells d h k ks fit.0 (Of t) fit.1)
-        (λ rows pc behind. (omega arith, (cells_lie d t fit.1, root_low d), subst (λ n. Arrives (known_at f rows (pc + 1)) (given 0 (Cells n ∷ []) ks)) (sym cells) behind))
+        (λ rows pc behind. (omega arith, (cells_lie d t fit.0 fit.1, root_low d), subst (λ n. Arrives (known_at f rows (pc + 1)) (given 0 (Cells n ∷ []) ks)) (sym cells) behind))
     argument_tells (argument.Open d) (parameter.Open t) h k ks fit =
         let x = elements_some (object_of names d) t fit.1 in
         let cells : element_cells names d ≡ size (zero_of t) = ap (λ y. size (zero_element y)) fit.1 in
         then_tells (offset_code names h k d) (h + 1) k (instr.NameArray (root_in names d) (length_of names d) (element_cells names d)) ks (push (offset_kind names d) ks) (given 0 (name_kind (parameter.Open t)) ks) (offset_tells d h k ks fit.0 x.0 x.1)
-        (λ rows pc behind. (omega arith, (named_lies d t fit.1, root_low d), subst (λ n. Arrives (known_at f rows (pc + 1)) (given 0 (ArrayOf n ∷ []) ks)) (sym cells) behind))
+        (λ rows pc behind. (omega arith, (named_lies d t fit.0 fit.1, root_low d), subst (λ n. Arrives (known_at f rows (pc + 1)) (given 0 (ArrayOf n ∷ []) ks)) (sym cells) behind))
     argument_tells (argument.Value e) (parameter.Place t) h k ks fit = absurd fit
     argument_tells (argument.Value e) (parameter.Open t) h k ks fit = absurd fit
     argument_tells (argument.Place d) parameter.Value h k ks fit = absurd fit
     argument_tells (argument.Place d) (parameter.Open t) h k ks fit = absurd fit
     argument_tells (argument.Open d) parameter.Value h k ks fit = absurd fit
     argument_tells (argument.Open d) (parameter.Place t) h k ks fit = absurd fit
+    argument_tells (argument.Typed d kind levels) (parameter.Extended t) h k ks fit =
+        let many = base_cells names d levels in
+        let cells : many ≡ size (zero_of t) = ap (λ o. size (zero_in o)) fit.4 in
+        let whole = record_size kind fit.2 in
+        let less = base_size levels kind.shape t (ap (base_object levels) (sym fit.3) ∙ fit.4) in
+        then_tells (offset_code names h k d) (h + 1) k (instr.NameRecord (root_in names d) kind.names many) ks (push (offset_kind names d) ks) (given 0 (name_kind (parameter.Extended t)) ks) (offset_tells d h k ks fit.0 (Of kind.shape) fit.3)
+        (λ rows pc behind. (
+          omega arith,
+          (subst (Lie own (root_in names d) (offset_kind names d)) (sym whole) (offset_lies d kind.shape fit.0 fit.3), root_low d, omega (arith, cells, whole, less), types_at_most kind fit.2),
+          subst (λ n. Arrives (known_at f rows (pc + 1)) (given 0 (RecordOf n ∷ []) ks)) (sym cells) behind,
+        ))
+    argument_tells (argument.Again d levels) (parameter.Extended t) h k ks fit =
+        let many = base_cells names d levels in
+        let o = told_object names d fit.1 in
+        let cells : many ≡ size (zero_of t) = ap (λ o. size (zero_in o)) fit.2 in
+        let less = base_size levels o.0 t (ap (base_object levels) (sym o.1) ∙ fit.2) in
+        then_tells (offset_code names h k d) (h + 1) k (instr.NameAgain (name_in names d) many) ks (push (offset_kind names d) ks) (given 0 (name_kind (parameter.Extended t)) ks) (offset_tells d h k ks fit.0 (Of o.0) o.1)
+        (λ rows pc behind. (
+          omega arith,
+          (tells_type d fit.1, again_lies d o.0 many fit.1 (omega (arith, cells, less)) (offset_lies d o.0 fit.0 o.1)),
+          subst (λ n. Arrives (known_at f rows (pc + 1)) (given 0 (RecordOf n ∷ []) ks)) (sym cells) behind,
+        ))
+    argument_tells (argument.Value e) (parameter.Extended t) h k ks fit = absurd fit
+    argument_tells (argument.Place d) (parameter.Extended t) h k ks fit = absurd fit
+    argument_tells (argument.Open d) (parameter.Extended t) h k ks fit = absurd fit
+    argument_tells (argument.Typed d kind levels) parameter.Value h k ks fit = absurd fit
+    argument_tells (argument.Typed d kind levels) (parameter.Place t) h k ks fit = absurd fit
+    argument_tells (argument.Typed d kind levels) (parameter.Open t) h k ks fit = absurd fit
+    argument_tells (argument.Again d levels) parameter.Value h k ks fit = absurd fit
+    argument_tells (argument.Again d levels) (parameter.Place t) h k ks fit = absurd fit
+    argument_tells (argument.Again d levels) (parameter.Open t) h k ks fit = absurd fit
 
     arguments_tell : {n : _} (row : Row_of-Argument n) (ps : List Parameter) (h k : ℕ) (ks : Known) → RowPassed names row ps → Leads (arguments_code names h k row) ks (given (row_values row) (name_kinds ps) ks)
     arguments_tell end_of-Argument [] h k ks fit = subst (Leads [] ks) (given_none 0 ks) (tells_none m f ks)
@@ -587,11 +713,15 @@ module _ (names : Names) (m : CodeModule) (f : Procedure) (known : IsNamed names
   assign_tells (designator.Element' g d l i row) e indexes basic fit =
       let whole = designator.Element' g d l i row in
       uses_two (offset_code names 0 0 whole) (expr_code names 1 0 e) (instr.StoreAt (root_in names whole)) (offset_kind names whole) Number (offset_tells whole 0 0 nothing indexes (Of Basic) basic) (expr_tells e 1 0 (push (offset_kind names whole) nothing) fit)
-      (λ rows pc behind. (omega arith, offset_lies whole Basic basic, behind))
+      (λ rows pc behind. (omega arith, offset_lies whole Basic indexes basic, behind))
   assign_tells (designator.Field' g d i) e indexes basic fit =
       let whole = designator.Field' g d i in
       uses_two (offset_code names 0 0 whole) (expr_code names 1 0 e) (instr.StoreAt (root_in names whole)) (offset_kind names whole) Number (offset_tells whole 0 0 nothing indexes (Of Basic) basic) (expr_tells e 1 0 (push (offset_kind names whole) nothing) fit)
-      (λ rows pc behind. (omega arith, offset_lies whole Basic basic, behind))
+      (λ rows pc behind. (omega arith, offset_lies whole Basic indexes basic, behind))
+  assign_tells (designator.Guarded' g d l kind levels) e indexes basic fit =
+      let whole = designator.Guarded' g d l kind levels in
+      uses_two (offset_code names 0 0 whole) (expr_code names 1 0 e) (instr.StoreAt (root_in names whole)) (offset_kind names whole) Number (offset_tells whole 0 0 nothing indexes (Of Basic) basic) (expr_tells e 1 0 (push (offset_kind names whole) nothing) fit)
+      (λ rows pc behind. (omega arith, offset_lies whole Basic indexes basic, behind))
 
   -- a reader, and where it asks for a line
   reading_tells : (r : Reader) (d : Designator) (kind : Kind) → TargetLies own (target_of names r d) kind → Leads (line 1 0 instr.CallInput ∷ (line 1 0 (instr.Read (target_of names r d)) ∷ (line 1 0 instr.AskLine ∷ (line 1 0 instr.TakeLine ∷ [])))) (push kind nothing) nothing
@@ -622,7 +752,7 @@ module _ (names : Names) (m : CodeModule) (f : Procedure) (known : IsNamed names
   input_tells : (call : InputCall) → InputFits names call → Leads (input_code names call) nothing nothing
   input_tells incoming.Open fit = step_tells instr.OpenInput (λ rows pc behind. (omega arith, tt, behind))
   input_tells (incoming.Read r d) fit =
-      let t = target_lies r d fit.1 in
+      let t = target_lies r d fit.0 fit.1 in
       tells_join m f (offset_code names 0 0 d) _ nothing (push (offset_kind names d) nothing) nothing (offset_tells d 0 0 nothing fit.0 t.0 t.1) (reading_tells r d (offset_kind names d) t.2)
 
   output_tells : (call : OutputCall) → OutputFits names call → Leads (output_code names call) nothing nothing
@@ -630,7 +760,7 @@ module _ (names : Names) (m : CodeModule) (f : Procedure) (known : IsNamed names
   output_tells (outgoing.Char e) fit = uses_number (expr_code names 0 0 e) instr.PutChar (expr_tells e 0 0 nothing fit) (λ rows pc behind. (omega arith, tt, behind))
   output_tells (outgoing.String d) fit =
       let x = elements_some (object_of names d) Basic fit.1 in
-      uses_place (offset_code names 0 0 d) (instr.PutText (span_of names d)) (offset_kind names d) (offset_tells d 0 0 nothing fit.0 x.0 x.1) (λ rows pc behind. (omega arith, text_lies d fit.1, behind))
+      uses_place (offset_code names 0 0 d) (instr.PutText (span_of names d)) (offset_kind names d) (offset_tells d 0 0 nothing fit.0 x.0 x.1) (λ rows pc behind. (omega arith, text_lies d fit.0 fit.1, behind))
   output_tells (outgoing.Int e width) fit =
       uses_two (expr_code names 0 0 e) (expr_code names 1 0 width) instr.PutInt Number Number (expr_tells e 0 0 nothing fit.0) (expr_tells width 1 0 number fit.1) (λ rows pc behind. (omega arith, tt, behind))
   output_tells outgoing.Ln fit = step_tells instr.PutLine (λ rows pc behind. (omega arith, tt, behind))
@@ -641,13 +771,13 @@ module _ (names : Names) (m : CodeModule) (f : Procedure) (known : IsNamed names
       let t = fit.2.0 in
       let same : cells_of names e ≡ cells_of names d = ap (λ o. size (zero_in o)) (fit.2.2 ∙ sym fit.2.1) in
       uses_two (offset_code names 0 0 d) (offset_code names 1 0 e) (instr.Copy (root_in names d) (root_in names e) (cells_of names d)) (offset_kind names d) (offset_kind names e) (offset_tells d 0 0 nothing fit.0 (Of t) fit.2.1) (offset_tells e 1 0 (push (offset_kind names d) nothing) fit.1 (Of t) fit.2.2)
-      (λ rows pc behind. (omega arith, (cells_lie d t fit.2.1, subst (Lie own (root_in names e) (offset_kind names e)) same (cells_lie e t fit.2.2)), behind))
+      (λ rows pc behind. (omega arith, (cells_lie d t fit.0 fit.2.1, subst (Lie own (root_in names e) (offset_kind names e)) same (cells_lie e t fit.1 fit.2.2)), behind))
   action_tells (action.AssignText d l text) fit =
       let x = elements_some (object_of names d) Basic fit.1 in
-      uses_place (offset_code names 0 0 d) (instr.StoreText (span_of names d) text l) (offset_kind names d) (offset_tells d 0 0 nothing fit.0 x.0 x.1) (λ rows pc behind. (omega arith, text_lies d fit.1, behind))
+      uses_place (offset_code names 0 0 d) (instr.StoreText (span_of names d) text l) (offset_kind names d) (offset_tells d 0 0 nothing fit.0 x.0 x.1) (λ rows pc behind. (omega arith, text_lies d fit.0 fit.1, behind))
   action_tells (action.Adjust a d e) fit =
       uses_two (offset_code names 0 0 d) (expr_code names 1 0 e) (instr.AdjustAt a (root_in names d)) (offset_kind names d) Number (offset_tells d 0 0 nothing fit.0 (Of Basic) fit.1) (expr_tells e 1 0 (push (offset_kind names d) nothing) fit.2)
-      (λ rows pc behind. (omega arith, offset_lies d Basic fit.1, behind))
+      (λ rows pc behind. (omega arith, offset_lies d Basic fit.0 fit.1, behind))
   action_tells (action.Assert l e) fit = uses_number (expr_code names 0 0 e) (instr.Assert l) (expr_tells e 0 0 nothing fit) (λ rows pc behind. (omega arith, tt, behind))
   action_tells (action.Call g l args) fit =
       let counts = list_counts names args fit.0.parameters fit.3 in

@@ -73,5 +73,5 @@ returns-in_ok-planned-in-None-clause-found c = λ store.
     let links = ap (link_fault modules) (sym keyed) ∙ sym c.in_ok-name.ensures ∙ c.in-None.is in (
       answered modules store m checked rules_give ∙ ap (λ (x : Module). Ok (OfModule x)) (sym planned.ensures.same),
       loadable modules m.name.name loaded checked planned.planned c.requires.loaded (all_loaded loaded checked.imports _ ready.known) planned.ensures.same planned.ensures.compiled planned.ensures.faces links
-          (right modules m loaded checked c.requires.words c.requires.read.0 c.requires.read.1 c.requires.loaded c.in_ok-checked.ensures.found),
+          (right modules m loaded checked c.requires.words (subst EachSolid (sym c.requires.loaded) (each_solid modules modules m.name.name c.requires.solid)) c.requires.read.0 c.requires.read.1 c.requires.loaded c.in_ok-checked.ensures.found),
     )

@@ -5,7 +5,7 @@ use Rattle.ob_code.specs.declared.instr.Instr.TheVariants as instr
 use Rattle.ob_gen.specs.Code.{line, expr_code, read_code, offset_code, passed_code, list_values, list_names, root_in}
 use Rattle.ob_gen.specs.Emitted.{operations_list, every_list, either_list, holed, sides, side}
 use Rattle.ob_gen.specs.Known.{names_in}
-use Rattle.ob_gen.proofs.emitting.Trees.{unary_code, chain_code, every_tree_code, either_tree_code, function_code, element_emitted, field_emitted, element_root, field_root, element_object, field_object, element_read, field_read}
+use Rattle.ob_gen.proofs.emitting.Trees.{unary_code, chain_code, every_tree_code, either_tree_code, function_code, element_emitted, field_emitted, guarded_emitted, element_root, field_root, guarded_root, element_object, field_object, guarded_object, element_read, field_read, guarded_read}
 use Rattle.ob_gen.proofs.emitting.Lists.{one_more, code_done, ends_done, fills, fillable, closes, closable, either_leads}
 use Rattle.ob_gen.proofs.emit.+expressions.Goals as goal
 
@@ -117,6 +117,22 @@ emit_offset-returns-in_ok-put-in-Field-clause-object t c =
     ∙ ap (λ o. field_in o c.in-Field.number) (c.in_ok-found-in-Field.ensures.object ∙ ap (object_of N) c.get-in-Field.ensures)
     ∙ sym (field_object N c.in-Field.record c.in-Field.number) ∙ ap (object_of N) (sym c.in-Field.is)
 
+pub emit_offset-returns-in_ok-put-in-Guarded-clause-code : goal.emit_offset-returns-in_ok-put-in-Guarded-clause-code
+emit_offset-returns-in_ok-put-in-Guarded-clause-code t c =
+    guarded_emitted (names_in c.args.known.now) c.args.operands c.args.names c.args.code.now.items _ _ c.in-Guarded.record _ c.in-Guarded.line c.in-Guarded.kind _ _ _ _
+    c.in_ok-found-in-Guarded.ensures.code c.in_ok-put-in-Guarded.ensures.code c.in_ok-found-in-Guarded.ensures.root c.name_number-name.ensures c.in_ok-types-in-Guarded.ensures c.get-in-Guarded.ensures
+    ∙ ap (λ d. c.args.code.now.items ++ offset_code (names_in c.args.known.now) c.args.operands c.args.names d) (sym c.in-Guarded.is)
+
+pub emit_offset-returns-in_ok-put-in-Guarded-clause-root : goal.emit_offset-returns-in_ok-put-in-Guarded-clause-root
+emit_offset-returns-in_ok-put-in-Guarded-clause-root t c =
+    let N = names_in c.args.known.now in
+    c.in_ok-found-in-Guarded.ensures.root ∙ ap (root_in N) c.get-in-Guarded.ensures ∙ sym (guarded_root N c.in-Guarded.record c.in-Guarded.line c.in-Guarded.kind c.in-Guarded.field-3) ∙ ap (root_in N) (sym c.in-Guarded.is)
+
+pub emit_offset-returns-in_ok-put-in-Guarded-clause-object : goal.emit_offset-returns-in_ok-put-in-Guarded-clause-object
+emit_offset-returns-in_ok-put-in-Guarded-clause-object t c =
+    let N = names_in c.args.known.now in
+    sym (guarded_object N c.in-Guarded.record c.in-Guarded.line c.in-Guarded.kind c.in-Guarded.field-3) ∙ ap (object_of N) (sym c.in-Guarded.is)
+
 pub emit_read-returns-in_ok-found-in-Element-clause-code : goal.emit_read-returns-in_ok-found-in-Element-clause-code
 emit_read-returns-in_ok-found-in-Element-clause-code t c =
     let N = names_in c.args.known.now in
@@ -144,6 +160,20 @@ emit_read-returns-in_ok-found-in-Field-clause-code t c =
     ∙ ap (λ l. base ++ l) (sym (field_read N h k c.in-Field.field-0 c.in-Field.field-1 off))
     ∙ ap (λ d. base ++ read_code N h k d off) (sym c.in-Field.is))
     c.put-in-Field.ensures.code
+
+pub emit_read-returns-in_ok-found-in-Guarded-clause-code : goal.emit_read-returns-in_ok-found-in-Guarded-clause-code
+emit_read-returns-in_ok-found-in-Guarded-clause-code t c =
+    let N = names_in c.args.known.now in
+    let h = c.args.operands in
+    let k = c.args.names in
+    let base = c.args.code.now.items in
+    let off = offset_code N h k c.args.d.now in
+    subst (λ l. OnOk c.put-in-Guarded.result (c.put-in-Guarded.new.code.items ≡ l))
+    (one_more base off _ (line (h + 1) k (instr.LoadAt c.in_ok-found-in-Guarded.found.root)) c.in_ok-found-in-Guarded.ensures.code
+    ∙ ap (λ r. base ++ (off ++ line (h + 1) k (instr.LoadAt r) ∷ [])) (c.in_ok-found-in-Guarded.ensures.root ∙ ap (root_in N) c.in-Guarded.is)
+    ∙ ap (λ l. base ++ l) (sym (guarded_read N h k c.in-Guarded.field-0 c.in-Guarded.field-1 c.in-Guarded.field-2 c.in-Guarded.field-3 off))
+    ∙ ap (λ d. base ++ read_code N h k d off) (sym c.in-Guarded.is))
+    c.put-in-Guarded.ensures.code
 
 pub emit_either-lead_to_end-requires : goal.emit_either-lead_to_end-requires
 emit_either-lead_to_end-requires t c =

@@ -17,3 +17,8 @@ pub returns-in-Open : goal.returns-in-Open
 returns-in-Open c =
     sym (own_first c.args.parameters.now c.args.own.now c.args.number c.index-parameters-number.result c.if-number-parameters.false
     ∙ ap value_object (sym c.index-parameters-number.is ∙ c.in-Open.is))
+
+pub returns-in-Extended : goal.returns-in-Extended
+returns-in-Extended c =
+    sym (own_first c.args.parameters.now c.args.own.now c.args.number c.index-parameters-number.result c.if-number-parameters.false
+    ∙ ap value_object (sym c.index-parameters-number.is ∙ c.in-Extended.is))

@@ -41,4 +41,4 @@ returns c =
     let run = c.start-run.result in
     ap (λ (ls : List Line). stands_at ms (store_of ms c.of-opening.result.value.items) (Body b.number) ls run false false) c.none.ensures
     ∙ ap (λ (v : Vec ℤ Global). stands_at ms (store_of ms v.items) (Body b.number) [] run false false) c.of-opening.ensures
-    ∙ begun_at ms c.args.known.items c.args.code.items b c.requires.may c.of-image.result c.of-image.ensures run c.start-run.ensures.fits c.start-run.ensures.begins c.start-run.ensures.used
+    ∙ begun_at ms c.args.known.items c.args.code.items b c.requires.may c.of-image.result c.of-image.ensures run c.start-run.ensures.fits c.start-run.ensures.begins c.start-run.ensures.used c.requires.said

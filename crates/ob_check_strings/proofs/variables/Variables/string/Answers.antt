@@ -1,4 +1,4 @@
-use Rattle.std.proofs.Common.{rules, ◌≡◌, ◌∙◌, sym, ap, subst, None, Some, IfOk, List, ℕ, Option}
+use Rattle.std.proofs.Common.{rules, ◌≡◌, ◌∙◌, sym, ap, subst, None, Some, IfOk}
 use Rattle.std.specs.Option.{option_copied}
 use Rattle.ob_check_strings.specs.declared.variables.Written.{Written}
 use Rattle.ob_check_strings.specs.Strings as spec

@@ -1,0 +1,4 @@
+pub mod ShapeForms
+pub mod DeclarableForms
+pub mod KindForms
+pub mod KindFits

@@ -1,0 +1,104 @@
+//! Types that a declaration can make.
+
+ghost use Rattle.std.specs.Prelude.{◌≡◌, ◌&&◌, nat_le};
+ghost use Rattle.std.specs.List.{list_all};
+ghost use Rattle.ob_types.specs.Types.{max_cells};
+ghost use Rattle.ob_check_kinds.specs.Declarable as spec;
+
+use ob_base::Text;
+use ob_types::{Field, MAX_CELLS, ObType, RecordName, is_admitted};
+
+fn is_word(name: &Text) -> bool
+    ensures { result ≡ spec.is_word name.now }
+{
+    for c in name.as_slice() {
+        if !c.is_ascii_alphanumeric() {
+            return false;
+        }
+    }
+    true
+}
+
+fn all_words(names: &[Text]) -> bool
+    ensures { result ≡ list_all spec.is_word names.now }
+{
+    for name in names {
+        if !is_word(name) {
+            return false;
+        }
+    }
+    true
+}
+
+fn are_words(name: &RecordName) -> bool
+    ensures { result ≡ spec.are_words name.now }
+{
+    is_word(&name.module_name) && all_words(name.enclosing.as_slice()) && is_word(&name.declared)
+}
+
+fn is_record(of: &ObType) -> bool
+    ensures { result ≡ spec.is_record of.now }
+{
+    match of {
+        ObType::Record(_) => true,
+        ObType::Basic(_) | ObType::Array(_, _) | ObType::Open(_) => false,
+    }
+}
+
+/// Whether a field has a word as its name, or is a base, which is a record.
+fn is_labelled(name: &Text, of: &ObType) -> bool
+    ensures { result ≡ spec.is_labelled name.now of.now }
+{
+    if name.as_slice().is_empty() {
+        return is_record(of);
+    }
+    is_word(name)
+}
+
+fn has_length(length: u32) -> bool
+    ensures { result ≡ (nat_le 1 length && nat_le length max_cells) }
+{
+    1 <= length && length <= MAX_CELLS
+}
+
+/// Whether the names in a type are words and its arrays have elements.
+#[cycle(plain)]
+#[tactic(auto, using(crate::proofs::DeclarableForms::plain_array, crate::proofs::DeclarableForms::plain_open, crate::proofs::DeclarableForms::plain_record))]
+fn is_plain(of: &ObType) -> bool
+    ensures { result ≡ spec.is_plain of.now }
+{
+    match of {
+        ObType::Basic(_) => true,
+        ObType::Array(length, element) => has_length(*length) && is_plain(element.get()),
+        ObType::Open(element) => is_plain(element.get()),
+        ObType::Record(record) => {
+            are_words(record.name.get()) && are_plain(record.fields.as_slice())
+        }
+    }
+}
+
+#[cycle(plain)]
+fn is_plain_field(field: &Field) -> bool
+    ensures { result ≡ (spec.is_labelled field.now.name field.now.of && spec.is_plain field.now.of) }
+{
+    is_labelled(&field.name, &field.of) && is_plain(&field.of)
+}
+
+#[cycle(plain)]
+fn are_plain(fields: &[Field]) -> bool
+    ensures { result ≡ spec.plain_fields fields.now }
+{
+    for field in fields {
+        if !is_plain_field(field) {
+            return false;
+        }
+    }
+    true
+}
+
+/// Whether a declaration can make a type.
+pub(crate) fn is_declarable(of: &ObType) -> bool
+    ensures { result ≡ spec.is_declarable of.now }
+{
+    is_admitted(of) && is_plain(of)
+}

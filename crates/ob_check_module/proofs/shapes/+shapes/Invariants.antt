@@ -1,6 +1,0 @@
-use Rattle.std.proofs.Common.{◌≡◌, ◌++◌, drop}
-use Rattle.ob_check_module.specs.Shapes as spec
-use Rattle.ob_check_module.proofs.shapes.+shapes.Given as goal
-
-abbrev pub invariant-shapes_in-loop-field : goal.invariant-shapes_in-loop-field
-invariant-shapes_in-loop-field l = l.shapes ++ spec.shapes_in (drop l.field-index l.fields) ≡ spec.shapes_in l.fields
