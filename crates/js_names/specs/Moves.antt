@@ -1,6 +1,6 @@
 -- To be believed.
 -- PATCH of contents: a thing goes to another path, and what is known of it goes with it.
-use Rattle.std.specs.Prelude.{ℕ, Bool, false, List, [], ◌∷◌, ◌++◌, map, Option, Some, None, is_some, Result, Ok, Err, if◌then◌else◌, codes}
+use Rattle.std.specs.Prelude.{ℕ, Bool, true, false, List, [], ◌∷◌, ◌++◌, map, filter, Option, Some, None, is_some, Result, Ok, Err, if◌then◌else◌, codes}
 use Rattle.js_http.specs.declared.response.ErrorStatus.{ErrorStatus}
 use Rattle.js_http.specs.declared.response.ErrorStatus.TheVariants.{Conflict}
 use Rattle.js_http.specs.declared.response.Response.TheVariants.{Success}
@@ -42,6 +42,18 @@ moved_path from to path = moved_by to path (following from path)
 
 abbrev pub moved_date : List ℕ → List ℕ → Dated → Dated
 moved_date from to d = record d { path = moved_path from to d.path }
+
+-- A date at the new path, or below it, is that of something that is gone.
+abbrev pub is_kept_by : Option (List ℕ) → Option (List ℕ) → Bool
+is_kept_by (Some rest) at = true
+is_kept_by None (Some rest) = false
+is_kept_by None None = true
+
+abbrev pub is_kept : List ℕ → List ℕ → Dated → Bool
+is_kept from to d = is_kept_by (following from d.path) (following to d.path)
+
+abbrev pub moved_dates : List ℕ → List ℕ → List Dated → List Dated
+moved_dates from to ds = map (moved_date from to) (filter (is_kept from to) ds)
 
 abbrev pub moved_session : List ℕ → List ℕ → Option Session → Option Session
 moved_session from to None = None
@@ -89,7 +101,7 @@ shown_moved r from to is_folder = Reply (Success (body_text (bare_form (about_at
 abbrev pub renaming : Rows → Moving → Bool → Plan
 renaming r v is_folder = record {
   change = change.Rename v.from.path v.to.path;
-  update = update.Move (map (moved_kernel v.from.path v.to.path) r.kernels) (map (moved_date v.from.path v.to.path) r.dates);
+  update = update.Move (map (moved_kernel v.from.path v.to.path) r.kernels) (moved_dates v.from.path v.to.path r.dates);
   answer = shown_moved r v.from.path v.to is_folder;
 }
 

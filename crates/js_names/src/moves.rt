@@ -158,20 +158,35 @@ fn check_sessions(alloc: Global, from: &str, to: &str, kernels: &[Kernel]) -> Re
 
 // ---- dates
 
+// Whether the date of a path is one of those that go or stay. What stood at the new path is gone.
+fn is_kept(from: &str, to: &str, dated: &Dated) -> bool
+    ensures { result ≡ spec.is_kept from.now to.now dated.now }
+{
+    match following(from, dated.path.as_str()) {
+        Some(_) => true,
+        None => match following(to, dated.path.as_str()) {
+            Some(_) => false,
+            None => true,
+        },
+    }
+}
+
 fn moved_dates(
     alloc: Global,
     from: &str,
     to: &str,
     dates: &[Dated],
 ) -> Result<Listed<Dated>, AllocError>
-    ensures { IfOk result (λ moved. moved ≡ map (spec.moved_date from.now to.now) dates.now) }
+    ensures { IfOk result (λ moved. moved ≡ spec.moved_dates from.now to.now dates.now) }
 {
     let mut moved = Listed::empty(alloc);
     for dated in dates {
-        moved.push(Dated {
-            path: moved_path(alloc, from, to, dated.path.as_str())?,
-            date: dated.date.copy()?,
-        })?;
+        if is_kept(from, to, dated) {
+            moved.push(Dated {
+                path: moved_path(alloc, from, to, dated.path.as_str())?,
+                date: dated.date.copy()?,
+            })?;
+        }
     }
     Ok(moved)
 }

@@ -7,7 +7,7 @@ pub const PAGE: &str = r####"<!doctype html>
 <head>
 <meta charset="utf-8">
 <meta name="viewport" content="width=device-width">
-<meta http-equiv="Content-Security-Policy" content="default-src 'none'; style-src 'sha256-XoLlu6tr+T23eBlreb/qMQUcjrU61+PTbjPLsaaRh9w='; script-src 'sha256-UEUMAI5xfZyZ1Qeo094g1Oe31nJQJUjQqz9Wszz4bSg='; connect-src 'self' ws://127.0.0.1:* ws://localhost:*; img-src data:; base-uri 'none'; form-action 'none'">
+<meta http-equiv="Content-Security-Policy" content="default-src 'none'; style-src 'sha256-XoLlu6tr+T23eBlreb/qMQUcjrU61+PTbjPLsaaRh9w='; script-src 'sha256-+v1FZV6YE3nvFiXUpmRHrjr2fTmj7pf3hCBPkl+47vU='; connect-src 'self' ws://127.0.0.1:* ws://localhost:*; img-src data:; base-uri 'none'; form-action 'none'">
 <title>Oberon notebooks</title>
 <link rel="icon" href="data:image/svg+xml,%3Csvg xmlns='http://www.w3.org/2000/svg' viewBox='0 0 16 16'%3E%3Crect width='16' height='16' rx='4' fill='%232f6f5e'/%3E%3C/svg%3E">
 <style>
@@ -151,7 +151,7 @@ const MEANS = {
   link: { 30: "This module isn't loaded: run its cell first.", 31: "The module has no such command: a procedure with * and without parameters.", 32: "This module has changed: run its client's cell again." },
   trap: {
     1: "The index is outside its array.", 2: "The divisor is 0 or less.", 3: "No case has this value.", 4: "An ASSERT doesn't hold.", 5: "No character has this number.",
-    6: "The shift is less than 0 or more than 31.", 7: "The string is too long for its array.", 8: "More than 1,000 calls are open: does the recursion end?", 9: "The value doesn't fit a BYTE.",
+    6: "The shift is less than 0 or more than 31.", 7: "The string is too long for its array.", 8: "More than 1,000 calls are open: does the recursion end?", 9: "The value doesn't fit a BYTE.", 10: "The record is of another type: ask by IS before.",
   },
 };
 

@@ -1,3 +1,4 @@
+pub mod Crossing
 pub mod Telling
 pub mod Failing
 pub mod Finding

@@ -15,7 +15,7 @@ mod untold;
 pub use answer::Manager;
 pub use kernels::MAX_KERNELS;
 pub use opening::{Asked, Fields};
-pub use parts::{Outcome, Prepared, finish, parts_law, prepare};
+pub use parts::{Outcome, Prepared, ReadRequest, finish, parts_law, prepare};
 pub use route::{Route, routes_law};
 pub use running::Running;
 pub use untold::Untold;

@@ -20,6 +20,7 @@ use js_http::{Method, Request, Response, path_segments};
 use js_shelf::Opening;
 use js_tables::{About, Answer, Plan, Refusal};
 use std::alloc::Global;
+use std::marker::Model;
 
 /// What was made of a request before the tables, the kernels and the shelf are looked at.
 #[derive(Drop)]
@@ -53,6 +54,51 @@ pub fn prepare(alloc: Global, request: &Request) -> Prepared
     match request.method {
         Method::Put => Prepared::Put(read_ready(alloc, request)),
         _ => Prepared::Other,
+    }
+}
+
+/// A request, and what was made of it before the tables, the kernels and the shelf are looked at. The type keeps that it was made of
+/// this request, in whatever thread.
+#[derive(Drop)]
+pub struct ReadRequest {
+    request: Request,
+    prepared: Prepared,
+}
+
+impl Model for ReadRequest {
+    ghost use Rattle.js_http.specs.declared.request.Request.{Request};
+    ghost use Rattle.js_rest.specs.Parts.{IsPrepared};
+
+    ghost Value = { Request };
+
+    ghost view = { λ r. r.request };
+
+    ghost invariant = { λ r. IsPrepared r.request r.prepared };
+}
+
+impl ReadRequest {
+    /// A request, and what `prepare` makes of it.
+    pub fn new(alloc: Global, request: Request) -> ReadRequest
+        ensures { result ≡ request }
+    {
+        let prepared = prepare(alloc, &request);
+        ReadRequest { request, prepared }
+    }
+
+    /// The request.
+    pub fn request(&self) -> &Request
+        ensures { result.now ≡ self.now }
+    {
+        &self.request
+    }
+
+    /// The request, and what was made of it.
+    pub fn into_parts(self) -> (Request, Prepared)
+        ensures request { result.0 ≡ self }
+        ensures prepared { spec.IsPrepared result.0 result.1 }
+    {
+        let ReadRequest { request, prepared } = self;
+        (request, prepared)
     }
 }
 

@@ -17,8 +17,8 @@ use Rattle.crossbeam_channel.specs.contracts.channel.Sender as Sender
 use Rattle.crossbeam_channel.proofs.channel.Receiver.TheSendSync as receiver
 use Rattle.crossbeam_channel.proofs.channel.Sender.TheSendSync as sender
 use Rattle.jk_language.specs.declared.language.Language as language
-use Rattle.js_http.proofs.request.Request.TheSendSync as request
 use Rattle.js_http.proofs.response.Response.TheSendSync as response
+use Rattle.js_rest.proofs.Crossing.{read_request_send}
 use Rattle.js_shelf.proofs.opened.Opening.TheSendSync as shown
 use Rattle.js_tables.proofs.forms.About.TheSendSync as about
 use Rattle.js_ws.proofs.names.Names.TheSendSync as names
@@ -44,6 +44,7 @@ use Rattle.js_serve.specs.contracts.job.Job as Job
 use Rattle.js_serve.specs.contracts.job.Parser as Parser
 use Rattle.js_serve.specs.contracts.neighbours.Neighbour as Neighbour
 use Rattle.js_serve.specs.contracts.neighbours.Neighbours as Neighbours
+use Rattle.js_serve.specs.contracts.turns.Turns as Turns
 use Rattle.js_serve.specs.contracts.wakes.Wakes as Wakes
 
 sender_send : (R : RattleType) → IsSend R → IsSend (Sender.the_row R Heap.the_row heap.ghosts)
@@ -91,8 +92,11 @@ neighbours_send = declared_send Neighbours.the_type (shared_send, (count_send, t
 wakes_send : IsSend Wakes.the_row
 wakes_send = declared_send Wakes.the_type (bell_send, (neighbours_send, tt))
 
+turns_send : IsSend Turns.the_row
+turns_send = declared_send Turns.the_type (search (crosses, sendable) depth 60 fits 20000, tt)
+
 ticket_send : IsSend Ticket.the_row
-ticket_send = declared_send Ticket.the_type (count_send, tt)
+ticket_send = declared_send Ticket.the_type (count_send, (turns_send, tt))
 
 guest_send : IsSend Guest.the_row
 guest_send = declared_send Guest.the_type (tcp_send, (ticket_send, tt))
@@ -110,7 +114,7 @@ call_send : (L S T M : RattleType) (g : language.Ghosts L.Denot S.Denot T.Denot 
 call_send L S T M g = variants_send (Call.enum L S T M g) (
   (guest_send, tt),
   (
-    (request.the_send, (sender_send (Reply.the_row L S T M g) (reply_send L S T M g), tt)),
+    (read_request_send, (sender_send (Reply.the_row L S T M g) (reply_send L S T M g), tt)),
     (tt, (tt, (tt, tt))),
   ),
 )

@@ -5,8 +5,9 @@ use crate::wakes::Wakes;
 use crossbeam_channel::Sender;
 use jk_language::Language;
 use js_home::Place as Lent;
-use js_http::{Request, Response};
+use js_http::Response;
 use js_paced::Selector;
+use js_rest::ReadRequest;
 use js_shelf::Opening;
 use js_tables::About;
 use js_ws::Names;
@@ -48,7 +49,7 @@ pub enum Call<L: Language> {
     /// A connection was accepted.
     Accepted(Guest),
     /// A request was read. Its reply goes to the sender.
-    Asked(Request, Sender<Reply<L>>),
+    Asked(ReadRequest, Sender<Reply<L>>),
     /// A channel was closed, and has given its place back.
     Back,
     /// The last response was written.

@@ -5,11 +5,12 @@ use crate::channel::{Line, serve_channel};
 use crate::crowd::{Crowd, Guest, Turned};
 use crate::limits::Limits;
 use crate::telling::tell;
+use crate::turns::Turns;
 use crossbeam_channel::{Sender, bounded};
 use jk_language::Language;
 use js_http::{ErrorStatus, Request, Response, Served, Stream, Text, serve_one, write_response};
 use js_paced::{Limited, end_of_answer};
-use js_rest::{Outcome, finish};
+use js_rest::{Outcome, ReadRequest, finish};
 use js_shelf::Opening;
 use js_tables::{About, Answer};
 use std::alloc::Global;
@@ -94,11 +95,12 @@ trait Answers {
     fn answer(&mut self, request: Request) -> Response;
 }
 
-/// Asks the desk, and keeps what is done once the response was written.
+/// Makes what a PUT puts, asks the desk, and keeps what is done once the response was written.
 #[derive(Drop)]
 struct Asking<'a, L: Language, R> {
     rt: &'a R,
     alloc: Global,
+    turns: &'a Turns,
     calls: &'a Sender<Call<L>>,
     page: &'a str,
     next: Next<L>,
@@ -106,6 +108,7 @@ struct Asking<'a, L: Language, R> {
 
 impl<L: Language, R: Wait> Answers for Asking<'_, L, R> {
     fn answer(&mut self, request: Request) -> Response {
+        let request = self.turns.read(self.rt, self.alloc, request);
         let (response, next) = answer_to(self.rt, self.alloc, self.calls, request, self.page);
         self.next = next;
         response
@@ -127,6 +130,7 @@ pub(crate) fn serve_connection<L: Language, R: Wait + Clock + Copy + Drop>(
     let mut asking = Asking {
         rt,
         alloc,
+        turns: &ticket.turns,
         calls,
         page,
         next: Next::End,
@@ -198,7 +202,7 @@ fn answer_to<L: Language, R: Wait>(
     rt: &R,
     alloc: Global,
     calls: &Sender<Call<L>>,
-    request: Request,
+    request: ReadRequest,
     page: &str,
 ) -> (Response, Next<L>) {
     match ask(rt, alloc, calls, request) {
@@ -237,7 +241,7 @@ fn ask<L: Language, R: Wait>(
     rt: &R,
     alloc: Global,
     calls: &Sender<Call<L>>,
-    request: Request,
+    request: ReadRequest,
 ) -> Option<Reply<L>> {
     let (sender, receiver) = bounded(alloc, 1).ok()?;
     if calls.send(rt, Call::Asked(request, sender)).is_err() {

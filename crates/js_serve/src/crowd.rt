@@ -1,6 +1,7 @@
 //! How many connections have a thread.
 ghost use Rattle.std.specs.Prelude.{◌≤◌, vec_len};
 
+use crate::turns::Turns;
 use std::alloc::{AllocError, Global};
 use std::net::TcpStream;
 use std::sync::Arc;
@@ -11,17 +12,19 @@ use std::sync::atomic::{AtomicU64, Ordering};
 pub(crate) struct Crowd {
     count: Arc<AtomicU64, Global>,
     most: u64,
+    turns: Turns,
 }
 
 /// One connection of a crowd. It has left where this is dropped.
 pub struct Ticket {
     count: Arc<AtomicU64, Global>,
+    pub(crate) turns: Turns,
 }
 
 impl Drop for Ticket {
     fn drop(self) {
         self.count.fetch_sub(1, Ordering::SeqCst);
-        let Ticket { count: _ } = self;
+        let Ticket { count: _, turns: _ } = self;
     }
 }
 
@@ -38,6 +41,7 @@ impl Crowd {
         Ok(Crowd {
             count: Arc::new(alloc, AtomicU64::new(0))?,
             most,
+            turns: Turns::new(alloc)?,
         })
     }
 
@@ -47,8 +51,9 @@ impl Crowd {
             return None;
         }
         let count = Arc::try_clone(&self.count).ok()?;
+        let turns = self.turns.another().ok()?;
         self.count.fetch_add(1, Ordering::SeqCst);
-        Some(Ticket { count })
+        Some(Ticket { count, turns })
     }
 }
 

@@ -13,7 +13,7 @@ use jk_language::Language;
 use js_desk::{Endings, Held};
 use js_http::{ErrorStatus, Request, Response};
 use js_paced::Selector;
-use js_rest::{Manager, Outcome, Running, prepare};
+use js_rest::{Manager, Outcome, ReadRequest, Running};
 use js_shelf::Shelf;
 use js_tables::{Answer, Given};
 use js_ws::{Names, handshake, protocol_of};
@@ -77,7 +77,7 @@ where
 /// A request that waits, and where its reply goes.
 #[derive(Drop)]
 struct Asked<L: Language> {
-    request: Request,
+    request: ReadRequest,
     reply: Sender<Reply<L>>,
 }
 
@@ -181,14 +181,14 @@ where
     /// Replies to a request, after a look at what the kernels have published. Where it made a kernel, the answer is the job of
     /// its thread, and the reply waits for it. A request that is about a kernel that is ending, its session or its notebook waits for
     /// that end.
-    fn reply_to(&mut self, request: Request, reply: Sender<Reply<L>>) -> Option<Job<L>> {
+    fn reply_to(&mut self, request: ReadRequest, reply: Sender<Reply<L>>) -> Option<Job<L>> {
         let Some(given) = given_now(&self.rt, self.alloc) else {
             self.send(reply, refused(ErrorStatus::InternalServerError));
             return None;
         };
         self.look(&given.date);
-        let concern = concern_of(self.alloc, &request);
-        match self.turn_of(request.method, &concern) {
+        let concern = concern_of(self.alloc, request.request());
+        match self.turn_of(request.request().method, &concern) {
             Delay::No => self.answer(request, &concern, &given, reply),
             Delay::Join(id) => {
                 self.end_later(id.as_str(), reply);
@@ -204,7 +204,7 @@ where
     /// Replies to a request now. The recorders of the notebooks that it is about have followed what was shown before.
     fn answer(
         &mut self,
-        request: Request,
+        request: ReadRequest,
         concern: &Concern,
         given: &Given,
         reply: Sender<Reply<L>>,
@@ -214,7 +214,7 @@ where
             Concern::Paths => self.catch_up_at("", &given.date),
             _ => {}
         }
-        let prepared = prepare(self.alloc, &request);
+        let (request, prepared) = request.into_parts();
         let outcome = self
             .manager
             .step(self.alloc, &mut self.shelf, given, &request, prepared);

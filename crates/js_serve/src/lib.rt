@@ -18,6 +18,7 @@ mod pulse;
 mod recording;
 mod signals;
 mod telling;
+mod turns;
 mod wakes;
 mod watch;
 

@@ -1,3 +1,4 @@
+pub mod Crossing
 pub mod Giving
 pub mod Dates
 pub mod SessionForms

@@ -7,8 +7,8 @@ use crate::kernels::Kernels;
 use crate::pulse::QUICK;
 use crossbeam_channel::Sender;
 use jk_language::Language;
-use js_http::{ErrorStatus, Method, Request, Response};
-use js_rest::Running;
+use js_http::{ErrorStatus, Method, Response};
+use js_rest::{ReadRequest, Running};
 use js_shelf::Shelf;
 use js_tables::{Kernel, Update, find_by_session, find_kernel};
 use json_form::Text;
@@ -154,7 +154,7 @@ where
     }
 
     /// Lets a request wait for a kernel that is ending.
-    pub(super) fn hold(&mut self, request: Request, reply: Sender<Reply<L>>) {
+    pub(super) fn hold(&mut self, request: ReadRequest, reply: Sender<Reply<L>>) {
         if let Some(asked) = self.held.hold(Asked { request, reply }) {
             self.send(asked.reply, refused(ErrorStatus::InternalServerError));
         }

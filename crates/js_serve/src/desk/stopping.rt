@@ -10,8 +10,8 @@ use crate::pulse::QUICK;
 use crossbeam_channel::Sender;
 use jk_language::Language;
 use js_desk::is_over;
-use js_http::{Bytes, ErrorStatus, Request, Response};
-use js_rest::Running;
+use js_http::{Bytes, ErrorStatus, Response};
+use js_rest::{ReadRequest, Running};
 use js_shelf::Shelf;
 use js_tables::Command;
 use json_form::Text;
@@ -86,7 +86,7 @@ where
     /// Replies to a request, unless the server stops.
     pub(super) fn reply_or_refuse(
         &mut self,
-        request: Request,
+        request: ReadRequest,
         reply: Sender<Reply<L>>,
     ) -> Option<Job<L>> {
         if self.stopping.is_none() {
