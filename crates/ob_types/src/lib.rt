@@ -21,3 +21,4 @@ pub use keyed::{Interface, interface_text};
 pub use laws::same_type_law;
 pub use size::{MAX_CELLS, MAX_LEVELS, is_admitted, levels, zero_size};
 pub use structure::{Basic, Field, ObType, RecordName, RecordType};
+pub use type_writing::put_type;
