@@ -12,4 +12,6 @@ mod declare;
 #[cfg(test)]
 mod express;
 #[cfg(test)]
+mod keys;
+#[cfg(test)]
 mod several;

@@ -365,6 +365,35 @@ pub(crate) fn procedure(
     })
 }
 
+/// What a procedure has but its result.
+#[derive(Drop)]
+struct Head {
+    parameters: Items<Parameter>,
+    variables: Items<Shape>,
+    body: Items<TypedStatement>,
+}
+
+fn head_of(
+    parameters: Result<Items<Parameter>, AllocError>,
+    variables: Result<Items<Shape>, AllocError>,
+    body: Result<Items<TypedStatement>, AllocError>,
+) -> Result<Head, AllocError> {
+    Ok(Head {
+        parameters: parameters?,
+        variables: variables?,
+        body: body?,
+    })
+}
+
+fn returning(head: Head, returned: TypedExpr) -> TypedProcedure {
+    TypedProcedure {
+        parameters: head.parameters,
+        variables: head.variables,
+        body: head.body,
+        result: Some(returned),
+    }
+}
+
 /// A function procedure.
 pub(crate) fn function_procedure(
     parameters: Result<Items<Parameter>, AllocError>,
@@ -372,12 +401,8 @@ pub(crate) fn function_procedure(
     body: Result<Items<TypedStatement>, AllocError>,
     returned: Result<TypedExpr, AllocError>,
 ) -> Result<TypedProcedure, AllocError> {
-    Ok(TypedProcedure {
-        parameters: parameters?,
-        variables: variables?,
-        body: body?,
-        result: Some(returned?),
-    })
+    let head = head_of(parameters, variables, body)?;
+    Ok(returning(head, returned?))
 }
 
 /// A variable of basic type.
@@ -417,6 +442,22 @@ fn numbers(alloc: Global, end: usize) -> Result<Items<usize>, AllocError> {
     Ok(all)
 }
 
+fn tree_of(
+    alloc: Global,
+    variables: Result<Items<ModuleVariable>, AllocError>,
+    procedures: Items<TypedProcedure>,
+    body: Result<Items<TypedStatement>, AllocError>,
+) -> Result<TypedModule, AllocError> {
+    let exported = numbers(alloc, procedures.len())?;
+    Ok(TypedModule {
+        name: Text::from_vec(Vec::new(alloc)),
+        variables: variables?,
+        procedures,
+        exported,
+        body: body?,
+    })
+}
+
 /// A module that exports all its procedures and imports the modules of these numbers.
 pub(crate) fn importing(
     alloc: Global,
@@ -425,17 +466,11 @@ pub(crate) fn importing(
     procedures: Result<Items<TypedProcedure>, AllocError>,
     body: Result<Items<TypedStatement>, AllocError>,
 ) -> Result<Loaded, AllocError> {
-    let imports = imports?;
-    let procedures = procedures?;
-    let exported = numbers(alloc, procedures.len())?;
-    let tree = TypedModule {
-        name: Text::from_vec(Vec::new(alloc)),
-        variables: variables?,
-        procedures,
-        exported,
-        body: body?,
-    };
-    Ok(Loaded { tree, imports })
+    let tree = tree_of(alloc, variables, procedures?, body)?;
+    Ok(Loaded {
+        tree,
+        imports: imports?,
+    })
 }
 
 /// A module that exports all its procedures and imports none.
