@@ -4,6 +4,8 @@
 #[cfg(test)]
 mod endless;
 #[cfg(test)]
+mod extensions;
+#[cfg(test)]
 mod input;
 #[cfg(test)]
 mod interrupts;
