@@ -108,7 +108,7 @@ fn enclosed_code(
     Ok(text_code(alloc, text.as_str()))
 }
 
-// A list of statements, a procedure and an ARRAY nest too.
+/// A list of statements, a procedure and an ARRAY nest too.
 #[test]
 fn parentheses_at_the_limit(rt: HostRuntime) -> Result<(), Fail> {
     for (before, behind, most) in [
@@ -202,7 +202,7 @@ fn tree_code(alloc: Global, depth: usize) -> Result<Option<Code>, AllocError> {
     Ok(code_of(alloc, &module))
 }
 
-// No text has such a tree.
+/// No text has such a tree.
 #[test]
 fn a_tree_that_nests_deeper_has_no_size(rt: HostRuntime) -> Result<(), Fail> {
     assert_eq!(rt; tree_code(rt.alloc(), 200)?, None);

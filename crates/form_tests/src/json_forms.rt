@@ -35,7 +35,7 @@ fn reads_whole_numbers_alone(rt: HostRuntime) -> Result<(), Fail> {
     Ok(())
 }
 
-// Of equal keys the last stays, and the numbers under the others count too.
+/// Of equal keys the last stays, and the numbers under the others count too.
 #[test]
 fn judges_numbers_under_equal_keys(rt: HostRuntime) -> Result<(), Fail> {
     let not_whole = Some(Bad::Fault(Fault::NotWhole));

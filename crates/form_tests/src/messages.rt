@@ -7,7 +7,7 @@ use jp_msg::{
 use json_form::{Shared, Whole};
 use std::test::Fail;
 
-// A cell as a notebook's frontend may send it.
+/// A cell as a notebook's frontend may send it.
 const CELL: &str =
     "{\"channel\":\"shell\",\"content\":{\"code\":\"MODULE A; END A.\"},\"header\":{\"msg_id\":\"m1\",\"msg_type\":\"execute_request\",\"session\":\"s1\"},\"metadata\":{\"cellId\":\"c1\"}}";
 
@@ -17,7 +17,7 @@ const STAMP: Stamp<'_> = Stamp {
     date: "1970-01-01T00:00:00.000000Z",
 };
 
-// A message of a type with a content, on a channel.
+/// A message of a type with a content, on a channel.
 fn message_text(
     rt: &HostRuntime,
     channel: &str,
@@ -40,7 +40,7 @@ fn request(
     Ok(read_message(rt.alloc(), text.as_str())?.content)
 }
 
-// The number of the fault of a text, and 0 where it is read.
+/// The number of the fault of a text, and 0 where it is read.
 fn fault(rt: &HostRuntime, text: &str) -> u8 {
     match read_message(rt.alloc(), text) {
         Ok(_) => 0,
@@ -80,7 +80,7 @@ fn reads_a_cell(rt: HostRuntime) -> Result<(), Fail> {
     Ok(())
 }
 
-// What is read of a request, in a word or two, with the fields that it has of its own.
+/// What is read of a request, in a word or two, with the fields that it has of its own.
 fn told(rt: &HostRuntime, content: &Content) -> Result<String, Fail> {
     let alloc = rt.alloc();
     let Content::Request(request) = content else {
@@ -108,8 +108,8 @@ fn told(rt: &HostRuntime, content: &Content) -> Result<String, Fail> {
     })
 }
 
-// A channel, a type, a content, and what is read. A type that has no meaning on its channel is another message, whose content
-// is not looked at.
+/// A channel, a type, a content, and what is read. A type that has no meaning on its channel is another message, whose content
+/// is not looked at.
 const REQUESTS: [(&str, &str, &str, &str); 19] = [
     (
         "shell",
@@ -176,7 +176,7 @@ fn reads_each_request(rt: HostRuntime) -> Result<(), Fail> {
     Ok(())
 }
 
-// Texts, and the numbers of their faults, of which the first is told.
+/// Texts, and the numbers of their faults, of which the first is told.
 const TEXTS: [(&str, u8); 16] = [
     ("{", 1),
     ("{\"n\":1e999}", 1),
@@ -216,7 +216,7 @@ fn refuses_texts(rt: HostRuntime) -> Result<(), Fail> {
     Ok(())
 }
 
-// A channel, a type, a content, and the number of its fault, or 0.
+/// A channel, a type, a content, and the number of its fault, or 0.
 const CONTENTS: [(&str, &str, &str, u8); 12] = [
     ("shell", "execute_request", "{\"code\":\"x\",\"n\":1.5}", 4),
     (
@@ -260,7 +260,7 @@ fn refuses_contents(rt: HostRuntime) -> Result<(), Fail> {
     Ok(())
 }
 
-// Lists in one another, so many levels deep.
+/// Lists in one another, so many levels deep.
 fn nested(rt: &HostRuntime, depth: usize) -> Result<String, Fail> {
     let mut text = String::new(rt.alloc());
     for _ in 0..depth {
@@ -364,7 +364,7 @@ fn writes_a_request_again(rt: HostRuntime) -> Result<(), Fail> {
     Ok(())
 }
 
-// Whether this is the type and the content of an output.
+/// Whether this is the type and the content of an output.
 fn tells(rt: &HostRuntime, output: Output, msg_type: &str, content: &str) -> Result<bool, Fail> {
     let json = output_json(rt.alloc(), &output)?;
     let text = json.write(rt.alloc())?;

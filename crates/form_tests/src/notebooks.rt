@@ -202,7 +202,7 @@ const NO_ID: &str = "{\"cell_type\":\"raw\",\"metadata\":{},\"source\":\"\"}";
 const FRACTION: &str =
     "{\"cell_type\":\"raw\",\"id\":\"c\",\"metadata\":{\"n\":1.5},\"source\":\"\"}";
 
-// A minor version, cells, and the fault that comes first, if there is one.
+/// A minor version, cells, and the fault that comes first, if there is one.
 const FIRST: [(u32, &[&str], Option<NbFault>); 8] = [
     (5, &[GOOD], None),
     (5, &[BAD_ID], Some(NbFault::BadId)),
@@ -218,7 +218,7 @@ const FIRST: [(u32, &[&str], Option<NbFault>); 8] = [
     (4, &[FRACTION], Some(NbFault::NotWhole)),
 ];
 
-// Texts with a comma between each two.
+/// Texts with a comma between each two.
 fn joined(rt: &HostRuntime, texts: &[&str]) -> Result<String, Fail> {
     let mut all = String::new(rt.alloc());
     for text in texts {
@@ -257,14 +257,14 @@ fn raises_older_notebooks(rt: HostRuntime) -> Result<(), Fail> {
     Ok(())
 }
 
-// A code cell with metadata, an output that is kept as it is, and an error with a field that has no meaning; and a raw cell
-// with attachments and such a field.
+/// A code cell with metadata, an output that is kept as it is, and an error with a field that has no meaning; and a raw cell
+/// with attachments and such a field.
 const NAMED: [&str; 2] = [
     "{\"cell_type\":\"code\",\"id\":\"a\",\"metadata\":{\"k\":-1},\"source\":\"\",\"execution_count\":7,\"outputs\":[{\"data\":{\"text/plain\":\"x\"},\"metadata\":{},\"output_type\":\"display_data\",\"z\":[1,{}]},{\"ename\":\"Trap\",\"evalue\":\"v\",\"output_type\":\"error\",\"traceback\":[\"Trap\",\"v\"],\"more\":1}]}",
     "{\"attachments\":{\"p.png\":{\"image/png\":\"AA==\"}},\"cell_type\":\"raw\",\"id\":\"b\",\"metadata\":{},\"source\":\"x\",\"more\":2}",
 ];
 
-// The same as it is written: an output of another kind with all its fields, else those that have a name.
+/// The same as it is written: an output of another kind with all its fields, else those that have a name.
 const NAMED_AGAIN: &str = "{
   \"cells\": [
     {
@@ -326,7 +326,7 @@ fn keeps_what_has_a_name(rt: HostRuntime) -> Result<(), Fail> {
     Ok(())
 }
 
-// Which of the kinds that a run leaves these outputs are.
+/// Which of the kinds that a run leaves these outputs are.
 #[test]
 fn reads_outputs_by_kind(rt: HostRuntime) -> Result<(), Fail> {
     let notebook = read_notebook(rt.alloc(), NAMED_AGAIN.as_bytes())?;

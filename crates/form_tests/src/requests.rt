@@ -143,7 +143,7 @@ fn a_stream_that_ends_before_a_request_is_whole(rt: HostRuntime) -> Result<(), F
     Ok(())
 }
 
-// A head of that length, which has one long header line.
+/// A head of that length, which has one long header line.
 fn head_of_len(alloc: Global, len: usize) -> Result<Vec<u8>, Fail> {
     let mut head = Vec::from_slice(alloc, b"GET / HTTP/1.1\r\nx: ")?;
     for _ in 0..len.saturating_sub(23) {
@@ -250,7 +250,7 @@ fn refusals(rt: HostRuntime) -> Result<(), Fail> {
     Ok(())
 }
 
-// What is written of the response by a writer that fails at that write, and whether all was.
+/// What is written of the response by a writer that fails at that write, and whether all was.
 fn written(alloc: Global, response: &Response, step: usize, fault: u64) -> (Vec<u8>, bool) {
     let mut writer = writer_of(alloc, step, fault);
     let is_ok = write_response(&mut writer, response).is_ok();
@@ -310,7 +310,7 @@ fn responses_and_their_beginnings(rt: HostRuntime) -> Result<(), Fail> {
     Ok(())
 }
 
-// The page is no JSON, and its length is that of its bytes.
+/// The page is no JSON, and its length is that of its bytes.
 #[test]
 fn a_page_and_its_beginning(rt: HostRuntime) -> Result<(), Fail> {
     let text =
@@ -425,8 +425,8 @@ fn segments_and_fields(rt: HostRuntime) -> Result<(), Fail> {
     Ok(())
 }
 
-// A slash that is escaped stays inside its segment, and two slashes have an empty one between them: who joins
-// segments to a path has to refuse both.
+/// A slash that is escaped stays inside its segment, and two slashes have an empty one between them: who joins
+/// segments to a path has to refuse both.
 #[test]
 fn a_segment_may_hold_a_slash_or_nothing(rt: HostRuntime) -> Result<(), Fail> {
     let segments = path_segments(rt.alloc(), "/a%2Fb//..")?;

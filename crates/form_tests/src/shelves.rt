@@ -14,7 +14,7 @@ fn file(alloc: Global, text: &[u8]) -> Result<Item, Fail> {
     Ok(Item::File(Bytes::from(Vec::from_slice(alloc, text)?)))
 }
 
-// What stands at a path: a file's bytes, a folder, or why nothing is told.
+/// What stands at a path: a file's bytes, a folder, or why nothing is told.
 fn expect_file(rt: &impl Abort, shelf: &mut impl Shelf, path: &str, text: &[u8]) {
     match shelf.get(path) {
         Ok(Item::File(bytes)) => assert_eq!(rt; bytes.as_slice(), text),
@@ -27,7 +27,7 @@ fn expect_folder(rt: &impl Abort, shelf: &mut impl Shelf, path: &str) {
     assert!(rt; matches!(shelf.get(path), Ok(Item::Folder)), "{path}");
 }
 
-// Opens what stands at a path.
+/// Opens what stands at a path.
 fn opened(rt: &impl Abort, shelf: &mut impl Shelf, path: &str) -> Opening {
     match shelf.open(path) {
         Ok(opening) => opening,
@@ -35,7 +35,7 @@ fn opened(rt: &impl Abort, shelf: &mut impl Shelf, path: &str) -> Opening {
     }
 }
 
-// What was opened is read: a file's bytes.
+/// What was opened is read: a file's bytes.
 fn expect_read(rt: &impl Abort, opening: Opening, text: &[u8]) {
     match opening.read() {
         Ok(Item::File(bytes)) => assert_eq!(rt; bytes.as_slice(), text),
@@ -88,7 +88,7 @@ fn puts_and_gets(rt: &impl Abort, alloc: Global, shelf: &mut impl Shelf) -> Resu
     Ok(())
 }
 
-// A file that was opened keeps its bytes, whatever is put, moved or deleted afterwards.
+/// A file that was opened keeps its bytes, whatever is put, moved or deleted afterwards.
 fn opens_and_reads(rt: &impl Abort, alloc: Global, shelf: &mut impl Shelf) -> Result<(), Fail> {
     let first = opened(rt, shelf, "b.txt");
     assert_eq!(rt; shelf.put("b.txt", file(alloc, b"the third")?), Ok(()));
@@ -134,7 +134,7 @@ fn a_shelf_in_memory(rt: HostRuntime) -> Result<(), Fail> {
     Ok(())
 }
 
-// A folder of the system with nothing in it.
+/// A folder of the system with nothing in it.
 fn emptied(rt: &HostRuntime, root: &str) -> Result<(), Fail> {
     let _ = fs::remove_dir_all(rt, root);
     fs::create_dir(rt, root)?;
@@ -227,7 +227,7 @@ fn paths(rt: HostRuntime) -> Result<(), Fail> {
     Ok(())
 }
 
-// One of each call, as far as the first refusal.
+/// One of each call, as far as the first refusal.
 fn one_of_each(alloc: Global, shelf: &mut impl Shelf) -> Result<(), ShelfRefusal> {
     shelf.put("a", Item::Folder)?;
     shelf.put(

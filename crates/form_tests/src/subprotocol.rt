@@ -133,7 +133,7 @@ fn binary_of(alloc: Global, parts: &[&str]) -> Result<Vec<u8>, AllocError> {
     Ok(bytes)
 }
 
-/// What reading a binary message came to, as a number: 0 for a message, the number of its fault, 6 for want of memory.
+/// What reading a binary message came to, as a number: 0 for a message, the number of its fault, 6 for lack of memory.
 fn outcome(read: &Result<Message, Bad>) -> u8 {
     match read {
         Ok(_) => 0,

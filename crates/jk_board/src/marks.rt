@@ -119,13 +119,13 @@ impl Mark {
         self.marks.write(self.seat, 0, IDLE);
     }
 
-    /// The follower is lent, and has read or passed so many entries and bytes.
+    /// The follower is lent, and has read or passed `place` entries, which have `bytes` bytes.
     pub fn lend(&mut self, place: usize, bytes: usize) {
         self.bytes = bytes;
         self.marks.write(self.seat, place, bytes);
     }
 
-    /// The follower has read up to a place, so many bytes more.
+    /// The follower has read up to a place, `more` bytes more.
     pub fn move_on(&mut self, place: usize, more: usize) {
         self.bytes = self.bytes.saturating_add(more);
         if self.marks.is_lent(self.seat) {

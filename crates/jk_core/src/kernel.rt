@@ -90,7 +90,7 @@ impl<L: Language> Kernel<L> {
         take_in::<L>(&mut self.script, &mut self.desk, arrival)
     }
 
-    /// Goes on by at most so many turns with the cell that runs. Where none runs, answers the requests that wait before
+    /// Goes on by at most `turns` turns with the cell that runs. Where none runs, answers the requests that wait before
     /// the first execute request, and begins that one.
     pub fn work(&mut self, turns: u64) -> Work
         ensures works { Works L.spoken turns self.old result self.new }
@@ -135,6 +135,7 @@ impl<L: Language> Kernel<L> {
     pub fn legal(&self)
         ensures { IsLegal L.spoken self.now.log }
     {
+        // The script's invariant is what the clause says.
         let _ = &self.script;
     }
 
@@ -145,7 +146,7 @@ impl<L: Language> Kernel<L> {
         self.script.pending_marks()
     }
 
-    /// The entries of the first so many pending marks, which pend no more. Where memory is refused nothing has
+    /// The entries of the first `most` pending marks, which pend no more. Where memory is refused nothing has
     /// changed.
     pub fn take_pending(&mut self, most: usize) -> Result<Vec<Entry>, AllocError>
         ensures entries { IfOk result (λ entries. entries.items ≡ joined (take most self.old.pending)) }

@@ -56,7 +56,7 @@ impl Pending {
         }
     }
 
-    /// Makes room for so many more marks.
+    /// Makes room for `more` more marks.
     pub fn reserve(&mut self, more: usize) -> Result<(), AllocError>
         ensures entries { self.new.entries ≡ self.old.entries }
         ensures cell { self.new.cell ≡ self.old.cell }
@@ -83,7 +83,7 @@ impl Pending {
         self.marks.len()
     }
 
-    /// The entries of the first so many marks, which leave. Where memory is refused none leaves.
+    /// The entries of the first `most` marks, which leave. Where memory is refused none leaves.
     pub fn take(&mut self, most: usize) -> Result<Vec<Entry>, AllocError>
         ensures entries { IfOk result (λ entries. entries.items ≡ joined (take most self.old.entries)) }
         ensures ok { OnOk result (self.new.entries ≡ drop most self.old.entries) }
@@ -132,7 +132,7 @@ fn begins(kind: &Kind) -> bool
     }
 }
 
-/// The entries of the first so many marks, after a cell with this request.
+/// The entries of the first `most` marks, after a cell with this request.
 fn first_entries(
     alloc: Global,
     cell: &Option<Arrival>,
@@ -179,7 +179,7 @@ fn add_for(
     }
 }
 
-/// Drops the first so many marks, and keeps the request of the cell that was begun last by them.
+/// Drops the first `most` marks, and keeps the request of the cell that was begun last by them.
 fn drop_first(cell: &mut Option<Arrival>, marks: &mut VecDeque<Pended>, most: usize)
     ensures shown { shown_by cell.new marks.new.items ≡ drop most (shown_by cell.old marks.old.items) }
     ensures last { last_cell cell.new marks.new.items ≡ last_cell cell.old marks.old.items }

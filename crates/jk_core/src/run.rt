@@ -65,6 +65,7 @@ fn answer<L: Language>(script: &mut Script<L::Tree>, turns: u64) -> Work
     ensures works { Works L.spoken turns script.old.state result script.new.state }
     ensures quiet { (script.new.state ≡ script.old.state) ⊎ (script.new.state ≡ answering script.old.state.waits script.old.state) }
 {
+    // A slice that begins nothing takes no turn; the clause speaks of how many it might have taken.
     let _ = turns;
     let Some(first) = script.first() else {
         return Work::Rest;
@@ -119,7 +120,7 @@ fn awaits<T: Drop, M>(script: &Script<T>, active: &Active<M>) -> bool
 ///
 /// # Errors
 ///
-/// Want of memory, and then nothing has changed.
+/// Lack of memory, and then nothing has changed.
 fn give_unread<L: Language>(
     script: &Script<L::Tree>,
     active: &mut Active<L::Machine>,

@@ -120,6 +120,7 @@ impl<T> Model for Script<T> {
 }
 
 impl<T: Drop> Script<T> {
+    /// The script of a kernel to which nothing has come.
     pub fn new(alloc: Global) -> Script<T>
         ensures { result.state ≡ fresh }
     {
@@ -139,7 +140,7 @@ impl<T: Drop> Script<T> {
         }
     }
 
-    /// Makes room for so many more marks.
+    /// Makes room for `more` more marks.
     pub fn reserve(&mut self, more: usize) -> Result<(), AllocError>
         ensures state { self.new.state ≡ self.old.state }
         ensures kept { self.old.room ≤ self.new.room }
@@ -192,7 +193,7 @@ impl<T: Drop> Script<T> {
         self.pending.push(mark.kind, arrival);
     }
 
-    /// The cell that runs has gone on to so many turns.
+    /// The cell that runs has gone on to `turns` turns in all.
     pub fn go_on(&mut self, turns: u64)
         ensures state { self.new.state ≡ with_ran turns self.old.state }
         ensures room { self.new.room ≡ self.old.room }
@@ -303,7 +304,7 @@ impl<T: Drop> Script<T> {
         at < self.leaves.last(seat)
     }
 
-    /// The entries of the first so many pending marks, which pend no more.
+    /// The entries of the first `most` pending marks, which pend no more.
     pub fn take_pending(&mut self, most: usize) -> Result<Vec<Entry>, AllocError>
         ensures entries { IfOk result (λ entries. entries.items ≡ joined (take most self.old.state.pending)) }
         ensures ok { OnOk result (self.new.state ≡ without most self.old.state) }

@@ -16,7 +16,7 @@ use crate::taking::fail;
 use jk_language::{Language, Turned};
 use jk_log::{Cause, Ending, Kind, Written};
 
-/// Runs a cell for at most so many turns, flushes it, and closes the slice by its answer.
+/// Runs a cell for at most `turns` turns, flushes it, and closes the slice by its answer.
 pub(crate) fn go_on<L: Language>(
     script: &mut Script<L::Tree>,
     desk: &mut Desk<L::Session, L::Machine>,
@@ -46,7 +46,7 @@ pub(crate) fn go_on<L: Language>(
     close::<L>(script, desk, active, answer, turns)
 }
 
-/// Runs a cell to so many turns in all. Where it lacks a line, that is marked, and it goes on without one; where that
+/// Runs a cell to `limit` turns in all. Where it lacks a line, that is marked, and it goes on without one; where that
 /// finds no room in the log, it stands there and there is no answer.
 fn advance<L: Language>(
     script: &mut Script<L::Tree>,
@@ -78,7 +78,7 @@ fn advance<L: Language>(
     Some(answer)
 }
 
-/// Runs a machine to so many turns in all.
+/// Runs a machine to `limit` turns in all.
 fn turn_to<L: Language>(machine: &mut L::Machine, limit: u64) -> Turned
     requires on { (L.state machine.old).over ≡ false }
     requires within { (L.state machine.old).turns ≤ limit }

@@ -39,7 +39,7 @@ pub trait Language {
     fn opening(alloc: Global) -> Self::Session
         ensures { result ≡ spoken.opening };
 
-    /// Reads a text. It is refused by a fault that it has in every session, and only where it has no tree, or for want of
+    /// Reads a text. It is refused by a fault that it has in every session, and only where it has no tree, or for lack of
     /// memory.
     fn parse(alloc: Global, text: &str) -> Result<Self::Tree, Refused>
         ensures found { IfOk result (λ tree. spoken.IsTree text.now tree) }
@@ -56,7 +56,7 @@ pub trait Language {
         ensures begun { IfOk result (λ begun. (text : List ℕ) → spoken.IsTree text tree.now → HasBegun spoken state session text begun) }
         ensures back { IfErr result (λ back. back.0 ≡ session) };
 
-    /// Goes on by at most so many turns. Where memory is refused it stands before the turn that wanted it, and a later
+    /// Goes on by at most `most` turns. Where memory is refused it stands before the turn that wanted it, and a later
     /// call goes on there. After `Ended` and `Trapped` it is not called again; after `NeedsLine` it answers that again
     /// until it is given a line.
     fn turns(machine: &mut Self::Machine, most: u64) -> Turned
@@ -68,7 +68,7 @@ pub trait Language {
     ///
     /// # Errors
     ///
-    /// Want of memory, and then nothing has changed.
+    /// Lack of memory, and then nothing has changed.
     fn give_line(machine: &mut Self::Machine, line: Option<&str>) -> Result<(), AllocError>
         requires asked { (state machine.old).asks ≡ true }
         ensures ok { OnOk result (state machine.new ≡ line_given (option_copied line.entry) (state machine.old)) }

@@ -2,7 +2,7 @@
 
 use crate::name::Name;
 
-/// What is wrong with a text: a number from 1 to 21, and where. Lines and columns begin at 1.
+/// What is wrong with a text: a number, which the language chooses, and where. Lines and columns begin at 1.
 #[derive(Clone, Copy, Debug, PartialEq, Eq)]
 pub struct Fault {
     pub number: u8,

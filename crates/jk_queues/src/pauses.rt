@@ -61,7 +61,7 @@ impl Pauses {
     }
 }
 
-/// How many microseconds a sleep takes before which so many were slept.
+/// How many microseconds a sleep takes before which `slept` were slept.
 fn next_sleep(slept: u64) -> u64
     ensures { result ≡ max 50 (min (slept / 256) 30000) }
 {

@@ -141,7 +141,7 @@ fn end_of<L: Language>(kernel: &Kernel<L>) -> End
     }
 }
 
-/// Works slices until the kernel rests or asks, at most so many.
+/// Works slices until the kernel rests or asks, at most `LAST_SLICES`.
 fn finish<L: Language, W: Write>(
     alloc: Global,
     replay: &mut Replay<Kernel<L>>,

@@ -17,7 +17,7 @@ use std::alloc::Global;
 pub enum Step {
     /// The seat, and what it sends.
     Message(u8, Message),
-    /// So many turns.
+    /// A slice of as many turns.
     Run(u64),
     /// The seat that leaves.
     Leave(u8),

@@ -42,7 +42,7 @@ pub(crate) fn publish_pending<L: Language, R: Wait>(
     }
 }
 
-/// Takes the entries of so many pending marks. Where memory is refused, it lets the spare block go and tries once more.
+/// Takes the entries of `most` pending marks. Where memory is refused, it lets the spare block go and tries once more.
 fn take_pending<L: Language>(
     kernel: &mut Kernel<L>,
     most: usize,

@@ -23,13 +23,13 @@ const PART: u64 = 256;
 /// A slice of more than a few turns has at most this part of those that its cell has had.
 const PATIENCE: u64 = 20_000;
 
-/// A slice that took less than so many microseconds was short.
+/// A slice that took fewer microseconds was short.
 const SHORT: u64 = 100;
 
-/// A slice that took more than so many microseconds was long.
+/// A slice that took more microseconds was long.
 const LONG: u64 = 10_000;
 
-/// A slice that follows a long one is to take so many microseconds.
+/// How many microseconds a slice is to take that follows a long one.
 const AIM: u64 = 5_000;
 
 /// How many turns the next slice has, and how many those before it had since the cell began: at most as many as allow the longest
@@ -54,7 +54,7 @@ impl Pace {
         }
     }
 
-    /// The pace after a slice that took so many microseconds and made so many marks. A cell that goes on makes none, or one
+    /// The pace after a slice that took `micros` microseconds and made `marks` marks. A cell that goes on makes none, or one
     /// for what it wrote: with more a cell began or ended.
     pub(crate) fn after(self, micros: u64, marks: usize) -> Pace
         ensures long { 10000 < micros → 2 * result.turns ≤ max 2 self.turns }
@@ -79,7 +79,7 @@ impl Pace {
     }
 }
 
-/// The turns after a slice of so many that took so many microseconds, which are too many.
+/// The turns after a slice of `turns` turns that took `micros` microseconds, which was too long.
 fn shorter(turns: u64, micros: u64) -> u64
     requires turns { turns ≤ 20000 }
     requires long { 10000 < micros }
@@ -90,7 +90,7 @@ fn shorter(turns: u64, micros: u64) -> u64
     (turns * AIM / micros).max(1).min(half)
 }
 
-/// The turns after a slice of so many that wrote something.
+/// The turns after a slice of `turns` turns that wrote something.
 fn written(turns: u64, is_short: bool) -> u64
     requires { turns ≤ 20000 }
     ensures { result ≡ min 1000 (if is_short then 2 * turns else turns) }
@@ -99,7 +99,7 @@ fn written(turns: u64, is_short: bool) -> u64
     more.min(FEW)
 }
 
-/// The turns after a slice of so many that wrote nothing, where the cell has had so many.
+/// The turns after a slice of `turns` turns that wrote nothing, where the cell has had `had` in all.
 fn silent(turns: u64, is_short: bool, had: u64) -> u64
     requires { turns ≤ 20000 }
     ensures { result ≡ (if is_short then min (turns + turns / 256 + 1) (max 1000 (had / 20000)) else turns) }

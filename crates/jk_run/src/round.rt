@@ -19,7 +19,7 @@ const SLICE: u64 = 1_000;
 /// How many bytes may be unread by one who is lent a place at the board, before the kernel waits.
 const UNREAD: usize = 67_108_864;
 
-/// Makes so many rounds, and answers the slice of the last one, or `NoMemory` where a call of that round was refused for
+/// Makes `rounds` rounds, and answers the slice of the last one, or `NoMemory` where a call of that round was refused for
 /// memory. A round takes what arrived, gives jobs, hands results to the kernel, works one slice and publishes. While a
 /// follower that is lent is more than 67,108,864 bytes behind, it works no slice, unless the kernel was shut down: a budget
 /// that is used up counts as refused memory.
@@ -41,7 +41,7 @@ pub fn drive_some<L: Language, R: Wait>(rt: &R, rounds: u64, driver: Driver<L>) 
     (driver, work)
 }
 
-/// One round, whose slice has so many turns. It says also how many marks its slice made. Where entries in hand find no memory
+/// One round, whose slice has at most `turns` turns. It says also how many marks its slice made. Where entries in hand find no memory
 /// again, it is over.
 pub(crate) fn round<L: Language, R: Wait>(
     rt: &R,

@@ -42,7 +42,7 @@ pub fn drive<L: Language, R: Wait + Clock>(rt: &R, driver: Driver<L>) -> Driver<
     unreachable!()
 }
 
-/// The pace after a round that answered this, took so many microseconds and made so many marks in its slice.
+/// The pace after a round that answered `work`, took `micros` microseconds and made `marks` marks in its slice.
 fn next_pace(pace: Pace, work: Work, micros: u64, marks: usize) -> Pace {
     match work {
         Work::Ran => pace.after(micros, marks),

@@ -6,6 +6,7 @@ use crate::message::{Content, Execute, Failure, Header, Message, Outcome, Output
 use std::alloc::AllocError;
 
 impl Message {
+    /// An equal value.
     pub fn copy(&self) -> Result<Message, AllocError>
         ensures { IfOk result (λ m. m ≡ self.now) }
     {
@@ -21,6 +22,7 @@ impl Message {
 }
 
 impl Header {
+    /// An equal value.
     pub fn copy(&self) -> Result<Header, AllocError>
         ensures { IfOk result (λ h. h ≡ self.now) }
     {
@@ -37,6 +39,7 @@ impl Header {
 }
 
 impl Content {
+    /// An equal value.
     pub fn copy(&self) -> Result<Content, AllocError>
         ensures { IfOk result (λ c. c ≡ self.now) }
     {
@@ -48,6 +51,7 @@ impl Content {
 }
 
 impl Request {
+    /// An equal value.
     pub fn copy(&self) -> Result<Request, AllocError>
         ensures { IfOk result (λ r. r ≡ self.now) }
     {
@@ -72,6 +76,7 @@ impl Request {
 }
 
 impl Execute {
+    /// An equal value.
     pub fn copy(&self) -> Result<Execute, AllocError>
         ensures { IfOk result (λ e. e ≡ self.now) }
     {
@@ -87,6 +92,7 @@ impl Execute {
 }
 
 impl Output {
+    /// An equal value.
     pub fn copy(&self) -> Result<Output, AllocError>
         ensures { IfOk result (λ o. o ≡ self.now) }
     {
@@ -118,6 +124,7 @@ impl Output {
 }
 
 impl Outcome {
+    /// An equal value.
     pub fn copy(&self) -> Result<Outcome, AllocError>
         ensures { IfOk result (λ o. o ≡ self.now) }
     {
@@ -138,6 +145,7 @@ impl Outcome {
 }
 
 impl Failure {
+    /// An equal value.
     pub fn copy(&self) -> Result<Failure, AllocError>
         ensures { IfOk result (λ f. f ≡ self.now) }
     {

@@ -122,6 +122,7 @@ pub enum Output {
     },
 }
 
+/// What a status says of a kernel.
 #[derive(Clone, Copy, Debug, PartialEq, Eq)]
 pub enum State {
     Busy,
@@ -149,6 +150,7 @@ pub struct Failure {
     pub evalue: Text,
 }
 
+/// What an `is_complete` reply says of a code.
 #[derive(Clone, Copy, Debug, PartialEq, Eq)]
 pub enum Completeness {
     Complete,

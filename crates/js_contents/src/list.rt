@@ -16,7 +16,7 @@ use nb_doc::Row;
 use serde_json::Value;
 use std::alloc::Global;
 
-// What stands under a name in a folder, without its content; none where the device or memory failed.
+/// What stands under a name in a folder, without its content; none where the device or memory failed.
 fn object<S: Shelf>(
     alloc: Global,
     tables: &Tables,

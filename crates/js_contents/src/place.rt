@@ -25,7 +25,7 @@ fn has_slash(bytes: &[u8]) -> bool
     bytes.iter().any(|&byte| byte == b'/')
 }
 
-// The text of a segment that was sent, if it is text, not empty and without a slash.
+/// The text of a segment that was sent, if it is text, not empty and without a slash.
 #[tactic(auto, using(js_tables::proofs::Giving::is_text, js_tables::proofs::Giving::is_no_text))]
 fn part_text(part: &[u8]) -> Option<&str>
     ensures { option_copied result ≡ spec.part_text part.now }
@@ -42,7 +42,7 @@ fn part_text(part: &[u8]) -> Option<&str>
     Some(text)
 }
 
-// The segments with a slash between two, and the last of them.
+/// The segments with a slash between two, and the last of them.
 fn joined(alloc: Global, parts: &[Bytes]) -> Result<Place, Refusal>
     ensures { Gives result (spec.joined spec.root parts.now) }
 {
@@ -64,7 +64,7 @@ fn joined(alloc: Global, parts: &[Bytes]) -> Result<Place, Refusal>
     })
 }
 
-// The segments without an empty one at their end.
+/// The segments without an empty one at their end.
 fn trimmed(parts: &[Bytes]) -> &[Bytes]
     ensures { result.now ≡ spec.trimmed parts.now }
 {
@@ -79,7 +79,7 @@ fn trimmed(parts: &[Bytes]) -> &[Bytes]
     }
 }
 
-// What follows `/api/contents`.
+/// What follows `/api/contents`.
 fn below_contents(segments: &[Bytes]) -> &[Bytes]
     ensures { result.now ≡ spec.below_contents segments.now }
 {
@@ -97,6 +97,7 @@ pub fn place_of(alloc: Global, segments: &[Bytes]) -> Result<Place, Refusal>
     if_path(joined(alloc, trimmed(below_contents(segments)))?)
 }
 
+/// The place, where its path is one; else the refusal.
 pub fn if_path(place: Place) -> Result<Place, Refusal>
     ensures { Gives result (spec.if_path place) }
 {

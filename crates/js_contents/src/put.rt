@@ -85,7 +85,7 @@ fn file_in(alloc: Global, body: &Json) -> Result<Putting, Refusal>
     file_of(alloc, format.as_str(), content)
 }
 
-// The content of a notebook, which has to be there. It is taken out of the body.
+/// The content of a notebook, which has to be there. It is taken out of the body.
 fn content_in(body: Json) -> Result<Json, Refusal>
     requires { depth body ≤ max_depth }
     ensures exact { Gives result (spec.content_in body) }
@@ -169,7 +169,7 @@ pub fn fitted(alloc: Global, name: &str, putting: Putting) -> Result<Putting, Re
     }
 }
 
-// The same, and the text of a notebook has been written.
+/// The same, and the text of a notebook has been written.
 fn written(alloc: Global, putting: Putting) -> Result<Putting, AllocError>
     ensures { IfOk result (λ p. p ≡ putting) }
 {

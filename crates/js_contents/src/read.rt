@@ -260,7 +260,7 @@ pub fn opening_plan(alloc: Global, about: &About, opening: Opening) -> Result<Pl
     }
 }
 
-// A file that is still to be read and shown.
+/// A file that is still to be read and shown.
 fn file_aim<S: Shelf>(shelf: &mut S, about: About) -> Result<Aim, Refusal>
     ensures { Tells (S.contents shelf.old) (S.contents shelf.new) (spec.AimsAtFile about result) }
 {

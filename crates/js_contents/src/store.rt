@@ -39,7 +39,7 @@ pub fn remove_plan(alloc: Global, segments: &[Bytes]) -> Result<Plan, Refusal>
 
 // ---- PUT
 
-// What a PUT changes. A notebook is put as one, since a recorder may keep the file.
+/// What a PUT changes. A notebook is put as one, since a recorder may keep the file.
 fn put_change(path: Text, putting: Putting) -> Change
     ensures { result ≡ spec.put_change path putting }
 {
@@ -50,7 +50,7 @@ fn put_change(path: Text, putting: Putting) -> Change
     }
 }
 
-// What puts a new file or folder.
+/// What puts a new file or folder.
 fn new_change(alloc: Global, path: Text, putting: Putting) -> Result<Change, AllocError>
     ensures { IfOk result (λ change. change ≡ spec.new_change path putting) }
 {
@@ -77,7 +77,7 @@ fn stored(is_there: bool, content: Bytes) -> Response
     }
 }
 
-// What stands at the place from now on is said without its content: 200 where something was there, else 201.
+/// What stands at the place from now on is said without its content: 200 where something was there, else 201.
 fn storing_by(
     alloc: Global,
     given: &Given,
@@ -134,7 +134,7 @@ fn replacing(
     )
 }
 
-// Whether a request says no date, or this one.
+/// Whether a request says no date, or this one.
 fn is_same_date(asked: &Option<Text>, date: &str) -> bool
     ensures { result ≡ spec.is_same_date asked.now date.now }
 {
@@ -144,7 +144,7 @@ fn is_same_date(asked: &Option<Text>, date: &str) -> bool
     }
 }
 
-// Refuses a put over what was last put at another date than the request says.
+/// Refuses a put over what was last put at another date than the request says.
 fn check_date(
     tables: &Tables,
     place: &Place,
@@ -160,7 +160,7 @@ fn check_date(
     Ok(())
 }
 
-// What a PUT puts over what stands at the place, or where nothing stands.
+/// What a PUT puts over what stands at the place, or where nothing stands.
 fn put_over(
     alloc: Global,
     tables: &Tables,

@@ -8,7 +8,7 @@ use std::marker::Model;
 use std::mem;
 use std::time::{Clock, Duration, Instant};
 
-/// After so many seconds those who wait for a kernel's end are answered, whether it has ended or not.
+/// After how many seconds those who wait for a kernel's end are answered, whether it has ended or not.
 const PATIENCE: u64 = 5;
 
 /// A kernel that was told to shut down, or was shut down, and whose recorder was not told all that it shows.

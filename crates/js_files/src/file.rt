@@ -49,7 +49,7 @@ impl<D: Device + Drop> FileShelf<D> {
     }
 }
 
-// Counts a fault of the device.
+/// Counts a fault of the device.
 fn counted<T: Drop>(failures: &mut u64, outcome: Result<T, ShelfRefusal>) -> Result<T, ShelfRefusal>
     ensures same { result ≡ outcome }
     ensures cause { HasCause failures.old failures.new result }
@@ -60,7 +60,7 @@ fn counted<T: Drop>(failures: &mut u64, outcome: Result<T, ShelfRefusal>) -> Res
     outcome
 }
 
-// The bytes of the file at the place.
+/// The bytes of the file at the place.
 fn read_file<D: Device>(device: &mut D, place: &Place) -> Result<Bytes, DeviceFault>
     ensures { Tells (D.contents device.old) (D.contents device.new) (Reads place.now result) }
 {
@@ -147,35 +147,35 @@ fn write_item<D: Device>(
     }
 }
 
-// Whether a folder stands at the place.
+/// Whether a folder stands at the place.
 fn has_folder<D: Device>(device: &mut D, place: &Place) -> Result<bool, DeviceFault>
     ensures { Tells (D.contents device.old) (D.contents device.new) (Finds (λ m found. found ≡ is_folder (m place.now)) result) }
 {
     Ok(device.kind(place)? == Kind::Folder)
 }
 
-// Whether a file or a folder stands at the place.
+/// Whether a file or a folder stands at the place.
 fn has_item<D: Device>(device: &mut D, place: &Place) -> Result<bool, DeviceFault>
     ensures { Tells (D.contents device.old) (D.contents device.new) (Finds (λ m found. found ≡ is_some (m place.now)) result) }
 {
     Ok(matches!(device.kind(place)?, Kind::File(_) | Kind::Folder))
 }
 
-// Whether anything stands at the place, a link too.
+/// Whether anything stands at the place, a link too.
 fn is_taken<D: Device>(device: &mut D, place: &Place) -> Result<bool, DeviceFault>
     ensures { Tells (D.contents device.old) (D.contents device.new) (Finds (λ m found. found ≡ is_some (m place.now)) result) }
 {
     Ok(device.kind(place)? != Kind::Nothing)
 }
 
-// Whether the place of a folder would be below itself.
+/// Whether the place of a folder would be below itself.
 fn is_into_itself<D: Device>(device: &mut D, from: &Place, to: &Place) -> Result<bool, DeviceFault>
     ensures { Tells (D.contents device.old) (D.contents device.new) (Finds (λ m found. found ≡ (is_folder (m from.now) && is_below from.now to.now)) result) }
 {
     Ok(has_folder(device, from)? && is_below(from.as_str(), to.as_str()))
 }
 
-// Whether something stands at the place, and that is a folder.
+/// Whether something stands at the place, and that is a folder.
 fn is_movable<D: Device>(device: &mut D, from: &Place, folder: &Place) -> Result<bool, DeviceFault>
     ensures { Tells (D.contents device.old) (D.contents device.new) (Finds (λ m found. found ≡ (is_some (m from.now) && is_folder (m folder.now))) result) }
 {

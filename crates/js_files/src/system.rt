@@ -11,14 +11,14 @@ use std::os::unix::fs::MetadataExt;
 use std::rt::Files;
 use std::{fs, io};
 
-/// A file has at most so many bytes.
+/// How many bytes a file has at most.
 const MAX_FILE_LEN: u64 = 1 << 30;
 
 /// The name of a file that is written before it takes the place of another begins so, and goes on with a number. No
 /// segment can be this.
 const SPARE: &str = "\\new";
 
-/// So many names of such files are tried.
+/// How many names of such files are tried.
 const MAX_TRIES: u64 = 10_000;
 
 /// The files and folders below one folder of the system, its root. It tells nothing of what it holds.
@@ -54,7 +54,7 @@ impl<R: Files<File = File> + AllocGlobal + Clone + Drop> SystemFolder<R> {
         })
     }
 
-    // The path that the system is given for a place: the root's, or after it a slash and the place's own.
+    /// The path that the system is given for a place: the root's, or after it a slash and the place's own.
     fn path_of(&self, place: &Place) -> Result<String, AllocError>
         ensures { IfOk result (λ path. string_bytes path ≡ below_root (string_bytes self.now.root) place.now) }
     {
@@ -66,7 +66,7 @@ impl<R: Files<File = File> + AllocGlobal + Clone + Drop> SystemFolder<R> {
         Ok(path)
     }
 
-    // What stands at a place, where each thing on the way is a folder and no link.
+    /// What stands at a place, where each thing on the way is a folder and no link.
     fn look(&self, place: &Place) -> Result<Option<fs::Metadata>, DeviceFault> {
         let mut path = String::from_str(self.rt.alloc(), self.root.as_str())?;
         if place.as_str().is_empty() {
@@ -87,7 +87,7 @@ impl<R: Files<File = File> + AllocGlobal + Clone + Drop> SystemFolder<R> {
         Ok(found)
     }
 
-    // Whether the opened file is the one that stands at a place.
+    /// Whether the opened file is the one that stands at a place.
     fn is_at(&self, place: &Place, opened: &fs::Metadata) -> Result<bool, DeviceFault> {
         match self.look(place)? {
             None => Ok(false),
@@ -95,7 +95,7 @@ impl<R: Files<File = File> + AllocGlobal + Clone + Drop> SystemFolder<R> {
         }
     }
 
-    // A new file in a folder of the system, with its path. Nothing had its name.
+    /// A new file in a folder of the system, with its path. Nothing had its name.
     fn new_spare(&mut self, folder: &str) -> Result<(R::File, String), DeviceFault> {
         for _ in 0..MAX_TRIES {
             self.spares = self.spares.wrapping_add(1);
@@ -109,7 +109,7 @@ impl<R: Files<File = File> + AllocGlobal + Clone + Drop> SystemFolder<R> {
         Err(DeviceFault::Failed)
     }
 
-    // Removes what crashes left in a folder of the system, where nothing else is in it.
+    /// Removes what crashes left in a folder of the system, where nothing else is in it.
     fn sweep(&self, folder: &str) -> Result<(), DeviceFault> {
         let mut left = Vec::new(self.rt.alloc());
         for entry in fs::read_dir(&self.rt, folder)? {
@@ -131,7 +131,7 @@ impl<R: Files<File = File> + AllocGlobal + Clone + Drop> SystemFolder<R> {
     }
 }
 
-// The path of a new file of that number.
+/// The path of a new file of that number.
 fn spare_path(alloc: Global, folder: &str, number: u64) -> Result<String, AllocError> {
     let mut buffer = Buffer::new();
     let mut path = String::from_str(alloc, folder)?;
@@ -141,7 +141,7 @@ fn spare_path(alloc: Global, folder: &str, number: u64) -> Result<String, AllocE
     Ok(path)
 }
 
-// A call that is made again where a signal interrupted it.
+/// A call that is made again where a signal interrupted it.
 fn again<T: Drop, C: FnMut() -> io::Result<T> + Drop>(mut call: C) -> io::Result<T>
     requires { (f : C) → C.pre f }
 {
@@ -154,7 +154,7 @@ fn again<T: Drop, C: FnMut() -> io::Result<T> + Drop>(mut call: C) -> io::Result
     call()
 }
 
-// Whether both are of one file.
+/// Whether both are of one file.
 fn is_same(one: &fs::Metadata, other: &fs::Metadata) -> bool {
     one.dev() == other.dev() && one.ino() == other.ino()
 }
@@ -181,7 +181,7 @@ fn told(answer: io::Result<fs::Metadata>) -> Result<Option<fs::Metadata>, Device
     }
 }
 
-// Makes a file, where nothing has its name.
+/// Makes a file, where nothing has its name.
 fn new_file<R: Files>(rt: &R, path: &str) -> io::Result<R::File> {
     OpenOptions::new()
         .write(true)
@@ -189,7 +189,7 @@ fn new_file<R: Files>(rt: &R, path: &str) -> io::Result<R::File> {
         .open(rt, path)
 }
 
-// Writes a new file's bytes, which are on the disk when that returns.
+/// Writes a new file's bytes, which are on the disk when that returns.
 fn fill<F: OpenFile + Write + Drop>(
     mut file: F,
     mode: Option<fs::Permissions>,
@@ -202,7 +202,7 @@ fn fill<F: OpenFile + Write + Drop>(
     file.sync_all()
 }
 
-// The mode of the file at a path, if one is there.
+/// The mode of the file at a path, if one is there.
 fn mode_at<R: Files>(rt: &R, path: &str) -> Option<fs::Permissions> {
     match fs::symlink_metadata(rt, path) {
         Ok(metadata) if metadata.is_file() => Some(metadata.permissions()),
@@ -210,7 +210,7 @@ fn mode_at<R: Files>(rt: &R, path: &str) -> Option<fs::Permissions> {
     }
 }
 
-// Brings to the disk what was changed in a folder.
+/// Brings to the disk what was changed in a folder.
 fn keep_folder<R: Files>(rt: &R, path: &str) -> Result<(), DeviceFault> {
     match fs::open(rt, path) {
         Ok(folder) => folder.sync_all().map_err(|_| DeviceFault::Failed),
@@ -218,7 +218,7 @@ fn keep_folder<R: Files>(rt: &R, path: &str) -> Result<(), DeviceFault> {
     }
 }
 
-// Whether an entry of a folder is a file or a folder. What can't be told is neither.
+/// Whether an entry of a folder is a file or a folder. What can't be told is neither.
 fn is_item<R: Files>(entry: &fs::DirEntry<R>) -> Result<bool, DeviceFault> {
     match entry.metadata() {
         Ok(metadata) => Ok(metadata.is_dir() || metadata.is_file()),
@@ -237,8 +237,8 @@ impl<R: Files<File = File> + AllocGlobal + Clone + Drop> Device for SystemFolder
         }
     }
 
-    // What was opened is the file that stands there, before and afterwards: no link that another process put in its
-    // place in between. A write puts a new file into its place, so what was opened keeps its bytes.
+    /// What was opened is the file that stands there, before and afterwards: no link that another process put in its
+    /// place in between. A write puts a new file into its place, so what was opened keeps its bytes.
     fn open(&mut self, place: &Place) -> Result<Opened, DeviceFault> {
         let Some(looked) = self.look(place)? else {
             return Err(DeviceFault::Failed);
@@ -257,7 +257,7 @@ impl<R: Files<File = File> + AllocGlobal + Clone + Drop> Device for SystemFolder
         Ok(Opened::System(SystemFile::new(self.rt.alloc(), file, opened.len(), MAX_FILE_LEN)))
     }
 
-    // Links, other things and names that are no segments are left out.
+    /// Links, other things and names that are no segments are left out.
     fn names(&mut self, place: &Place) -> Result<Names, DeviceFault> {
         let mut texts = Vec::new(self.rt.alloc());
         for entry in fs::read_dir(&self.rt, self.path_of(place)?.as_str())? {

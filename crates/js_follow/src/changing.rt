@@ -23,7 +23,7 @@ fn are(bytes: &[u8], other: &Option<Bytes>) -> bool
     }
 }
 
-// Whether a file of these bytes is the recorder's own.
+/// Whether a file of these bytes is the recorder's own.
 fn is_own(recording: &Recording, bytes: &[u8]) -> bool
     ensures { result ≡ spec.is_own bytes.now recording.now }
 {
@@ -33,7 +33,7 @@ fn is_own(recording: &Recording, bytes: &[u8]) -> bool
 /// A file of more bytes is not read, unless it may be the recorder's own.
 const MAX_READ: u64 = 64 << 20;
 
-// Whether a file of so many bytes may hold these.
+/// Whether a file of `count` bytes may hold these.
 fn has_length(count: u64, bytes: &Option<Bytes>) -> bool
     ensures { result ≡ spec.has_length count bytes.now }
 {
@@ -43,21 +43,21 @@ fn has_length(count: u64, bytes: &Option<Bytes>) -> bool
     }
 }
 
-// Whether a file of so many bytes may be the recorder's own.
+/// Whether a file of `count` bytes may be the recorder's own.
 fn may_be_own(recording: &Recording, count: u64) -> bool
     ensures { result ≡ spec.may_be_own count recording.now }
 {
     has_length(count, &recording.known) || has_length(count, &recording.tried)
 }
 
-// Whether a file of so many bytes is read.
+/// Whether a file of `count` bytes is read.
 fn is_read(recording: &Recording, count: u64) -> bool
     ensures { result ≡ spec.is_read count recording.now }
 {
     count <= MAX_READ || may_be_own(recording, count)
 }
 
-// The notebook that a recorder knew of its file.
+/// The notebook that a recorder knew of its file.
 fn notebook_known(alloc: Global, known: &Option<Bytes>) -> Result<Notebook, AllocError>
     ensures { IfOk result (λ n. n ≡ spec.notebook_known known.now) }
 {
@@ -71,7 +71,7 @@ fn notebook_known(alloc: Global, known: &Option<Bytes>) -> Result<Notebook, Allo
     }
 }
 
-// A recorder takes the notebook that somebody else made of its file, which holds these bytes.
+/// A recorder takes the notebook that somebody else made of its file, which holds these bytes.
 fn take(
     alloc: Global,
     recording: &mut Recording,
@@ -91,7 +91,7 @@ fn take(
     Ok(())
 }
 
-// Where a file goes that is no notebook.
+/// Where a file goes that is no notebook.
 fn beside(alloc: Global, path: &str, date: &Text) -> Result<Text, AllocError>
     ensures { IfOk result (λ place. place ≡ spec.beside path.now date.now) }
 {
@@ -114,7 +114,7 @@ fn set_aside<S: Shelf>(
     shelf.rename(path, place.as_str())
 }
 
-// Meets a file of these bytes that is not the recorder's own.
+/// Meets a file of these bytes that is not the recorder's own.
 fn meet_change<S: Shelf>(
     alloc: Global,
     recording: &mut Recording,
@@ -150,7 +150,7 @@ fn meet_file<S: Shelf>(
     Ok(())
 }
 
-// Where nothing stands at the path, the save makes the file anew.
+/// Where nothing stands at the path, the save makes the file anew.
 fn unless_missing(refusal: ShelfRefusal) -> Result<(), ShelfRefusal>
     ensures { result ≡ spec.unless_missing refusal }
 {
@@ -160,7 +160,7 @@ fn unless_missing(refusal: ShelfRefusal) -> Result<(), ShelfRefusal>
     }
 }
 
-// Reads what stands at a path, and meets it.
+/// Reads what stands at a path, and meets it.
 fn read_and_meet<S: Shelf>(
     alloc: Global,
     recording: &mut Recording,
@@ -177,7 +177,7 @@ fn read_and_meet<S: Shelf>(
     }
 }
 
-// Meets a file of so many bytes.
+/// Meets a file of `count` bytes.
 fn meet_count<S: Shelf>(
     alloc: Global,
     recording: &mut Recording,
@@ -215,7 +215,7 @@ pub(crate) fn look<S: Shelf>(
 
 // ---- whether a put may take the place of what stands there
 
-// Where nothing stands at the path, a put makes the file anew.
+/// Where nothing stands at the path, a put makes the file anew.
 fn or_free(refusal: ShelfRefusal) -> Result<bool, ShelfRefusal>
     ensures { result ≡ spec.or_free refusal }
 {
@@ -235,7 +235,7 @@ fn compared(recording: &Recording, found: Result<Item, ShelfRefusal>) -> Result<
     }
 }
 
-// Compares a file of so many bytes.
+/// Compares a file of `count` bytes.
 fn compare_count<S: Shelf>(
     recording: &Recording,
     shelf: &mut S,

@@ -26,14 +26,14 @@ pub(crate) fn place_of(recordings: &[Recording], kernel: &str) -> Option<usize>
 
 // ---- telling
 
-// Whether one of the entries ends a stored cell.
+/// Whether one of the entries ends a stored cell.
 fn end_stored(entries: &[Entry]) -> bool
     ensures { result ≡ list_any is_ending entries.now }
 {
     entries.iter().any(|entry| ends_stored(entry))
 }
 
-// Tells a recorder the first of the entries, as many as there is memory for, and answers how many.
+/// Tells a recorder the first of the entries, as many as there is memory for, and answers how many.
 fn tell(recording: &mut Recording, entries: &[Entry]) -> usize
     ensures told { spec.HasTold (take result entries.now) recording.old recording.new }
     ensures within { result ≤ length entries.now }
@@ -44,7 +44,7 @@ fn tell(recording: &mut Recording, entries: &[Entry]) -> usize
     count
 }
 
-// The entries after the first so many.
+/// The entries after the first `count`.
 fn rest_of(entries: Vec<Entry>, count: usize) -> Listed<Entry>
     requires { count ≤ length entries.items }
     ensures { result ≡ drop count entries.items }
@@ -56,7 +56,7 @@ fn rest_of(entries: Vec<Entry>, count: usize) -> Listed<Entry>
 
 // ---- saving
 
-// The path of a recorder's file: that of its kernel's session.
+/// The path of a recorder's file: that of its kernel's session.
 fn path_of(kernels: &[Kernel], recording: &Recording) -> Result<Text, AllocError>
     ensures { IfOk result (λ path. path ≡ spec.path_of kernels.now recording.now) }
 {
@@ -69,7 +69,7 @@ fn path_of(kernels: &[Kernel], recording: &Recording) -> Result<Text, AllocError
     }
 }
 
-// Saves a recorder that has gone to its path. A refused save is due still.
+/// Saves a recorder that has gone to its path. A refused save is due still.
 fn save<S: Shelf>(
     alloc: Global,
     recording: &mut Recording,
@@ -97,7 +97,7 @@ fn save<S: Shelf>(
     saved
 }
 
-// Saves a recorder that goes to a path. It says whether that is saved; a refused save is due still.
+/// Saves a recorder that goes to a path. It says whether that is saved; a refused save is due still.
 pub(crate) fn save_to<S: Shelf>(
     alloc: Global,
     recording: &mut Recording,
@@ -110,7 +110,7 @@ pub(crate) fn save_to<S: Shelf>(
     save(alloc, recording, shelf)
 }
 
-// Looks at a recorder's file, and saves it there. It says whether that is saved.
+/// Looks at a recorder's file, and saves it there. It says whether that is saved.
 #[tactic(auto, unfolding(crate::specs::Following::LooksAndSaves))]
 fn look_and_save<S: Shelf>(
     alloc: Global,
@@ -125,7 +125,7 @@ fn look_and_save<S: Shelf>(
     save_to(alloc, recording, shelf, path)
 }
 
-// The path of a recorder's file and a copy of it.
+/// The path of a recorder's file and a copy of it.
 fn two_paths(kernels: &[Kernel], recording: &Recording) -> Result<(Text, Text), AllocError>
     ensures { IfOk result (λ paths. (paths.0 ≡ spec.path_of kernels.now recording.now) × (paths.1 ≡ spec.path_of kernels.now recording.now)) }
 {
@@ -134,7 +134,7 @@ fn two_paths(kernels: &[Kernel], recording: &Recording) -> Result<(Text, Text), 
     Ok((path, copy))
 }
 
-// Saves the recorder at a place. Where there is no memory, that is due still.
+/// Saves the recorder at a place. Where there is no memory, that is due still.
 fn save_at<S: Shelf>(alloc: Global, tables: &mut Tables, shelf: &mut S, date: &Text, place: usize)
     requires { place < length (rows tables.old).recordings }
     ensures { (x : Recording) → slice_get (rows tables.old).recordings place ≡ Some x
@@ -154,7 +154,7 @@ fn save_at<S: Shelf>(alloc: Global, tables: &mut Tables, shelf: &mut S, date: &T
     }
 }
 
-// Saves the recorder at a place where that is due. Where there is no memory, it is due still.
+/// Saves the recorder at a place where that is due. Where there is no memory, it is due still.
 fn save_if_due<S: Shelf>(
     alloc: Global,
     tables: &mut Tables,
@@ -171,7 +171,7 @@ fn save_if_due<S: Shelf>(
     }
 }
 
-// Tells the recorder at a place entries, and saves it where that is due. It answers the entries that were not told.
+/// Tells the recorder at a place entries, and saves it where that is due. It answers the entries that were not told.
 fn follow_at<S: Shelf>(
     alloc: Global,
     tables: &mut Tables,

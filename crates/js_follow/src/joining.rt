@@ -14,7 +14,7 @@ use std::alloc::{AllocError, Global};
 
 // ---- a cell that they have
 
-// The cell of that id.
+/// The cell of that id.
 fn cell_at<'c>(cells: &'c [Cell], id: &str) -> Option<&'c Cell>
     ensures { option_copied result ≡ spec.cell_at id.now cells.now }
 {
@@ -33,7 +33,7 @@ fn has_count(cell: Option<&Cell>) -> bool
     }
 }
 
-// What the run of a cell left.
+/// What the run of a cell left.
 fn run_at(alloc: Global, cell: Option<&Cell>) -> Result<Execution, AllocError>
     ensures { IfOk result (λ e. e ≡ spec.run_at (option_copied cell.entry)) }
 {
@@ -111,7 +111,7 @@ fn joint_cell(alloc: Global, known: &[Cell], own: &[Cell], cell: Cell) -> Result
     })
 }
 
-// Their cells, with what is newer in the recorder's.
+/// Their cells, with what is newer in the recorder's.
 fn their_cells(
     alloc: Global,
     known: &[Cell],
@@ -164,7 +164,7 @@ fn cell_copy(alloc: Global, cell: &Cell) -> Result<Cell, AllocError>
     })
 }
 
-// The ids of cells.
+/// The ids of cells.
 fn ids_of(alloc: Global, cells: &[Cell]) -> Result<Names, AllocError>
     ensures { IfOk result (λ names. (id : List ℕ) → is_among names id ≡ is_among (ids cells.now) id) }
 {
@@ -182,7 +182,7 @@ fn is_newer(known: &Names, theirs: &Names, cell: &Cell) -> bool
     !known.contains(id) && !theirs.contains(id)
 }
 
-// Appends the newer ones of the recorder's cells.
+/// Appends the newer ones of the recorder's cells.
 fn add_newer(
     alloc: Global,
     known: &Names,

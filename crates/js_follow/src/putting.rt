@@ -15,7 +15,7 @@ use json_form::Text;
 use nb_doc::Notebook;
 use std::alloc::Global;
 
-// Where the recorder of the session at a path stands.
+/// Where the recorder of the session at a path stands.
 fn recorder_at(tables: &Tables, path: &str) -> Option<usize>
     ensures place { result ≡ spec.recorder_at path.now (rows tables.now) }
     ensures within { IfSome result (λ place. place < length (rows tables.now).recordings) }
@@ -26,8 +26,8 @@ fn recorder_at(tables: &Tables, path: &str) -> Option<usize>
     }
 }
 
-// Gives a recorder a notebook, and saves it at a path, once. A refused save is due. Where there is no memory for the notebook,
-// nothing has changed.
+/// Gives a recorder a notebook, and saves it at a path, once. A refused save is due. Where there is no memory for the notebook,
+/// nothing has changed.
 fn take_put<S: Shelf>(
     alloc: Global,
     recording: &mut Recording,
@@ -46,7 +46,7 @@ fn take_put<S: Shelf>(
     save_to(alloc, recording, shelf, path)
 }
 
-// The same, unless somebody else changed the file at the path. That is refused, and a save is due, which takes their change.
+/// The same, unless somebody else changed the file at the path. That is refused, and a save is due, which takes their change.
 #[tactic(auto, unfolding(crate::specs::Putting::GivesTo))]
 fn give<S: Shelf>(
     alloc: Global,
@@ -66,7 +66,7 @@ fn give<S: Shelf>(
     take_put(alloc, recording, shelf, path, notebook)
 }
 
-// Puts the file of a notebook.
+/// Puts the file of a notebook.
 fn put_file<S: Shelf>(
     alloc: Global,
     shelf: &mut S,
@@ -83,7 +83,7 @@ fn put_file<S: Shelf>(
 /// due. Where there is none, the file of the notebook is put.
 ///
 /// # Errors
-/// What the shelf refuses, and want of memory. `Exists` where somebody else changed the recorder's file: a save is due then, which
+/// What the shelf refuses, and lack of memory. `Exists` where somebody else changed the recorder's file: a save is due then, which
 /// takes their change, and a later put takes the place of both.
 pub fn put_book<S: Shelf>(
     alloc: Global,

@@ -8,14 +8,14 @@ use crate::Headers;
 use crate::framing::{are_digits, capped_number, is_number};
 use crate::places::split_at_byte;
 
-// Whether it is a number from 0 to 255.
+/// Whether it is a number from 0 to 255.
 fn is_octet(text: &[u8]) -> bool
     ensures { result ≡ spec.is_octet text.now }
 {
     is_number(text) && capped_number(text) <= 255
 }
 
-// Whether it is two such numbers with a dot between.
+/// Whether it is two such numbers with a dot between.
 fn are_two_octets(text: &[u8]) -> bool
     ensures { result ≡ spec.are_two_octets text.now }
 {
@@ -23,7 +23,7 @@ fn are_two_octets(text: &[u8]) -> bool
     is_octet(first) && is_octet(second)
 }
 
-// Whether it is three such numbers with dots between.
+/// Whether it is three such numbers with dots between.
 fn are_three_octets(text: &[u8]) -> bool
     ensures { result ≡ spec.are_three_octets text.now }
 {
@@ -31,7 +31,7 @@ fn are_three_octets(text: &[u8]) -> bool
     is_octet(first) && are_two_octets(rest)
 }
 
-// Whether it is an address of four numbers whose first is 127.
+/// Whether it is an address of four numbers whose first is 127.
 fn is_loopback(name: &[u8]) -> bool
     ensures { result ≡ spec.is_loopback name.now }
 {
@@ -45,14 +45,14 @@ fn is_name_byte(byte: u8) -> bool
     byte.is_ascii_alphanumeric() || byte == b'-' || byte == b'_'
 }
 
-// Whether it is a name without a dot, or nothing.
+/// Whether it is a name without a dot, or nothing.
 fn is_short_name(name: &[u8]) -> bool
     ensures { result ≡ spec.is_short_name name.now }
 {
     name.iter().all(|byte| is_name_byte(*byte))
 }
 
-// Whether it ends in `.localhost`, in any case of letters.
+/// Whether it ends in `.localhost`, in any case of letters.
 fn is_in_localhost(name: &[u8]) -> bool
     ensures { result ≡ spec.is_in_localhost name.now }
 {
@@ -65,7 +65,7 @@ fn is_own_name(name: &[u8]) -> bool
     is_short_name(name) || is_loopback(name) || is_in_localhost(name)
 }
 
-// Whether it is nothing, or a colon and a number.
+/// Whether it is nothing, or a colon and a number.
 fn is_port(text: &[u8]) -> bool
     ensures { result ≡ spec.is_port text.now }
 {
@@ -107,7 +107,7 @@ fn is_own_origin(host: Option<&[u8]>, origin: &[u8]) -> bool
     }
 }
 
-// Whether there is no `Host`, or they are all that one, which names this machine.
+/// Whether there is no `Host`, or they are all that one, which names this machine.
 fn hosts_pass(host: Option<&[u8]>, headers: &Headers) -> bool
     ensures { result ≡ spec.passes spec.is_own_host (option_copied host.entry) (values_of (codes "host") headers.now) }
 {
@@ -117,7 +117,7 @@ fn hosts_pass(host: Option<&[u8]>, headers: &Headers) -> bool
     }
 }
 
-// Whether there is no `Origin`, or they are all that one, which is of that host.
+/// Whether there is no `Origin`, or they are all that one, which is of that host.
 fn origins_pass(host: Option<&[u8]>, origin: Option<&[u8]>, headers: &Headers) -> bool
     ensures { result ≡ spec.passes (spec.is_own_origin (option_copied host.entry)) (option_copied origin.entry) (values_of (codes "origin") headers.now) }
 {

@@ -10,10 +10,10 @@ use crate::watch::Watch;
 use std::alloc::Global;
 use std::io::Read;
 
-/// One request takes at most so many reads that give bytes: no more than it has bytes.
+/// How many reads that give bytes one request takes at most: no more than it has bytes.
 pub const MAX_READS: u32 = 16_793_600;
 
-/// At most so many bytes are asked for in one read.
+/// How many bytes are asked for in one read at most.
 pub(crate) const READ_LEN: usize = 16_384;
 
 /// Reads once, and adds what came to `bytes`, which then has at most `most` bytes. `room` is overwritten.

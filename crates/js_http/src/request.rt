@@ -110,7 +110,7 @@ pub(crate) fn finish_request<R: Read>(
     })
 }
 
-// The request at the front of a stream, or why there is none.
+/// The request at the front of a stream, or why there is none.
 fn take_request<R: Read>(alloc: Global, reader: &mut R) -> Result<Request, HttpRefusal>
     ensures { (taken : List ℕ)
         × Consumes (R.remaining reader.old) (R.remaining reader.new) taken

@@ -32,7 +32,7 @@ pub enum Served {
     Unanswered(HttpRefusal),
 }
 
-// Writes the response of a refusal, if it has one.
+/// Writes the response of a refusal, if it has one.
 fn refuse<W: Write>(writer: &mut W, refusal: HttpRefusal) -> io::Result<Served>
     ensures { WritesFront (W.contents writer.old) (W.contents writer.new) (refusal_text (status_of refusal)) result
         × IfOk result (λ served. served ≡ Served.Unanswered refusal) }
@@ -43,8 +43,8 @@ fn refuse<W: Write>(writer: &mut W, refusal: HttpRefusal) -> io::Result<Served>
     Ok(Served::Unanswered(refusal))
 }
 
-// Reads one request. A client that waits to be told that its body may come is told so before the body is read. The error is
-// the writer's.
+/// Reads one request. A client that waits to be told that its body may come is told so before the body is read. The error is
+/// the writer's.
 fn take_invited<R: Read, W: Write>(
     alloc: Global,
     stream: &mut Stream<R, W>,

@@ -34,7 +34,7 @@ impl Segments {
     }
 }
 
-// The bytes that a segment stands for.
+/// The bytes that a segment stands for.
 fn decoded(alloc: Global, segment: &[u8]) -> Result<Bytes, AllocError>
     ensures { IfOk result (λ bytes. bytes ≡ percent_decoded segment.now) }
 {
@@ -44,7 +44,7 @@ fn decoded(alloc: Global, segment: &[u8]) -> Result<Bytes, AllocError>
 }
 
 /// The pieces of a path between its slashes, each with its escapes read: `/a%20b/c` has an empty one, `a b` and `c`.
-/// They are bytes, and may be no UTF-8. Want of memory is the only error.
+/// They are bytes, and may be no UTF-8. Lack of memory is the only error.
 pub fn path_segments(alloc: Global, path: &str) -> Result<Segments, AllocError>
     ensures { IfOk result (λ segments. segments ≡ spec.segments_of path.now) }
 {
@@ -61,7 +61,7 @@ pub fn path_segments(alloc: Global, path: &str) -> Result<Segments, AllocError>
 }
 
 /// The value that a query gives to a name, or `None` where no field has the name. Of several fields of one name the
-/// last counts; a `+` is a blank, and what is no UTF-8 becomes U+FFFD. Want of memory is the only error.
+/// last counts; a `+` is a blank, and what is no UTF-8 becomes U+FFFD. Lack of memory is the only error.
 pub fn query_value(alloc: Global, query: &str, name: &str) -> Result<Option<Text>, AllocError>
     ensures { IfOk result (λ value. value ≡ spec.query_value query.now name.now) }
 {

@@ -9,7 +9,7 @@ pub(crate) struct Watch {
     empty: bool,
     /// The head's empty line came.
     ended: bool,
-    /// From so many bytes on a parse is due, also where that line did not come.
+    /// How many bytes there have to be for a parse that is due although that line did not come.
     due: usize,
 }
 
@@ -41,7 +41,7 @@ impl Watch {
         }
     }
 
-    /// Whether the bytes, of which there are so many, are worth a parse: where the head's end came, and each time that
+    /// Whether the bytes, of which there are `len`, are worth a parse: where the head's end came, and each time that
     /// their number has doubled. So all parses together cost what the bytes do.
     pub(crate) fn is_due(&mut self, len: usize) -> bool {
         if self.ended || len >= self.due {

@@ -24,7 +24,7 @@ pub(crate) fn write_bytes<W: Write>(writer: &mut W, bytes: &[u8]) -> io::Result<
     Ok(())
 }
 
-// Writes the parts one after the other.
+/// Writes the parts one after the other.
 fn write_parts<W: Write>(writer: &mut W, parts: &[&[u8]]) -> io::Result<()>
     ensures { WritesFront (W.contents writer.old) (W.contents writer.new) (flat_map (λ part. part.now) parts.now) result }
 {
@@ -34,7 +34,7 @@ fn write_parts<W: Write>(writer: &mut W, parts: &[&[u8]]) -> io::Result<()>
     Ok(())
 }
 
-// Writes a response whose content is of that type and has `len` bytes, in digits.
+/// Writes a response whose content is of that type and has `len` bytes, in digits.
 fn write_lines<'t, W: Write>(
     writer: &mut W,
     status_line: &'t str,
@@ -59,7 +59,7 @@ fn write_lines<'t, W: Write>(
     )
 }
 
-// The same for JSON, with a line that says where a new thing is.
+/// The same for JSON, with a line that says where a new thing is.
 fn write_located_lines<'t, W: Write>(
     writer: &mut W,
     status_line: &'t str,
@@ -120,7 +120,7 @@ fn write_switch<W: Write>(writer: &mut W, accept: &str) -> io::Result<()>
     )
 }
 
-// The same with the line of a protocol that is chosen.
+/// The same with the line of a protocol that is chosen.
 fn write_protocol_switch<W: Write>(writer: &mut W, accept: &str, protocol: &str) -> io::Result<()>
     ensures { WritesFront (W.contents writer.old) (W.contents writer.new) (switch_text accept.now (Some protocol.now)) result }
 {
@@ -136,7 +136,7 @@ fn write_protocol_switch<W: Write>(writer: &mut W, accept: &str, protocol: &str)
     )
 }
 
-// Writes the response whose content is a page for a browser.
+/// Writes the response whose content is a page for a browser.
 fn write_page<W: Write>(writer: &mut W, page: &str) -> io::Result<()>
     ensures { WritesFront (W.contents writer.old) (W.contents writer.new) (page_text page.now) result }
 {

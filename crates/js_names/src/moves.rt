@@ -27,7 +27,7 @@ pub struct Moving {
 
 // ---- paths
 
-// Whether the text is nothing, or a slash and more.
+/// Whether the text is nothing, or a slash and more.
 fn goes_down(text: &str) -> bool
     ensures { result ≡ spec.goes_down text.now }
 {
@@ -37,14 +37,14 @@ fn goes_down(text: &str) -> bool
     }
 }
 
-// What follows a front of a path.
+/// What follows a front of a path.
 fn behind<'p>(top: &str, path: &'p str) -> Option<&'p str>
     ensures { option_copied result ≡ behind_of top.now path.now }
 {
     path.strip_prefix(top)
 }
 
-// What follows the path `top` in a path that is `top` or stands below it.
+/// What follows the path `top` in a path that is `top` or stands below it.
 fn following<'p>(top: &str, path: &'p str) -> Option<&'p str>
     ensures { option_copied result ≡ following_of top.now path.now }
 {
@@ -54,7 +54,7 @@ fn following<'p>(top: &str, path: &'p str) -> Option<&'p str>
     }
 }
 
-// Where a path goes.
+/// Where a path goes.
 fn moved_path(alloc: Global, from: &str, to: &str, path: &str) -> Result<Text, AllocError>
     ensures { IfOk result (λ moved. moved ≡ spec.moved_path from.now to.now path.now) }
 {
@@ -111,7 +111,7 @@ fn moved_kernels(
     Ok(moved)
 }
 
-// Whether a session stays at a path.
+/// Whether a session stays at a path.
 fn stays_at(kernels: &[Kernel], from: &str, path: &str) -> bool
     ensures { result ≡ spec.stays_at kernels.now from.now path.now }
 {
@@ -121,7 +121,7 @@ fn stays_at(kernels: &[Kernel], from: &str, path: &str) -> bool
     }
 }
 
-// Refuses that a session gets the path of one that stays.
+/// Refuses that a session gets the path of one that stays.
 fn check_session(
     alloc: Global,
     from: &str,
@@ -158,7 +158,7 @@ fn check_sessions(alloc: Global, from: &str, to: &str, kernels: &[Kernel]) -> Re
 
 // ---- dates
 
-// Whether the date of a path is one of those that go or stay. What stood at the new path is gone.
+/// Whether the date of a path is one of those that go or stay. What stood at the new path is gone.
 fn is_kept(from: &str, to: &str, dated: &Dated) -> bool
     ensures { result ≡ spec.is_kept from.now to.now dated.now }
 {

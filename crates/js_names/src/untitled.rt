@@ -43,7 +43,7 @@ fn joint(kind: Kind) -> &'static str
     }
 }
 
-// The name of that number: the first has none.
+/// The name of that number: the first has none.
 fn name_at(alloc: Global, kind: Kind, ending: &str, number: u64) -> Result<Text, AllocError>
     ensures { IfOk result (λ name. name ≡ spec.name_at kind ending.now number) }
 {
@@ -63,7 +63,7 @@ fn is_among(names: &[Name], name: &str) -> bool
     names.iter().any(|other| other.as_str() == name)
 }
 
-// The first name that is free.
+/// The first name that is free.
 fn first_free(alloc: Global, kind: Kind, ending: &str, names: &[Name]) -> Result<Text, AllocError>
     ensures { IfOk result (λ name. name ≡ spec.first_free kind ending.now names.now) }
 {

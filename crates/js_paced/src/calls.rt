@@ -12,7 +12,7 @@ use std::time::Duration;
 /// How often a call is made that is interrupted again and again.
 const TRIES: u32 = 1_000;
 
-/// Into so many parts the time is cut for which a write waits. A system's write that takes something and then waits to its limit
+/// Into how many parts the time is cut for which a write waits. A system's write that takes something and then waits to its limit
 /// says only what it took, so what it waited is not seen: one part at most.
 const PARTS: u32 = 16;
 
@@ -40,7 +40,7 @@ fn calmed(read: io::Result<usize>) -> io::Result<usize>
     }
 }
 
-/// Has each write fail where the other side takes nothing for so many milliseconds, or for up to a sixteenth more.
+/// Has each write fail where the other side takes nothing for `limit` milliseconds, or for up to a sixteenth more.
 ///
 /// # Errors
 /// Where the system takes no limit.

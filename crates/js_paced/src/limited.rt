@@ -27,7 +27,7 @@ pub struct Limited<'s, R: Drop> {
 }
 
 impl<'s, R: Clock + Drop> Limited<'s, R> {
-    /// A stream whose reads end so many milliseconds from now, and whose writes wait so many.
+    /// A stream whose reads end `reads` milliseconds from now, and whose writes wait `writes`.
     ///
     /// # Errors
     /// Where the system has no clock, or takes no limit.
@@ -93,7 +93,7 @@ impl<R: Clock + Drop> Write for Limited<'_, R> {
     }
 }
 
-/// Ends what is written to a stream, and then reads and drops what the other side still sends, until it ends, so many
+/// Ends what is written to a stream, and then reads and drops what the other side still sends, until it ends, `limit`
 /// milliseconds have passed or 64 MiB came. Where a stream is closed before all was read, the system takes back what the other
 /// side has not read yet.
 pub fn end_of_answer<R: Clock + Drop>(rt: R, stream: &TcpStream, limit: u64) {

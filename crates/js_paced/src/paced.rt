@@ -168,7 +168,7 @@ impl<'s, R: Clock + Drop, O: Owner> Paced<'s, R, O> {
         read
     }
 
-    /// Notes what a read gave that waited so many microseconds where it gave nothing.
+    /// Notes what a read gave that waited `wait` microseconds where it gave nothing.
     fn note(&mut self, read: &io::Result<usize>, wait: u64) {
         self.gave = !is_empty(read);
         self.waited = if self.gave {
@@ -179,7 +179,7 @@ impl<'s, R: Clock + Drop, O: Owner> Paced<'s, R, O> {
     }
 }
 
-/// Whether a read may be a long one, where so many microseconds were waited.
+/// Whether a read may be a long one, where `waited` microseconds were waited.
 fn may_rest(busy: bool, waited: u64) -> bool
     ensures yes { result ≡ true → (busy ≡ false) × (50000 ≤ waited) }
     ensures no { result ≡ false → busy ≡ false → waited < 50000 }
@@ -187,14 +187,14 @@ fn may_rest(busy: bool, waited: u64) -> bool
     !busy && waited >= FRESH
 }
 
-/// How many milliseconds a long read rests at most, where so many microseconds were waited before it.
+/// How many milliseconds a long read rests at most, where `waited` microseconds were waited before it.
 fn rest_for(waited: u64) -> u64
     ensures { result ≡ min 2000 (waited / 1000) }
 {
     (waited / 1_000).min(LONGEST_REST)
 }
 
-/// How many microseconds a short read waits, where so many were waited before it, and whether the read before it gave something.
+/// How many microseconds a short read waits, where `waited` were waited before it, and whether the read before it gave something.
 fn short_wait(gave: bool, waited: u64) -> u64
     ensures { result ≡ (if gave then 0 else min 2000 (max 50 (waited / 32))) }
 {

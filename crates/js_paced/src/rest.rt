@@ -102,7 +102,7 @@ impl Rest {
         self.state.swap(AWAKE, Ordering::SeqCst) == CALLED
     }
 
-    /// Waits until something comes, the stream is called, or so many milliseconds have passed. It says whether the stream was
+    /// Waits until something comes, the stream is called, or `longest` milliseconds have passed. It says whether the stream was
     /// called. What had come before has been read: the system tells only what comes then.
     ///
     /// # Errors

@@ -59,7 +59,7 @@ fn status_of(answer: Result<(), Untold>) -> Result<(), ErrorStatus>
     }
 }
 
-// A notebook is put at a path.
+/// A notebook is put at a path.
 #[tactic(auto, using(crate::proofs::Putting::tries_book))]
 fn try_book<L: Running, S: Shelf>(
     alloc: Global,
@@ -238,7 +238,7 @@ fn one_session(
     }
 }
 
-// A segment of the path of a request, or no bytes.
+/// A segment of the path of a request, or no bytes.
 fn segment(segments: &[js_http::Bytes], place: usize) -> &[u8]
     ensures { result.now ≡ get_or segments.now place [] }
 {
@@ -248,7 +248,7 @@ fn segment(segments: &[js_http::Bytes], place: usize) -> &[u8]
     }
 }
 
-// The plan of a request on what stands in the tables alone.
+/// The plan of a request on what stands in the tables alone.
 fn tables_plan(
     alloc: Global,
     route: Route,
@@ -278,7 +278,7 @@ fn tables_plan(
     }
 }
 
-// What is to be done for a request on a route. The shelf is read and not changed.
+/// What is to be done for a request on a route. The shelf is read and not changed.
 #[tactic(auto, using(crate::proofs::Telling::tells_same))]
 fn route_aim<S: Shelf>(
     alloc: Global,
@@ -305,7 +305,7 @@ fn route_aim<S: Shelf>(
     }
 }
 
-// What is to be done for a request by its path. The shelf is read and not changed.
+/// What is to be done for a request by its path. The shelf is read and not changed.
 #[tactic(auto, using(crate::proofs::Telling::tells_same, crate::proofs::Failing::found_failed, crate::proofs::Failing::found_failed_alone))]
 fn path_aim<S: Shelf>(
     alloc: Global,
@@ -338,7 +338,7 @@ fn path_aim<S: Shelf>(
     }
 }
 
-// What is to be done for a request. The shelf is read and not changed.
+/// What is to be done for a request. The shelf is read and not changed.
 #[tactic(auto, using(crate::proofs::Telling::tells_same))]
 fn find_aim<S: Shelf>(
     alloc: Global,

@@ -15,7 +15,7 @@ use js_shelf::Shelf;
 use js_tables::{Given, Plan, Refusal, Tables};
 use std::alloc::Global;
 
-// The plan of a PUT of which this was made.
+/// The plan of a PUT of which this was made.
 #[tactic(auto, using(crate::proofs::Telling::tells_same))]
 fn prepared_plan<S: Shelf>(
     alloc: Global,

@@ -12,7 +12,7 @@ use js_tables::{
 };
 use std::alloc::{AllocError, Global};
 
-/// There are at most so many kernels.
+/// How many kernels there are at most.
 pub const MAX_KERNELS: usize = 16;
 
 /// The version of the server.

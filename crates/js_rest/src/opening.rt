@@ -51,7 +51,7 @@ fn id_in(alloc: Global, kernel: &Json) -> Result<Option<Text>, Refusal>
     }
 }
 
-// The kernel that a body asks for, if it asks for one.
+/// The kernel that a body asks for, if it asks for one.
 fn kernel_asked(alloc: Global, body: &Json) -> Result<Option<Text>, Refusal>
     ensures { Gives result (spec.kernel_asked body.now) }
 {
@@ -108,7 +108,7 @@ fn again(alloc: Global, kernel: &Kernel) -> Result<Plan, Refusal>
 
 // ---- the recorder of a notebook
 
-// What the recorder of a path begins with; nothing where the path is no notebook's.
+/// What the recorder of a path begins with; nothing where the path is no notebook's.
 fn first_of<S: Shelf>(alloc: Global, shelf: &mut S, path: &str) -> Result<Option<First>, Refusal>
     ensures exact { Tells (S.contents shelf.old) (S.contents shelf.new) (spec.FindsFirst path.now result) }
     ensures document { IfOk result (λ first. IfSome first (λ f. IsDocument f.notebook)) }
@@ -167,7 +167,7 @@ fn new_session(alloc: Global, given: &Given, fields: Fields) -> Result<Session, 
     })
 }
 
-// It gets a kernel that is there.
+/// It gets a kernel that is there.
 fn joining(
     alloc: Global,
     tables: &Tables,
@@ -189,7 +189,7 @@ fn joining(
     })
 }
 
-// It gets a kernel that is made now.
+/// It gets a kernel that is made now.
 fn beginning(
     alloc: Global,
     kernel: Kernel,

@@ -9,19 +9,19 @@ use std::sync::{Arc, Wait};
 use std::thread::Parker;
 use std::time::{Clock, Duration};
 
-/// The sleeps of a driver that was busy just now are at most so many microseconds long.
+/// How many microseconds a sleep of a driver has at most that was busy just now.
 const SHORT: u64 = 100;
 
 /// For how many microseconds a driver sleeps at least between two times that it wakes its parsers.
 const BETWEEN: u64 = 1_000;
 
-/// A sleep of so many microseconds is that of a thread that has found nothing to do for long. It rests for longer then, since its
+/// How many microseconds the sleep of a thread has that has found nothing to do for long. It rests for longer then, since its
 /// bell is rung where there is something.
 const LONG: u64 = 30_000;
 
 const REST: u64 = 1_000_000;
 
-/// In parts of so many microseconds a driver waits for channels that have read something, and so many parts at most.
+/// A driver waits for channels that have read something in parts of this many microseconds, `PARTS` of them at most.
 const PART: u64 = 200;
 
 const PARTS: u64 = 100;
@@ -51,18 +51,18 @@ impl Bell {
         self.parker.unpark();
     }
 
-    /// Rests until it is rung, for so long at most.
+    /// Rests until it is rung, `longest` at most.
     fn rest<R: Wait>(&self, rt: &R, longest: Duration) {
         self.parker.park_timeout(rt, longest);
     }
 
-    /// Sleeps until it is rung, where a thread asks for a sleep of so many microseconds.
+    /// Sleeps until it is rung, where a thread asks for a sleep of `micros` microseconds.
     fn sleep<R: Wait>(&self, rt: &R, micros: u64) {
         self.rest(rt, Duration::from_micros(rest_for(micros)));
     }
 }
 
-/// How many microseconds a thread rests at most that asks for a sleep of so many.
+/// How many microseconds a thread rests at most that asks for a sleep of `micros`.
 fn rest_for(micros: u64) -> u64
     ensures short { micros < 30000 → result ≡ micros }
     ensures long { 30000 ≤ micros → result ≡ 1000000 }
@@ -118,7 +118,7 @@ impl<R> Driving<'_, R> {
         }
     }
 
-    /// Rings the bells of the parsers where that is due before a sleep of so many microseconds.
+    /// Rings the bells of the parsers where that is due before a sleep of `sleep` microseconds.
     fn ring_before(&self, sleep: u64) {
         let slept = self.slept.get();
         if is_due(slept, sleep) {
@@ -130,7 +130,7 @@ impl<R> Driving<'_, R> {
     }
 }
 
-/// Whether a driver wakes its parsers before a sleep, where so many microseconds were slept since it did.
+/// Whether a driver wakes its parsers before a sleep, where `slept` microseconds were slept since it did.
 fn is_due(slept: u64, sleep: u64) -> bool
     ensures due { result ≡ true → (sleep ≤ 100) × (1000 ≤ slept) }
     ensures late { result ≡ false → sleep ≤ 100 → slept + 1 ≤ 1000 }

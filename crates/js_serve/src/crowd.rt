@@ -36,7 +36,7 @@ pub struct Guest {
 }
 
 impl Crowd {
-    /// Nobody is there, and so many may be.
+    /// Nobody is there, and `most` may be.
     pub(crate) fn new(alloc: Global, most: u64) -> Result<Crowd, AllocError> {
         Ok(Crowd {
             count: Arc::new(alloc, AtomicU64::new(0))?,

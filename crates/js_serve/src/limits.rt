@@ -3,11 +3,11 @@
 /// For how many milliseconds a connection may keep its thread with nothing done, and how many connections may have one.
 #[derive(Clone, Copy, Debug, PartialEq, Eq)]
 pub struct Limits {
-    /// So long a request's head and body may take, from the first byte to the last.
+    /// For how many milliseconds a request's head and body may take, from its connection on.
     pub request: u64,
-    /// So long the other side may take nothing of what is written to it.
+    /// For how many milliseconds the other side may take nothing of what is written to it.
     pub write: u64,
-    /// So many connections have a thread at once, beside those of channels.
+    /// How many connections have a thread at once at most, beside those of channels.
     pub connections: u64,
 }
 

@@ -71,7 +71,7 @@ impl<'w> Signals<'w> {
 }
 
 /// Whether all was submitted that has come, or as much as may be before the kernel is woken: the last turn heard nothing or ended the
-/// channel, or the inbox is full, or so many messages were taken.
+/// channel, or the inbox is full, or 256 messages were taken.
 fn is_whole(heard: bool, waits: bool, taken: u64) -> bool
     ensures yes { result ≡ true → (heard ≡ false) ⊎ ((waits ≡ true) ⊎ (256 ≤ taken)) }
     ensures no { result ≡ false → (heard ≡ true) × ((waits ≡ false) × (taken < 256)) }

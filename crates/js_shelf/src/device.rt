@@ -13,7 +13,7 @@ use std::io::ErrorKind;
 #[derive(Clone, Copy, Debug, PartialEq, Eq)]
 pub enum Kind {
     Nothing,
-    /// A file of so many bytes.
+    /// A file, and how many bytes it has.
     File(u64),
     Folder,
     /// Neither file nor folder, as a link is, wherever it leads.

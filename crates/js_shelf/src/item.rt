@@ -142,7 +142,7 @@ pub enum Item {
 /// What stands at a path, without the bytes of a file.
 #[derive(Clone, Copy, Debug, PartialEq, Eq)]
 pub enum ItemKind {
-    /// A file of so many bytes.
+    /// A file, and how many bytes it has.
     File(u64),
     Folder,
 }

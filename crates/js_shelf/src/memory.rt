@@ -23,35 +23,35 @@ pub struct MemoryShelf {
     items: BTreeMap<String, Item>,
 }
 
-// Whether a folder stands at the path.
+/// Whether a folder stands at the path.
 fn has_folder(items: &BTreeMap<String, Item>, path: &str) -> bool
     ensures { result ≡ spec.is_folder (get_by_text items.now path.now) }
 {
     matches!(items.get(path), Some(Item::Folder))
 }
 
-// Whether anything stands at the path.
+/// Whether anything stands at the path.
 fn has_item(items: &BTreeMap<String, Item>, path: &str) -> bool
     ensures { result ≡ is_some (get_by_text items.now path.now) }
 {
     items.contains_key(path)
 }
 
-// Whether the place of a folder would be below itself.
+/// Whether the place of a folder would be below itself.
 fn is_into_itself(items: &BTreeMap<String, Item>, from: &str, to: &str) -> bool
     ensures { result ≡ (spec.is_folder (get_by_text items.now from.now) && spec.is_below from.now to.now) }
 {
     has_folder(items, from) && is_below(from, to)
 }
 
-// Whether something stands at `from` and a folder at the parent of `to`.
+/// Whether something stands at `from` and a folder at the parent of `to`.
 fn is_movable(items: &BTreeMap<String, Item>, from: &str, to: &str) -> bool
     ensures { result ≡ (is_some (get_by_text items.now from.now) && spec.is_folder (get_by_text items.now (parent_path to.now))) }
 {
     has_item(items, from) && has_folder(items, parent_of(to))
 }
 
-// Sets what stands at a path. After a refusal nothing has changed.
+/// Sets what stands at a path. After a refusal nothing has changed.
 fn set(items: &mut BTreeMap<String, Item>, path: String, item: Item) -> Result<(), AllocError>
     ensures ok { OnOk result (spec.Same (spec.with_item (get_by_text items.old) (string_bytes path) (Some item)) (get_by_text items.new)) }
     ensures err { OnErr result (spec.Same (get_by_text items.old) (get_by_text items.new)) }
@@ -60,7 +60,7 @@ fn set(items: &mut BTreeMap<String, Item>, path: String, item: Item) -> Result<(
     Ok(())
 }
 
-// Whether a put of an item may take the place of what is there.
+/// Whether a put of an item may take the place of what is there.
 fn is_free_for(item: &Item, there: Option<&Item>) -> bool
     ensures { result ≡ spec.is_free_for item.now (option_copied there.entry) }
 {
@@ -70,7 +70,7 @@ fn is_free_for(item: &Item, there: Option<&Item>) -> bool
     }
 }
 
-// Whether anything stands directly in the folder.
+/// Whether anything stands directly in the folder.
 fn has_names(items: &BTreeMap<String, Item>, folder: &str) -> bool
     ensures { result ≡ memory.has_names folder.now items.now.entries }
 {
@@ -82,14 +82,14 @@ fn has_names(items: &BTreeMap<String, Item>, folder: &str) -> bool
     false
 }
 
-// Whether a folder stands at the path, and anything in it.
+/// Whether a folder stands at the path, and anything in it.
 fn is_full_folder(items: &BTreeMap<String, Item>, path: &str) -> bool
     ensures { result ≡ (spec.is_folder (get_by_text items.now path.now) && memory.has_names path.now items.now.entries) }
 {
     has_folder(items, path) && has_names(items, path)
 }
 
-// The names of what stands directly in the folder, in the order of the paths.
+/// The names of what stands directly in the folder, in the order of the paths.
 fn names_in(
     alloc: Global,
     items: &BTreeMap<String, Item>,
@@ -107,7 +107,7 @@ fn names_in(
     Ok(names)
 }
 
-// Where a path goes when what stands at `from` and below it goes to `to`.
+/// Where a path goes when what stands at `from` and below it goes to `to`.
 fn moved_path(alloc: Global, path: &str, from: &str, to: &str) -> Result<Option<String>, AllocError>
     ensures { IfOk result (λ moved. option_map string_bytes moved ≡ goes from.now to.now path.now) }
 {
@@ -122,7 +122,7 @@ fn moved_path(alloc: Global, path: &str, from: &str, to: &str) -> Result<Option<
     }
 }
 
-// The items after a move, as copies.
+/// The items after a move, as copies.
 fn moved(
     alloc: Global,
     items: &BTreeMap<String, Item>,

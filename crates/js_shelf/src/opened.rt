@@ -17,7 +17,7 @@ pub struct SystemFile {
 }
 
 impl SystemFile {
-    /// An open file that has so many bytes now, and of which at most `most` are read. The bytes will be in memory of `alloc`.
+    /// An open file that has `len` bytes now, and of which at most `most` are read. The bytes will be in memory of `alloc`.
     pub fn new(alloc: Global, file: File, len: u64, most: u64) -> SystemFile {
         SystemFile {
             alloc,
@@ -27,7 +27,7 @@ impl SystemFile {
         }
     }
 
-    // All its bytes. More than `most` of them are a fault.
+    /// All its bytes. More than `most` of them are a fault.
     fn read(self) -> Result<Bytes, DeviceFault> {
         // Room for the whole file at once, and for one byte that would show that it has grown.
         let room = (self.room as usize).saturating_add(1);

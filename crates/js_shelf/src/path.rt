@@ -6,10 +6,10 @@ ghost use Rattle.js_shelf.specs.Paths as spec;
 ghost use Rattle.js_shelf.specs.Places as places;
 ghost use Rattle.js_shelf.specs.Shelves as shelves;
 
-/// A path has at most so many segments.
+/// How many segments a path has at most.
 pub const MAX_SEGMENTS: usize = 16;
 
-/// A segment has at most so many bytes.
+/// How many bytes a segment has at most.
 pub const MAX_SEGMENT_LEN: usize = 255;
 
 fn is_plain(byte: u8) -> bool
@@ -34,7 +34,7 @@ fn is_segment(segment: &[u8]) -> bool
         && segment != b"..".as_slice()
 }
 
-// The place of the first slash, or the length.
+/// The place of the first slash, or the length.
 fn slash_place(path: &[u8]) -> usize
     ensures first { result ≡ position_or_len spec.is_slash path.now }
     ensures within { result ≤ length path.now }
@@ -45,7 +45,7 @@ fn slash_place(path: &[u8]) -> usize
     }
 }
 
-// Whether the bytes are at most 16 segments with slashes between them.
+/// Whether the bytes are at most 16 segments with slashes between them.
 fn are_segments(path: &[u8]) -> bool
     ensures { result ≡ (nat_le (length (spec.segments path.now)) 16 && list_all spec.is_segment (spec.segments path.now)) }
 {
@@ -98,14 +98,14 @@ pub(crate) fn parent_of(path: &str) -> &str
     }
 }
 
-// What follows a front of a text.
+/// What follows a front of a text.
 fn behind<'p>(front: &str, text: &'p str) -> Option<&'p str>
     ensures { option_copied result ≡ spec.behind front.now text.now }
 {
     text.strip_prefix(front)
 }
 
-// Whether the text is nothing, or a slash and more.
+/// Whether the text is nothing, or a slash and more.
 fn goes_down(text: &str) -> bool
     ensures { result ≡ spec.goes_down text.now }
 {
@@ -131,14 +131,14 @@ fn has_slash(text: &[u8]) -> bool
     text.iter().any(|&byte| byte == b'/')
 }
 
-// Whether the text is a name: not empty, and with no slash.
+/// Whether the text is a name: not empty, and with no slash.
 fn is_name(text: &str) -> bool
     ensures { result ≡ spec.is_name text.now }
 {
     !text.is_empty() && !has_slash(text.as_bytes())
 }
 
-// What follows the folder and a slash.
+/// What follows the folder and a slash.
 fn below<'p>(folder: &str, path: &'p str) -> Option<&'p str>
     ensures { option_copied result ≡ spec.after_slash (spec.behind folder.now path.now) }
 {

@@ -21,7 +21,7 @@ fn read_text(alloc: Global, text: &str) -> Result<Json, Refusal>
     }
 }
 
-// An object, and no other value.
+/// An object, and no other value.
 fn only_object(json: Json) -> Result<Json, Refusal>
     requires { depth json ≤ max_depth }
     ensures exact { Gives result (spec.only_object json) }

@@ -130,7 +130,7 @@ pub fn session_value(alloc: Global, kernel: &Kernel, session: &Session) -> Resul
     })
 }
 
-// One more form, where the kernel has a session.
+/// One more form, where the kernel has a session.
 fn push_session(alloc: Global, row: &mut Row, kernel: &Kernel) -> Result<(), AllocError>
     ensures { OnOk result (row.new ≡ spec.with_form row.old kernel.now kernel.now.session) }
 {

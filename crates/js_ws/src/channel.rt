@@ -21,7 +21,7 @@ pub struct Channel<S, L: Language> {
     pub(crate) feed: Feed<L>,
 }
 
-/// What a turn came to. So many entries were sent.
+/// What a turn came to. The number is that of the entries that it sent.
 #[derive(Clone, Copy, Debug, PartialEq, Eq)]
 pub enum Turn {
     Open(usize),
@@ -166,7 +166,7 @@ impl<S: Read + Write + Drop, L: Language> Channel<S, L> {
         }
     }
 
-    /// How a turn is answered in which so many entries were sent.
+    /// How a turn is answered in which `count` entries were sent.
     pub(crate) fn answer(&self, quiet: bool, count: usize) -> Turn
         ensures { result ≡ turn_of (over self.now) quiet count }
     {

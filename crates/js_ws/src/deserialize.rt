@@ -13,7 +13,7 @@ use std::alloc::{AllocError, Global};
 /// How many bytes six offsets and their number have.
 const TABLE: usize = 56;
 
-/// The number in 64 bits after so many others.
+/// The number in 64 bits that stands after `place` others.
 #[tactic(auto, unfolding(crate::specs::Serialized::number_at))]
 fn number_at(bytes: &[u8], place: usize) -> usize
     requires { 8 * place + 8 ≤ length bytes.now }

@@ -44,11 +44,11 @@ fn listen<R: Wait, S: Read + Write + Drop>(
 
 /// One turn of a channel, which is handed back.
 ///
-/// It submits what waits for room in the inbox. Where nothing waits any more, it reads one message: a text that is a message of
-/// "Messaging in Jupyter" 5.4 is one arrival, and other messages are dropped. Then it takes what the follower gives, sends what
-/// is due to this connection, with this date, and holds what could not be sent. Where the stream has failed, it submits the
-/// connection's `Leave` once nothing else waits. Want of memory in reading is a fault of the stream, and so is it where the board has
-/// dropped what the follower would read next.
+/// It submits what waits for room in the inbox. Where nothing waits any more, it reads one message. One that the channel's protocol
+/// reads (a text, or in the other protocol a binary message) as a message of "Messaging in Jupyter" 5.4 is one arrival, and others
+/// are dropped. Then it takes what the follower gives, sends what is due to this connection, with this date, and holds what could
+/// not be sent. Where the stream has failed, it submits the connection's `Leave` once nothing else waits. Lack of memory in reading
+/// is a fault of the stream, and so is it where the board has dropped what the follower would read next.
 ///
 /// The answer is `Closed` once that `Leave` is submitted, and also once the idle of a shutdown without restart was found and
 /// all is sent or the stream has failed. Then the inbox is left alone, and further turns do nothing.

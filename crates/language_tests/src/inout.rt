@@ -44,7 +44,7 @@ fn a_string_ends_at_the_first_zero(rt: HostRuntime) -> Result<(), Fail> {
     Ok(())
 }
 
-// A buffer that asked for a line and was given this one.
+/// A buffer that asked for a line and was given this one.
 fn buffer_of(alloc: Global, line: &str) -> Result<LineBuffer, AllocError> {
     let mut buffer = LineBuffer::new(alloc);
     buffer.push_line(line)?;

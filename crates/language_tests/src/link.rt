@@ -11,7 +11,7 @@ fn text(alloc: Global, chars: &[u8]) -> Result<Text, AllocError> {
     Text::from_slice(alloc, chars)
 }
 
-// A module without variables or procedures, whose interface is its name alone.
+/// A module without variables or procedures, whose interface is its name alone.
 fn module(
     alloc: Global,
     name: &[u8],
@@ -28,7 +28,7 @@ fn module(
     Ok(SessionModule::new(interface, tree, imports))
 }
 
-// What a module shows to others.
+/// What a module shows to others.
 #[derive(Clone, Copy)]
 enum Shown {
     Nothing,
@@ -36,7 +36,7 @@ enum Shown {
     Variable,
 }
 
-// The key of a module of this name that shows this.
+/// The key of a module of this name that shows this.
 fn key(alloc: Global, name: &[u8], shown: Shown) -> Result<Key, AllocError> {
     let mut exports = Items::new(alloc);
     match shown {
@@ -50,14 +50,14 @@ fn key(alloc: Global, name: &[u8], shown: Shown) -> Result<Key, AllocError> {
     Key::new(&interface)
 }
 
-// An import of a module that showed this.
+/// An import of a module that showed this.
 fn imports(alloc: Global, name: &[u8], shown: Shown) -> Result<Items<KeyedImport>, AllocError> {
     let mut so_far = Items::new(alloc);
     so_far.push(KeyedImport::new(text(alloc, name)?, key(alloc, name, shown)?))?;
     Ok(so_far)
 }
 
-// The name that a look-up answers, or none.
+/// The name that a look-up answers, or none.
 fn is_named(fault: &Option<Text>, name: &[u8]) -> bool {
     match fault {
         Some(found) => found.as_slice() == name,
@@ -65,7 +65,7 @@ fn is_named(fault: &Option<Text>, name: &[u8]) -> bool {
     }
 }
 
-// A, and B over it.
+/// A, and B over it.
 fn two(alloc: Global) -> Result<Modules, AllocError> {
     let mut modules = Modules::new(alloc);
     modules.install(module(alloc, b"A", Items::new(alloc))?)?;
@@ -73,12 +73,12 @@ fn two(alloc: Global) -> Result<Modules, AllocError> {
     Ok(modules)
 }
 
-// Where a module of this name stands.
+/// Where a module of this name stands.
 fn place(alloc: Global, modules: &Modules, name: &[u8]) -> Result<usize, AllocError> {
     Ok(modules.place_of(&text(alloc, name)?))
 }
 
-// Whether a module imports the first one alone.
+/// Whether a module imports the first one alone.
 fn is_over_first(modules: &Modules, found: Option<&SessionModule>) -> Result<bool, AllocError> {
     match found {
         Some(found) => {
@@ -93,7 +93,7 @@ fn is_found_over_first(alloc: Global, modules: &Modules, name: &[u8]) -> Result<
     is_over_first(modules, modules.find(&text(alloc, name)?))
 }
 
-// Each module is found, by its number too.
+/// Each module is found, by its number too.
 #[test]
 fn modules_are_found(rt: HostRuntime) -> Result<(), Fail> {
     let modules = two(rt.alloc())?;
@@ -104,13 +104,13 @@ fn modules_are_found(rt: HostRuntime) -> Result<(), Fail> {
     Ok(())
 }
 
-// Whether an import of a module that showed nothing links.
+/// Whether an import of a module that showed nothing links.
 fn links(alloc: Global, modules: &Modules, name: &[u8]) -> Result<bool, AllocError> {
     let imports = imports(alloc, name, Shown::Nothing)?;
     Ok(modules.link_fault(imports.as_slice())?.is_none())
 }
 
-// Whether this module is why an import of a module that showed this does not link.
+/// Whether this module is why an import of a module that showed this does not link.
 fn is_fault(
     alloc: Global,
     modules: &Modules,
@@ -122,7 +122,7 @@ fn is_fault(
     Ok(is_named(&modules.link_fault(imports.as_slice())?, fault))
 }
 
-// An import links where the module has the recorded key.
+/// An import links where the module has the recorded key.
 #[test]
 fn keys_link(rt: HostRuntime) -> Result<(), Fail> {
     let modules = two(rt.alloc())?;
@@ -136,14 +136,14 @@ fn keys_link(rt: HostRuntime) -> Result<(), Fail> {
     Ok(())
 }
 
-// A, and B over another A.
+/// A, and B over another A.
 fn two_apart(alloc: Global) -> Result<Modules, AllocError> {
     let mut modules = two(alloc)?;
     modules.install(module(alloc, b"B", imports(alloc, b"A", Shown::Variable)?)?)?;
     Ok(modules)
 }
 
-// The same after another import.
+/// The same after another import.
 #[test]
 fn keys_link_behind_an_import(rt: HostRuntime) -> Result<(), Fail> {
     let modules = two_apart(rt.alloc())?;
@@ -152,12 +152,12 @@ fn keys_link_behind_an_import(rt: HostRuntime) -> Result<(), Fail> {
     Ok(())
 }
 
-// Which modules may run, and which reach A: each by its number.
+/// Which modules may run, and which reach A: each by its number.
 fn flags(modules: &Modules, a: &Text) -> Result<(Vec<bool>, Vec<bool>), AllocError> {
     Ok((modules.may_run()?, modules.reaching(a)?))
 }
 
-// Whether this name is the fault behind the module of this number.
+/// Whether this name is the fault behind the module of this number.
 fn has_fault(faults: &[Option<Text>], number: usize, name: &[u8]) -> bool {
     match faults.get(number) {
         Some(fault) => is_named(fault, name),
@@ -165,7 +165,7 @@ fn has_fault(faults: &[Option<Text>], number: usize, name: &[u8]) -> bool {
     }
 }
 
-// A module runs where its imports link, and theirs.
+/// A module runs where its imports link, and theirs.
 #[test]
 fn modules_may_run(rt: HostRuntime) -> Result<(), Fail> {
     let alloc = rt.alloc();
@@ -179,7 +179,7 @@ fn modules_may_run(rt: HostRuntime) -> Result<(), Fail> {
     Ok(())
 }
 
-// A procedure with so many parameters, and this result.
+/// A procedure with so many parameters, and this result.
 fn procedure(alloc: Global, parameters: usize, basic: Option<Basic>) -> Result<Object, AllocError> {
     let mut formals = Items::new(alloc);
     for _parameter in 0..parameters {
@@ -206,7 +206,7 @@ fn add(
     Ok(())
 }
 
-// A function, a variable, a procedure with a parameter, and a command.
+/// A function, a variable, a procedure with a parameter, and a command.
 fn exports(alloc: Global) -> Result<Items<Exported>, AllocError> {
     let mut exports = Items::new(alloc);
     let function = procedure(alloc, 0, Some(Basic::Integer))?;
@@ -220,7 +220,7 @@ fn exports(alloc: Global) -> Result<Items<Exported>, AllocError> {
     Ok(exports)
 }
 
-// The numbers of the exported procedures.
+/// The numbers of the exported procedures.
 fn exported(alloc: Global) -> Result<Items<usize>, AllocError> {
     let mut exported = Items::new(alloc);
     for number in [1, 2, 4] {
@@ -229,7 +229,7 @@ fn exported(alloc: Global) -> Result<Items<usize>, AllocError> {
     Ok(exported)
 }
 
-// A module with these exports, over an A that showed this.
+/// A module with these exports, over an A that showed this.
 fn over(alloc: Global, name: &[u8], shown: Shown) -> Result<SessionModule, AllocError> {
     let interface = Interface::new(alloc, text(alloc, name)?, exports(alloc)?)?;
     let tree = TypedModule {
@@ -242,7 +242,7 @@ fn over(alloc: Global, name: &[u8], shown: Shown) -> Result<SessionModule, Alloc
     Ok(SessionModule::new(interface, tree, imports(alloc, b"A", shown)?))
 }
 
-// A, M over it, and N over another A.
+/// A, M over it, and N over another A.
 fn three(alloc: Global) -> Result<Modules, AllocError> {
     let mut modules = Modules::new(alloc);
     modules.install(module(alloc, b"A", Items::new(alloc))?)?;
@@ -251,7 +251,7 @@ fn three(alloc: Global) -> Result<Modules, AllocError> {
     Ok(modules)
 }
 
-// The number of a fault.
+/// The number of a fault.
 fn number_of(fault: &LinkFault) -> u32 {
     match fault {
         LinkFault::NotLoaded(_) => 30,
@@ -260,7 +260,7 @@ fn number_of(fault: &LinkFault) -> u32 {
     }
 }
 
-// The module that a fault names.
+/// The module that a fault names.
 fn home_of(fault: &LinkFault) -> &[u8] {
     match fault {
         LinkFault::NotLoaded(home) => home.as_slice(),
@@ -269,7 +269,7 @@ fn home_of(fault: &LinkFault) -> &[u8] {
     }
 }
 
-// Whether a look-up failed for this.
+/// Whether a look-up failed for this.
 fn is_missing(looked: &Looked, number: u32, home: &[u8]) -> bool {
     match looked {
         Looked::Found(_) => false,
@@ -281,7 +281,7 @@ fn look(alloc: Global, modules: &Modules, home: &[u8], name: &[u8]) -> Result<Lo
     modules.command(&text(alloc, home)?, &text(alloc, name)?)
 }
 
-// Whether it is the procedure of this number in the module of that number.
+/// Whether it is the procedure of this number in the module of that number.
 fn is_found(looked: &Looked, home: usize, procedure: usize) -> bool {
     match looked {
         Looked::Found(command) => command.home() == home && command.procedure() == procedure,
@@ -289,7 +289,7 @@ fn is_found(looked: &Looked, home: usize, procedure: usize) -> bool {
     }
 }
 
-// A command is an exported procedure without parameters and result, in a module that links.
+/// A command is an exported procedure without parameters and result, in a module that links.
 #[test]
 fn commands_are_found(rt: HostRuntime) -> Result<(), Fail> {
     let modules = three(rt.alloc())?;
@@ -321,7 +321,7 @@ fn ready(alloc: Global, modules: &Modules, names: &[(&[u8], &[u8])]) -> Result<R
     modules.ready(commands.as_slice())
 }
 
-// How many can run, if all can.
+/// How many can run, if all can.
 fn running(ready: &Ready) -> Option<usize> {
     match ready {
         Ready::Runs(commands) => Some(commands.len()),
@@ -329,7 +329,7 @@ fn running(ready: &Ready) -> Option<usize> {
     }
 }
 
-// The number of the fault, if one can't.
+/// The number of the fault, if one can't.
 fn fault_of(ready: &Ready) -> Option<u32> {
     match ready {
         Ready::Runs(_) => None,
@@ -337,7 +337,7 @@ fn fault_of(ready: &Ready) -> Option<u32> {
     }
 }
 
-// All commands run, or none for the first that can't.
+/// All commands run, or none for the first that can't.
 #[test]
 fn commands_are_ready(rt: HostRuntime) -> Result<(), Fail> {
     let modules = three(rt.alloc())?;

@@ -5,7 +5,7 @@ use ob_scan::{Kind, Symbol, Token, same_symbol, scan};
 use std::alloc::{AllocError, Global};
 use std::test::Fail;
 
-// A name, string or number as it is, and a reserved word or sign by its name after '!'.
+/// A name, string or number as it is, and a reserved word or sign by its name after '!'.
 fn show(alloc: Global, token: &Token, shown: &mut Vec<u8>) -> Result<(), AllocError> {
     match &token.kind {
         Kind::Ident(name) => shown.extend_from_slice(name.as_slice())?,
@@ -61,7 +61,7 @@ fn last_span(alloc: Global, text: &str) -> Result<[usize; 4], AllocError> {
     }
 }
 
-// Whether more text could mend the fault.
+/// Whether more text could mend the fault.
 fn is_at_end(alloc: Global, text: &str) -> Result<bool, AllocError> {
     match scan(alloc, text) {
         Ok(_) => Ok(false),

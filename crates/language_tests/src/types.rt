@@ -33,7 +33,7 @@ fn field(alloc: Global, name: &[u8], exported: bool, of: ObType) -> Result<Field
     })
 }
 
-// The record type T of a module.
+/// The record type T of a module.
 fn record(
     alloc: Global,
     module_name: &[u8],
@@ -51,14 +51,14 @@ fn record(
     Ok(ObType::Record(RecordType { name, fields }))
 }
 
-// `RECORD a: INTEGER END` of a module N.
+/// `RECORD a: INTEGER END` of a module N.
 fn record_of_one(alloc: Global, name: &[u8], exported: bool) -> Result<ObType, AllocError> {
     let mut fields = Items::new(alloc);
     fields.push(field(alloc, name, exported, integer())?)?;
     record(alloc, b"N", 0, fields)
 }
 
-// `RECORD (N.T) b: INTEGER END` of a module M, where N.T is `RECORD a*: INTEGER END`.
+/// `RECORD (N.T) b: INTEGER END` of a module M, where N.T is `RECORD a*: INTEGER END`.
 fn extension(alloc: Global) -> Result<ObType, AllocError> {
     let mut fields = Items::new(alloc);
     fields.push(field(alloc, b"", false, record_of_one(alloc, b"a", true)?)?)?;
@@ -73,7 +73,7 @@ fn exported(alloc: Global, name: &[u8], object: Object) -> Result<Exported, Allo
     })
 }
 
-// A type of so many levels and one cell.
+/// A type of so many levels and one cell.
 fn deep(alloc: Global, levels: u32) -> Result<ObType, AllocError> {
     let mut of = integer();
     for _ in 0..levels {
@@ -82,7 +82,7 @@ fn deep(alloc: Global, levels: u32) -> Result<ObType, AllocError> {
     Ok(of)
 }
 
-// Adds an exported object.
+/// Adds an exported object.
 fn add(
     alloc: Global,
     exports: &mut Items<Exported>,
@@ -92,7 +92,7 @@ fn add(
     exports.push(exported(alloc, name, object)?)
 }
 
-// What a small module exports.
+/// What a small module exports.
 fn small_exports(alloc: Global) -> Result<Items<Exported>, AllocError> {
     let mut exports = Items::new(alloc);
     add(
@@ -116,7 +116,7 @@ fn small_exports(alloc: Global) -> Result<Items<Exported>, AllocError> {
     Ok(exports)
 }
 
-// Whether the text of a module with these exports is this.
+/// Whether the text of a module with these exports is this.
 fn has_text(
     alloc: Global,
     name: &[u8],
@@ -128,14 +128,14 @@ fn has_text(
     Ok(written.as_str() == wanted)
 }
 
-// The same of a module M with one export.
+/// The same of a module M with one export.
 fn has_line(alloc: Global, name: &[u8], object: Object, wanted: &str) -> Result<bool, AllocError> {
     let mut exports = Items::new(alloc);
     add(alloc, &mut exports, name, object)?;
     has_text(alloc, b"M", exports, wanted)
 }
 
-// `PROCEDURE (VAR a: INTEGER; b: ARRAY OF CHAR): BOOLEAN`.
+/// `PROCEDURE (VAR a: INTEGER; b: ARRAY OF CHAR): BOOLEAN`.
 fn two_formals(alloc: Global) -> Result<Signature, AllocError> {
     let mut formals = Items::new(alloc);
     formals.push(Formal {
@@ -202,13 +202,13 @@ fn lines_of_types_and_procedures(rt: HostRuntime) -> Result<(), Fail> {
     Ok(())
 }
 
-// The cells and levels of a type, and whether there may be variables of it.
+/// The cells and levels of a type, and whether there may be variables of it.
 fn sized(of: Result<ObType, AllocError>) -> Result<(u32, u32, bool), AllocError> {
     let of = of?;
     Ok((zero_size(&of), levels(&of), is_admitted(&of)))
 }
 
-// An array of arrays of INTEGER.
+/// An array of arrays of INTEGER.
 fn square(alloc: Global, rows: u32, columns: u32) -> Result<ObType, AllocError> {
     array(alloc, rows, array(alloc, columns, integer())?)
 }
@@ -231,7 +231,7 @@ fn cells_and_levels_at_their_limits(rt: HostRuntime) -> Result<(), Fail> {
     Ok(())
 }
 
-// Whether two types are the same.
+/// Whether two types are the same.
 fn are_same(
     one: Result<ObType, AllocError>,
     other: Result<ObType, AllocError>,
@@ -267,7 +267,7 @@ fn types_are_the_same_by_name_and_structure(rt: HostRuntime) -> Result<(), Fail>
     Ok(())
 }
 
-// A record type T of a module without fields.
+/// A record type T of a module without fields.
 fn empty(alloc: Global, module_name: &[u8], before: u32) -> Result<ObType, AllocError> {
     record(alloc, module_name, before, Items::new(alloc))
 }
@@ -281,7 +281,7 @@ fn names_of_records_are_compared(rt: HostRuntime) -> Result<(), Fail> {
     Ok(())
 }
 
-// Whether the second type is the first or extends it.
+/// Whether the second type is the first or extends it.
 fn is_extended(
     to: Result<ObType, AllocError>,
     from: Result<ObType, AllocError>,
@@ -313,7 +313,7 @@ fn what_may_be_assigned(rt: HostRuntime) -> Result<(), Fail> {
     Ok(())
 }
 
-// Whether a string of so many characters may be assigned to an array of so many characters.
+/// Whether a string of so many characters may be assigned to an array of so many characters.
 fn fits(alloc: Global, elements: u32, length: usize) -> Result<bool, AllocError> {
     let of = array(alloc, elements, ObType::Basic(Basic::Char))?;
     Ok(string_assignable(&of, length))
@@ -329,7 +329,7 @@ fn strings_that_may_be_assigned(rt: HostRuntime) -> Result<(), Fail> {
     Ok(())
 }
 
-// How many formals a copy of a signature has, and its result.
+/// How many formals a copy of a signature has, and its result.
 fn copied(alloc: Global) -> Result<(usize, Option<Basic>), AllocError> {
     let copy = two_formals(alloc)?.copy(alloc)?;
     Ok((copy.formals.len(), copy.result))

@@ -32,7 +32,7 @@ fn nothing(alloc: Global) -> Entry {
     }
 }
 
-// What is taken and left where one name is of this kind
+/// What is taken and left where one name is of this kind
 fn naming(
     alloc: Global,
     operands: usize,
@@ -59,7 +59,7 @@ fn procedure(entry: Entry, cells: usize, lines: Vec<Line>) -> Procedure {
     }
 }
 
-// A function of a value and of a name of three cells, which gives the named variable's second cell.
+/// A function of a value and of a name of three cells, which gives the named variable's second cell.
 fn second(alloc: Global) -> Result<Procedure, AllocError> {
     let lines = vec![in alloc;
         line(0, 0, Instr::Push(1)),
@@ -69,8 +69,8 @@ fn second(alloc: Global) -> Result<Procedure, AllocError> {
     Ok(procedure(entry, 1, lines))
 }
 
-// Whether code may run that has this procedure, this one as its body, three cells, and an import of two cells with a
-// procedure to which a name is passed.
+/// Whether code may run that has this procedure, this one as its body, three cells, and an import of two cells with a
+/// procedure to which a name is passed.
 fn is_code(alloc: Global, first: Procedure, body: Procedure) -> Result<bool, AllocError> {
     let known = Entries {
         cells: 2,
@@ -85,12 +85,12 @@ fn is_code(alloc: Global, first: Procedure, body: Procedure) -> Result<bool, All
     Ok(validate(alloc, code)?.is_some())
 }
 
-// These lines as a body
+/// These lines as a body
 fn runs(alloc: Global, lines: Vec<Line>) -> Result<bool, AllocError> {
     is_code(alloc, second(alloc)?, procedure(nothing(alloc), 0, lines))
 }
 
-// WHILE x < 3 DO INC(x) END, with the variable here, this jump to the guard and this way back
+/// WHILE x < 3 DO INC(x) END, with the variable here, this jump to the guard and this way back
 fn counting(alloc: Global, x: Root, skip: usize, back: usize) -> Result<bool, AllocError> {
     let lines = vec![in alloc;
         line(0, 0, Instr::Skip(skip)),
@@ -130,7 +130,7 @@ fn objects(rt: HostRuntime) -> Result<(), Fail> {
     Ok(())
 }
 
-// This place in an object of three cells is read.
+/// This place in an object of three cells is read.
 fn reading_at(alloc: Global, at: Vec<Line>) -> Result<bool, AllocError> {
     let mut lines = at;
     lines.push(line(1, 0, Instr::LoadAt(cells(0, 3))))?;
@@ -153,7 +153,7 @@ fn places(rt: HostRuntime) -> Result<(), Fail> {
     Ok(())
 }
 
-// An element of an array of so many, each of so many cells
+/// An element of an array of so many, each of so many cells
 fn element(alloc: Global, count: usize, size: usize) -> Result<bool, AllocError> {
     let lines = vec![in alloc;
         line(0, 0, Instr::Push(0)),
@@ -173,7 +173,7 @@ fn elements(rt: HostRuntime) -> Result<(), Fail> {
     Ok(())
 }
 
-// A call with this many operands and names before it and after it
+/// A call with this many operands and names before it and after it
 fn calling(
     alloc: Global,
     callee: Callee,
@@ -205,14 +205,14 @@ fn calls(rt: HostRuntime) -> Result<(), Fail> {
     Ok(())
 }
 
-// A procedure that takes this name, with these lines
+/// A procedure that takes this name, with these lines
 fn with_name(alloc: Global, kind: NameKind, lines: Vec<Line>) -> Result<bool, AllocError> {
     let mut first = procedure(naming(alloc, 0, kind, false)?, 1, lines);
     first.name_room = 2;
     is_code(alloc, first, procedure(nothing(alloc), 0, Vec::new(alloc)))
 }
 
-// The cell of this number in what the name stands for is read.
+/// The cell of this number in what the name stands for is read.
 fn named_at(alloc: Global, kind: NameKind, number: i32) -> Result<bool, AllocError> {
     let lines = vec![in alloc;
         line(0, 0, Instr::Push(number)),
@@ -222,7 +222,7 @@ fn named_at(alloc: Global, kind: NameKind, number: i32) -> Result<bool, AllocErr
     with_name(alloc, kind, lines)
 }
 
-// The name is indexed as an open array of elements of so many cells, of which the cell of this number is read.
+/// The name is indexed as an open array of elements of so many cells, of which the cell of this number is read.
 fn indexed(alloc: Global, size: usize, cell: usize) -> Result<bool, AllocError> {
     let lines = vec![in alloc;
         line(0, 0, Instr::Push(0)),
@@ -235,7 +235,7 @@ fn indexed(alloc: Global, size: usize, cell: usize) -> Result<bool, AllocError> 
     with_name(alloc, NameKind::ArrayOf(2), lines)
 }
 
-// So many cells of the module, or an array of elements of so many, are passed where this name is wanted.
+/// So many cells of the module, or an array of elements of so many, are passed where this name is wanted.
 fn passed(alloc: Global, kind: NameKind, name: Instr) -> Result<bool, AllocError> {
     let lines = vec![in alloc;
         line(0, 0, Instr::Push(0)),
@@ -265,7 +265,7 @@ fn names(rt: HostRuntime) -> Result<(), Fail> {
     Ok(())
 }
 
-// In.Int(x), with this instruction where the line is asked for
+/// In.Int(x), with this instruction where the line is asked for
 fn reading(alloc: Global, ask: Instr) -> Result<bool, AllocError> {
     let lines = vec![in alloc;
         line(0, 0, Instr::Push(0)),
@@ -320,7 +320,7 @@ fn procedures(rt: HostRuntime) -> Result<(), Fail> {
     Ok(())
 }
 
-// Two modules of two and of one cell, of which the second imports the first, and knows it so. The first exports `second`.
+/// Two modules of two and of one cell, of which the second imports the first, and knows it so. The first exports `second`.
 fn links(
     alloc: Global,
     first_cell: usize,

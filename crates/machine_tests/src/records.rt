@@ -12,7 +12,7 @@ use std::test::Fail;
 
 type Types = SharedItems<TypeName>;
 
-// A record type: its own name, and those of its bases, each with its cells
+/// A record type: its own name, and those of its bases, each with its cells
 fn record(alloc: Global, names: &[(&[u8], usize)]) -> Result<Types, AllocError> {
     let mut types = Items::new(alloc);
     for place in 0..names.len() {
@@ -23,7 +23,7 @@ fn record(alloc: Global, names: &[(&[u8], usize)]) -> Result<Types, AllocError> 
     SharedItems::new(alloc, types)
 }
 
-// T of one cell; U and O, which extend it, of two; and W, which extends U, of three
+/// T of one cell; U and O, which extend it, of two; and W, which extends U, of three
 fn t(alloc: Global) -> Result<Types, AllocError> {
     record(alloc, &[(b"T", 1)])
 }
@@ -52,7 +52,7 @@ fn cells(from: usize, cells: usize) -> Root {
     Root::OfModule(Extent { from, cells })
 }
 
-// A procedure with one name of this kind, or with none
+/// A procedure with one name of this kind, or with none
 fn procedure(
     alloc: Global,
     kind: Option<NameKind>,
@@ -76,7 +76,7 @@ fn procedure(
     })
 }
 
-// A module of these procedures, of which the last is its body, with three cells
+/// A module of these procedures, of which the last is its body, with three cells
 fn module(alloc: Global, procedures: Vec<Procedure>) -> CodeModule {
     CodeModule {
         cells: 3,
@@ -86,7 +86,7 @@ fn module(alloc: Global, procedures: Vec<Procedure>) -> CodeModule {
     }
 }
 
-// Whether code may run that has a procedure with a name of this kind and these lines.
+/// Whether code may run that has a procedure with a name of this kind and these lines.
 fn is_valid(alloc: Global, kind: NameKind, lines: Vec<Line>) -> Result<bool, AllocError> {
     let first = procedure(alloc, Some(kind), lines)?;
     let body = procedure(alloc, None, Vec::new(alloc))?;
@@ -96,7 +96,7 @@ fn is_valid(alloc: Global, kind: NameKind, lines: Vec<Line>) -> Result<bool, All
 
 const CAUGHT: TrapKind = TrapKind::Assertion;
 
-// A guard of this type, then the cell of this number there
+/// A guard of this type, then the cell of this number there
 fn guarded_cell(
     alloc: Global,
     kind: NameKind,
@@ -113,7 +113,7 @@ fn guarded_cell(
     is_valid(alloc, kind, lines)
 }
 
-// The cell of this number without a guard
+/// The cell of this number without a guard
 fn plain_cell(alloc: Global, kind: NameKind, cell: i32) -> Result<bool, AllocError> {
     let lines = vec![in alloc;
         line(0, 0, Instr::Push(cell)),
@@ -137,7 +137,7 @@ fn windows(rt: HostRuntime) -> Result<(), Fail> {
     Ok(())
 }
 
-// Whether a name that is made so may be passed where this one is wanted, by a procedure with a name of this kind.
+/// Whether a name that is made so may be passed where this one is wanted, by a procedure with a name of this kind.
 fn passes(
     alloc: Global,
     own: NameKind,
@@ -183,7 +183,7 @@ fn names_of_records(rt: HostRuntime) -> Result<(), Fail> {
     Ok(())
 }
 
-// Writes whether what the name stands for is of each of these types
+/// Writes whether what the name stands for is of each of these types
 fn tests(alloc: Global, types: &[Types], next: Option<usize>) -> Result<Vec<Line>, AllocError> {
     let mut lines = Vec::new(alloc);
     for place in 0..types.len() {
@@ -200,7 +200,7 @@ fn tests(alloc: Global, types: &[Types], next: Option<usize>) -> Result<Vec<Line
     Ok(lines)
 }
 
-// A body that passes a record of this type to the first procedure
+/// A body that passes a record of this type to the first procedure
 fn passing(alloc: Global, types: Types) -> Result<Procedure, AllocError> {
     let lines = vec![in alloc;
         line(0, 0, Instr::Push(0)),
@@ -210,7 +210,7 @@ fn passing(alloc: Global, types: Types) -> Result<Procedure, AllocError> {
     procedure(alloc, None, lines)
 }
 
-// What two procedures write of a record of this type, of which the first passes it on to the second
+/// What two procedures write of a record of this type, of which the first passes it on to the second
 fn told(alloc: Global, types: Types, said: &str) -> Result<bool, NoAnswer> {
     let asked = [t(alloc)?, u(alloc)?, o(alloc)?, w(alloc)?];
     let own = Some(NameKind::RecordOf(1));
@@ -237,7 +237,7 @@ fn types_are_told(rt: HostRuntime) -> Result<(), Fail> {
     Ok(())
 }
 
-// A record of this type is guarded as U, and its second cell gets 7, which is written.
+/// A record of this type is guarded as U, and its second cell gets 7, which is written.
 fn guarded(alloc: Global, types: Types, said: Seen<'_>) -> Result<bool, NoAnswer> {
     let lines = vec![in alloc;
         line(0, 0, Instr::Push(0)),

@@ -58,6 +58,7 @@ pub struct Fault {
     pub at_end: bool,
 }
 
+/// Why something was not read or checked: a fault of the text, or lack of memory.
 #[derive(Debug, Drop)]
 pub enum Refused {
     Fault(Fault),

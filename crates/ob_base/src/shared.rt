@@ -22,6 +22,7 @@ impl<T> Model for Shared<T> {
 }
 
 impl<T> Shared<T> {
+    /// The value.
     pub fn get(&self) -> &T
         ensures { result.now ≡ self.now }
     {

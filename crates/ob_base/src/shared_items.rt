@@ -26,6 +26,7 @@ impl<T> Model for SharedItems<T> {
 }
 
 impl<T> SharedItems<T> {
+    /// All of them, in order.
     pub fn as_slice(&self) -> &[T]
         ensures { result.now ≡ self.now }
     {

@@ -11,7 +11,7 @@ use ob_link::{Modules, SessionModule};
 use ob_tree::tree::{Import, Module};
 use std::alloc::{AllocError, Global};
 
-// A name alone.
+/// A name alone.
 fn only_name(alloc: Global, name: &Text) -> Result<Vec<Text>, AllocError>
     ensures { IfOk result (λ v. v.items ≡ name.now ∷ []) }
 {
@@ -20,7 +20,7 @@ fn only_name(alloc: Global, name: &Text) -> Result<Vec<Text>, AllocError>
     Ok(names)
 }
 
-// A module more, of a new name, which reaches these names.
+/// A module more, of a new name, which reaches these names.
 fn with_module(
     imports: Imports,
     new: &SessionModule,
@@ -34,14 +34,14 @@ fn with_module(
     Ok(imports)
 }
 
-// Those of them that reach a name reach it alone.
+/// Those of them that reach a name reach it alone.
 fn reached_name(reaches: bool, name: &[Text]) -> &[Text]
     ensures { result.now ≡ (if reaches then name.now else []) }
 {
     if reaches { name } else { &[] }
 }
 
-// The loaded modules, as the rules for a module of this name see them.
+/// The loaded modules, as the rules for a module of this name see them.
 fn all_loaded(alloc: Global, modules: &Modules, name: &Text) -> Result<Imports, AllocError>
     requires { AllDistinct modules.now }
     ensures { IfOk result (λ imports. imports ≡ map (meaning.loaded_as modules.now name.now) modules.now) }
@@ -57,7 +57,7 @@ fn all_loaded(alloc: Global, modules: &Modules, name: &Text) -> Result<Imports, 
     Ok(imports)
 }
 
-// The name of the module that is imported.
+/// The name of the module that is imported.
 fn own_name(import: &Import) -> &Text {
     match &import.module_name {
         Some(own) => &own.name,

@@ -39,7 +39,7 @@ pub fn module_plan(alloc: Global, modules: &Modules, tree: &Module) -> Result<Pl
     plan_over(alloc, modules, &loaded, tree)
 }
 
-// The same over the loaded modules, as the rules for this module see them.
+/// The same over the loaded modules, as the rules for this module see them.
 #[tactic(none)]
 fn plan_over(
     alloc: Global,

@@ -117,7 +117,7 @@ fn lengths_of(site: Site<'_>, list: &[Expr]) -> Result<Items<u32>, Rejected>
     Ok(so_far)
 }
 
-/// An array of so many of these.
+/// An array of `length` of these.
 #[tactic(auto, unfolding(crate::specs::WrittenTypes::array_of))]
 fn array_of(alloc: Global, element: ObType, length: u32, span: Span) -> Result<ObType, Rejected>
     ensures { Judges (spec.array_of element length) result }
@@ -198,7 +198,7 @@ fn push_fields(
     Ok(so_far)
 }
 
-/// The cells of a record with so many more fields of a type, if they fit.
+/// The cells of a record with `count` more fields of a type, if they fit.
 fn cells_with(taken: u32, count: usize, of: &ObType) -> Option<u32>
     ensures { result ≡ spec.cells_with taken count of.now }
 {
@@ -302,7 +302,7 @@ fn begun(
     }
 }
 
-/// A type as it is written, after so many words RECORD of its declaration.
+/// A type as it is written, after `records` words RECORD of its declaration.
 #[cycle(written)]
 #[tactic(auto, unfolding(crate::specs::WrittenTypes::type_at, crate::specs::WrittenTypes::type_rule))]
 pub fn written_type(
@@ -336,7 +336,7 @@ pub fn written_type(
     }
 }
 
-/// A record, after so many words RECORD.
+/// A record, after `records` words RECORD.
 #[cycle(written)]
 #[tactic(auto, unfolding(crate::specs::WrittenTypes::record_rule))]
 fn record_type(

@@ -8,7 +8,7 @@ use ob_types::{ObType, same};
 use std::alloc::{AllocError, Global};
 use std::marker::Model;
 
-// So many types are kept: the time to look for one stays small.
+/// How many types are kept at most: the time to look for one stays small.
 const MOST: usize = 32;
 
 /// A type that is kept with its shape. Contracts see the type.

@@ -60,7 +60,7 @@ fn all_counted(levels: u32, list: &[Procedure]) -> Option<usize>
     Some(total)
 }
 
-/// The number of a procedure, after so many and those in it.
+/// The number of a procedure, after `before` others and those in it.
 fn number_of(levels: u32, before: usize, p: &Procedure) -> Result<usize, AllocError>
     ensures { IfOk result (λ n. n ≡ before + spec.nested levels p.now) }
 {
@@ -96,7 +96,7 @@ fn own_shape(
     }
 }
 
-/// The variables of a procedure, after so many parameters.
+/// The variables of a procedure, after `parameters` parameters.
 fn own_shapes(
     alloc: Global,
     made: &mut Made,

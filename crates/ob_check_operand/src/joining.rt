@@ -33,6 +33,7 @@ pub enum Joined {
     Truths(Items<TypedExpr>),
 }
 
+/// What an operator between terms joins: `+` and `-` numbers, OR truth values.
 pub fn add_joining(operator: AddOperator) -> Joining
     ensures { result ≡ spec.add_joining operator }
 {
@@ -43,6 +44,7 @@ pub fn add_joining(operator: AddOperator) -> Joining
     }
 }
 
+/// What an operator between factors joins: `*`, DIV and MOD numbers, `&` truth values.
 pub fn mul_joining(operator: MulOperator) -> Joining
     ensures { result ≡ spec.mul_joining operator }
 {

@@ -133,6 +133,7 @@ pub fn value_for(
     }
 }
 
+/// The number of a truth value: 1 or 0.
 pub fn truth_number(truth: bool) -> i32
     ensures { result ≡ spec.truth_number truth }
 {
@@ -172,6 +173,7 @@ pub fn operand_of_variable(of: &ObType, place: Designator) -> Result<Operand, Re
     }
 }
 
+/// Whether it is the type CHAR.
 pub fn is_char(of: &ObType) -> bool
     ensures { result ≡ is_char of.now }
 {
@@ -191,10 +193,10 @@ pub fn is_text(of: &ObType) -> bool
     }
 }
 
-// The most elements of a string that becomes a variable.
+/// The most elements of a string that becomes a variable.
 const MAX_ELEMENTS: u32 = 2147483647;
 
-/// A string as a variable of the module, in so many elements, which are fewer than 2^31.
+/// A string as a variable of the module, in `elements` elements, which are fewer than 2^31.
 #[tactic(auto, unfolding(crate::specs::Operands::text_variable))]
 pub fn hidden(
     text: Text,

@@ -17,6 +17,7 @@ use ob_types::{Basic, ObType};
 use std::alloc::Global;
 use std::mem::drop;
 
+/// The relation of typed trees that a written one stands for.
 pub fn relation_of(relation: Written) -> Relation
     ensures { result ≡ spec.relation_of relation }
 {

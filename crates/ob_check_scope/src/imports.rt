@@ -14,7 +14,7 @@ use ob_types::{Exported, Interface, Object};
 use std::alloc::{AllocError, Global};
 use std::marker::Model;
 
-// What a module exports, and the variables and the procedures among that, each name with its place.
+/// What a module exports, and the variables and the procedures among that, each name with its place.
 #[derive(Drop)]
 struct Tables {
     names: Names,
@@ -114,7 +114,7 @@ fn is_among(names: &[Text], name: &Text) -> bool
     false
 }
 
-// What these have under a name.
+/// What these have under a name.
 fn exported_in<'a>(exports: &'a [Exported], name: &Text) -> Option<&'a Object>
     ensures { option_copied result ≡ exports_spec.exported_in exports.now name.now }
 {
@@ -126,7 +126,7 @@ fn exported_in<'a>(exports: &'a [Exported], name: &Text) -> Option<&'a Object>
     None
 }
 
-// The number of the variable of a name among the variables of these.
+/// The number of the variable of a name among the variables of these.
 fn variable_place(exports: &[Exported], name: &Text) -> Option<usize>
     ensures { result ≡ place_in (exports_spec.variables_in exports.now) name.now }
 {
@@ -142,7 +142,7 @@ fn variable_place(exports: &[Exported], name: &Text) -> Option<usize>
     None
 }
 
-// The number of the procedure of a name among the procedures of these.
+/// The number of the procedure of a name among the procedures of these.
 fn procedure_place(exports: &[Exported], name: &Text) -> Option<usize>
     ensures { result ≡ place_in (exports_spec.procedures_in exports.now) name.now }
 {
@@ -167,7 +167,7 @@ fn object_in(exports: &[Exported], place: usize) -> Option<&Object>
     }
 }
 
-// The same by tables.
+/// The same by tables.
 fn exported_by<'a>(tables: &Tables, exports: &'a [Exported], name: &Text) -> Option<&'a Object>
     requires { IsTableOf exports.now tables.now }
     ensures { option_copied result ≡ exports_spec.exported_in exports.now name.now }
@@ -216,7 +216,7 @@ impl LoadedModule {
         is_among(self.reached.as_slice(), name)
     }
 
-    // Makes its tables. It stays the same module.
+    /// Makes its tables. It stays the same module.
     fn index(&mut self, alloc: Global) -> Result<(), AllocError>
         ensures { self.new ≡ self.old }
     {
@@ -276,7 +276,7 @@ impl Model for Imports {
     ghost view = { λ i. i.modules.items };
 }
 
-// The first place of a name among those of these.
+/// The first place of a name among those of these.
 fn place_among(modules: &[LoadedModule], name: &Text) -> Option<usize>
     ensures { result ≡ place_in (exports_spec.module_names modules.now) name.now }
 {
@@ -336,7 +336,7 @@ impl Imports {
     }
 
     /// A module more, of a name that none of them has, with the names of the modules that it reaches by its imports and theirs.
-    /// It looks at none of the others. Want of memory leaves the modules as they were.
+    /// It looks at none of the others. Lack of memory leaves the modules as they were.
     pub fn push(&mut self, interface: &Interface, reached: &[Text]) -> Result<(), AllocError>
         requires { spec.module_place self.old interface.now.name ≡ None }
         ensures ok { OnOk result (self.new ≡ spec.added self.old (record { interface = interface.now; reached = reached.now })) }
@@ -358,7 +358,7 @@ impl Imports {
     }
 
     /// A module more, with the names of the modules that it reaches by its imports and theirs. It takes the place of the one
-    /// that has its name. Want of memory leaves the modules as they were.
+    /// that has its name. Lack of memory leaves the modules as they were.
     pub fn add(&mut self, interface: &Interface, reached: &[Text]) -> Result<(), AllocError>
         ensures ok { OnOk result (self.new ≡ spec.added self.old (record { interface = interface.now; reached = reached.now })) }
         ensures err { OnErr result (self.new ≡ self.old) }

@@ -61,7 +61,7 @@ impl Names {
         self.places.contains_key(name.as_slice())
     }
 
-    /// One name more. Want of memory leaves them as they were.
+    /// One name more. Lack of memory leaves them as they were.
     pub fn push(&mut self, alloc: Global, name: &Text) -> Result<(), AllocError>
         ensures ok { OnOk result (self.new ≡ self.old ++ name.now ∷ []) }
         ensures err { OnErr result (self.new ≡ self.old) }

@@ -24,6 +24,7 @@ impl<T> Model for Stack<T> {
 }
 
 impl<T> Stack<T> {
+    /// A stack with nothing on it.
     pub fn new(alloc: Global) -> Stack<T>
         ensures { result ≡ [] }
     {
@@ -32,6 +33,7 @@ impl<T> Stack<T> {
         }
     }
 
+    /// Whether nothing is on it.
     pub fn is_empty(&self) -> bool
         ensures { result ≡ is_empty self.now }
     {

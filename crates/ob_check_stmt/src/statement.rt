@@ -373,7 +373,7 @@ fn sequence(
     Ok((done, so_far))
 }
 
-/// A sequence of statements, which opens among so many constructs at this token.
+/// A sequence of statements: one construct more that nests, which opens at this token.
 #[cycle(statement)]
 #[tactic(auto, unfolding(crate::specs::Statements::statements_at))]
 pub fn statements(

@@ -18,7 +18,7 @@ use std::collections::HashMap;
 use std::hash::{Hash, Hasher};
 use std::marker::Model;
 
-// A string, and in how many elements it stands.
+/// A string, and in how many elements it stands.
 #[derive(Drop)]
 struct Written {
     characters: Text,
@@ -39,10 +39,10 @@ impl Eq for Written {
     ghost laws = { Prim.search (comparing, rules) };
 }
 
-// Of a long string so many characters at each end are hashed, and not those between.
+/// How many characters at each end of a long string are hashed; those between are not.
 const HASHED: usize = 64;
 
-// The ends of a string, which are the whole where it is short.
+/// The ends of a string, which are the whole where it is short.
 fn ends(characters: &[u8]) -> (&[u8], &[u8])
     ensures first { result.0.now ≡ numbered.first_of characters.now }
     ensures last { result.1.now ≡ numbered.last_of characters.now }
@@ -120,7 +120,7 @@ impl Variables {
         Ok(())
     }
 
-    /// The number of the variable that is this string in so many elements, and the variables then: of the one that is there, or
+    /// The number of the variable that is this string in `elements` elements, and the variables then: of the one that is there, or
     /// else of one more.
     pub fn string(self, text: Text, elements: u32) -> Result<(usize, Variables), AllocError>
         ensures number { IfOk result (λ p. p.0 ≡ spec.string_number self text elements) }
@@ -136,7 +136,7 @@ impl Variables {
         }
     }
 
-    // One string more, which is not there.
+    /// One string more, which is not there.
     fn with_new(self, written: Written, text: Text) -> Result<(usize, Variables), AllocError>
         requires same { written.characters ≡ text }
         requires new { spec.string_at self text written.elements ≡ None }

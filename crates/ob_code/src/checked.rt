@@ -1,4 +1,4 @@
-// Code of whose operands and names enough is known.
+//! Code of whose operands and names enough is known.
 
 ghost use Rattle.std.specs.Prelude.{◌≡◌};
 ghost use Rattle.ob_code.specs.Kinds.{IsMeasured};

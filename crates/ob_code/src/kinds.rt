@@ -1,4 +1,4 @@
-// Kinds of operands, and of names.
+//! Kinds of operands, and of names.
 
 use crate::instr::NameKind;
 use ob_base::Items;

@@ -10,7 +10,7 @@ use ob_check_scope::{Imports, LoadedModule};
 use ob_mean::Face;
 use std::alloc::{AllocError, Global};
 
-// The loaded module of a name.
+/// The loaded module of a name.
 fn module_named<'a>(loaded: &'a [LoadedModule], name: &Text) -> Option<&'a LoadedModule>
     ensures { spec.loaded_face (option_copied result) ≡ spec.face_named loaded.now name.now }
 {
@@ -22,7 +22,7 @@ fn module_named<'a>(loaded: &'a [LoadedModule], name: &Text) -> Option<&'a Loade
     None
 }
 
-// What is known of a loaded module, after these.
+/// What is known of a loaded module, after these.
 fn with_face(
     alloc: Global,
     so_far: Vec<Face>,

@@ -9,7 +9,7 @@ pub fn checked_law()
     ensures { EachCheckedIsCompilable }
 {}
 
-/// What the loaded modules export is so after one more is loaded of which it is so.
+/// Where all that the loaded modules export is solid, it stays so after one more is loaded whose exports are.
 pub fn load_law()
     ensures { EachLoadStaysSolid }
 {}

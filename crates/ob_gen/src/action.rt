@@ -99,7 +99,7 @@ fn emit_assign<'a>(
     }
 }
 
-// What a reader sets.
+/// What a reader sets.
 fn target_of(reader: Reader, found: Found) -> Target
     ensures { (names : Names) (d : Designator) → found.entry.root ≡ spec.root_in names d → object_seen found.entry.object ≡ object_of names d → result ≡ spec.target_of names reader d }
 {

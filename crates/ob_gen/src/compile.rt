@@ -30,6 +30,7 @@ fn variable_cells(variable: &ModuleVariable) -> Result<usize, AllocError>
     }
 }
 
+/// The sizes of a module's own variables, in cells.
 pub fn variable_table(alloc: Global, variables: &[ModuleVariable]) -> Result<Table, AllocError>
     ensures { IfOk result (λ t. t ≡ row_sizes (opening_row variables.now)) }
 {
@@ -51,6 +52,7 @@ fn face_table(alloc: Global, face: &Face) -> Result<Table, AllocError>
     Ok(table)
 }
 
+/// The sizes of the variables that each imported module exports.
 pub fn face_tables(alloc: Global, faces: &[Face]) -> Result<Vec<Table>, AllocError>
     ensures { IfOk result (λ v. v.items ≡ map face_sizes faces.now) }
 {
@@ -83,6 +85,7 @@ fn parameter_names(parameter: &Parameter) -> usize
     }
 }
 
+/// The sizes of what a procedure's cells have: its parameters, and then its own variables.
 pub fn own_table(
     alloc: Global,
     parameters: &[Parameter],
@@ -100,6 +103,7 @@ pub fn own_table(
     Ok(table)
 }
 
+/// How many names each parameter makes: none where a value is passed, else one.
 pub fn name_table(alloc: Global, parameters: &[Parameter]) -> Result<Table, AllocError>
     ensures { IfOk result (λ t. t ≡ map spec.named_one parameters.now) }
 {
@@ -112,7 +116,7 @@ pub fn name_table(alloc: Global, parameters: &[Parameter]) -> Result<Table, Allo
 
 // ---- what calls take and leave
 
-// One more parameter, which makes a name or none.
+/// One more parameter, which makes a name or none.
 fn add_kind(kinds: &mut Items<NameKind>, parameter: &Parameter) -> Result<(), AllocError>
     ensures { OnOk result (kinds.new ≡ kinds.old ++ name_kind parameter.now) }
 {
@@ -124,7 +128,7 @@ fn add_kind(kinds: &mut Items<NameKind>, parameter: &Parameter) -> Result<(), Al
     }
 }
 
-// What the parameters' names stand for.
+/// What the parameters' names stand for.
 fn name_kinds(alloc: Global, parameters: &[Parameter]) -> Result<Items<NameKind>, AllocError>
     ensures { IfOk result (λ kinds. kinds ≡ name_kinds parameters.now) }
 {
@@ -169,6 +173,7 @@ fn entries_of(alloc: Global, face: &Face) -> Result<Entries, AllocError>
     })
 }
 
+/// What is known of the cells and exported procedures of each imported module.
 pub fn all_entries(alloc: Global, faces: &[Face]) -> Result<Vec<Entries>, AllocError>
     ensures { IfOk result (λ v. AreOfFaces faces.now v.items) }
 {
@@ -181,14 +186,14 @@ pub fn all_entries(alloc: Global, faces: &[Face]) -> Result<Vec<Entries>, AllocE
 
 // ---- procedures
 
-/// Room for so many operands and names.
+/// How many operands and names there is room for.
 #[derive(Clone, Copy)]
 struct Room {
     operands: usize,
     names: usize,
 }
 
-// Room for one more than lie before any line.
+/// Room for one more than lie before any line.
 fn room_of(lines: &[Line]) -> Result<Room, AllocError>
     ensures { IfOk result (λ r. (r.operands ≡ most_operands lines.now + 1) × (r.names ≡ most_names lines.now + 1)) }
 {
@@ -204,7 +209,7 @@ fn room_of(lines: &[Line]) -> Result<Room, AllocError>
     }
 }
 
-// The value that a procedure gives, if it gives one.
+/// The value that a procedure gives, if it gives one.
 fn emit_result<'a>(
     alloc: Global,
     code: &mut Vec<Line>,
@@ -220,7 +225,7 @@ fn emit_result<'a>(
     }
 }
 
-// The code of a procedure, or of a body.
+/// The code of a procedure, or of a body.
 pub fn emit_procedure<'a>(
     alloc: Global,
     known: &Known<'a>,

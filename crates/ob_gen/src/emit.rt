@@ -40,7 +40,7 @@ pub fn span_of(found: Found) -> Span
     }
 }
 
-/// The code of an expression, before which so many operands and pending names lie there. Each of them was left there by an
+/// The code of an expression, before which `operands` operands and `names` pending names lie there. Each of them was left there by an
 /// instruction of this code, so their numbers need no other bound.
 #[cycle(expressions)]
 pub fn emit_expr<'a>(
@@ -102,7 +102,7 @@ pub fn emit_expr<'a>(
     }
 }
 
-// The value of a variable, or of a part of one.
+/// The value of a variable, or of a part of one.
 #[cycle(expressions)]
 fn emit_read<'a>(
     alloc: Global,
@@ -207,7 +207,7 @@ pub fn emit_offset<'a>(
     }
 }
 
-// Operators and their second operands.
+/// Operators and their second operands.
 #[cycle(expressions)]
 fn emit_operations<'a>(
     alloc: Global,
@@ -235,7 +235,7 @@ fn emit_operations<'a>(
     Ok(())
 }
 
-// `&`.
+/// `&`.
 #[cycle(expressions)]
 fn emit_every<'a>(
     alloc: Global,
@@ -261,7 +261,7 @@ fn emit_every<'a>(
     close(code, operands, names, &ends)
 }
 
-// OR.
+/// OR.
 #[cycle(expressions)]
 fn emit_either<'a>(
     alloc: Global,
@@ -288,7 +288,7 @@ fn emit_either<'a>(
     Ok(())
 }
 
-// A side of OR, and TRUE where it holds.
+/// A side of OR, and TRUE where it holds.
 #[cycle(expressions)]
 fn emit_side<'a>(
     alloc: Global,
@@ -309,7 +309,7 @@ fn emit_side<'a>(
     put(code, operands, names, Instr::Push(1))
 }
 
-// A value, or a name for a place.
+/// A value, or a name for a place.
 #[cycle(expressions)]
 fn emit_argument<'a>(
     alloc: Global,
@@ -371,7 +371,7 @@ fn emit_argument<'a>(
     }
 }
 
-// A name for the place whose number lies there.
+/// A name for the place whose number lies there.
 fn put_name(
     code: &mut Vec<Line>,
     operands: usize,

@@ -7,7 +7,7 @@ ghost use Rattle.ob_gen.specs.Emitted as emitted;
 use ob_code::instr::{Instr, Line};
 use std::alloc::AllocError;
 
-/// One more instruction, before which so many operands and names lie there.
+/// One more instruction, before which `operands` operands and `names` names lie there.
 pub fn put(
     code: &mut Vec<Line>,
     operands: usize,

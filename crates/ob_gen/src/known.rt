@@ -18,7 +18,7 @@ pub enum Object<'a> {
     /// A variable of basic type.
     Basic,
     Of(&'a Shape),
-    /// An array of so many characters.
+    /// An array of characters, as many as this.
     Characters(u32),
     /// An array of such elements whose length is its caller's.
     Open(&'a Shape),
@@ -41,7 +41,7 @@ pub struct Known<'a> {
     pub name_table: &'a Table,
 }
 
-// Where a variable of an import is.
+/// Where a variable of an import is.
 #[tactic(auto, using(crate::proofs::emitting::Known::face_extent))]
 fn import_extent(known: &Known, import: usize, number: usize) -> Extent
     requires { IsPlaced known.now }
@@ -176,7 +176,7 @@ pub fn field_of<'a>(object: Object<'a>, number: usize) -> Object<'a>
     }
 }
 
-/// What its base part is, so many levels down: the base of a record is its first field.
+/// What its base part is, `levels` levels down: the base of a record is its first field.
 pub fn base_of<'a>(object: Object<'a>, levels: usize) -> Object<'a>
     ensures { object_seen result ≡ formed.base_object levels (object_seen object.entry) }
 {

@@ -61,7 +61,7 @@ fn part_code(
 ///
 /// # Errors
 ///
-/// Want of memory; and where something has 2^64 cells or more, for which there is no room either.
+/// Lack of memory; and where something has 2^64 cells or more, for which there is no room either.
 #[tactic(auto, using(crate::proofs::machine::Told::generated_measured))]
 pub fn generate(alloc: Global, faces: &[Face], tree: &TypedModule) -> Result<Checked, AllocError>
     requires { IsWellFormed faces.now tree.now }

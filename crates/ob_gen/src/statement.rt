@@ -65,7 +65,7 @@ fn emit_statement<'a>(
     }
 }
 
-// The branches of IF, each with a jump that is written later. It answers where those are.
+/// The branches of IF, each with a jump that is written later. It answers where those are.
 #[cycle(statements)]
 fn emit_choice<'a>(
     alloc: Global,
@@ -87,7 +87,7 @@ fn emit_choice<'a>(
     Ok(ends)
 }
 
-// A guard, and the body, which is passed where the guard doesn't hold.
+/// A guard, and the body, which is passed where the guard doesn't hold.
 #[cycle(statements)]
 fn emit_branch<'a>(
     alloc: Global,
@@ -108,7 +108,7 @@ fn emit_branch<'a>(
     Ok(())
 }
 
-// The arms of CASE, before which the number lies there that is looked up.
+/// The arms of CASE, before which the number lies there that is looked up.
 #[cycle(statements)]
 fn emit_arms<'a>(
     alloc: Global,
@@ -132,7 +132,7 @@ fn emit_arms<'a>(
     Ok(())
 }
 
-// The labels, and the body, which is passed where there is no such label.
+/// The labels, and the body, which is passed where there is no such label.
 #[cycle(statements)]
 fn emit_arm<'a>(
     alloc: Global,
@@ -154,7 +154,7 @@ fn emit_arm<'a>(
     Ok(())
 }
 
-// Tests of labels, each of which leads past a jump after them.
+/// Tests of labels, each of which leads past a jump after them.
 fn emit_labels(code: &mut Vec<Line>, labels: &[LabelRange]) -> Result<(), AllocError>
     ensures code { OnOk result (code.new.items ≡ code.old.items ++ spec.labels_code labels.now) }
     ensures grows { OnOk result (vec_len code.old ≤ vec_len code.new) }
@@ -172,7 +172,7 @@ fn emit_labels(code: &mut Vec<Line>, labels: &[LabelRange]) -> Result<(), AllocE
     Ok(())
 }
 
-// WHILE: a jump to the guards, the bodies, and the guards.
+/// WHILE: a jump to the guards, the bodies, and the guards.
 #[cycle(statements)]
 fn emit_loop<'a>(
     alloc: Global,
@@ -192,7 +192,7 @@ fn emit_loop<'a>(
     emit_guards(alloc, code, known, &starts, branches)
 }
 
-// The bodies of a loop, each of which leads to the guards after them all. It answers where they begin.
+/// The bodies of a loop, each of which leads to the guards after them all. It answers where they begin.
 #[cycle(statements)]
 fn emit_bodies<'a>(
     alloc: Global,
@@ -217,7 +217,7 @@ fn emit_bodies<'a>(
     Ok(starts)
 }
 
-// The guards of a loop whose bodies begin at these places.
+/// The guards of a loop whose bodies begin at these places.
 fn emit_guards<'a>(
     alloc: Global,
     code: &mut Vec<Line>,
@@ -262,7 +262,7 @@ fn emit_repeat<'a>(
     put(code, 1, 0, Instr::EnterBack(distance))
 }
 
-// v <= last, or >= for a step down.
+/// v <= last, or >= for a step down.
 fn for_relation(step: i32) -> Relation
     ensures { result ≡ spec.for_relation step }
 {
@@ -273,7 +273,7 @@ fn for_relation(step: i32) -> Relation
     }
 }
 
-// The test of FOR.
+/// The test of FOR.
 fn emit_for_guard<'a>(
     alloc: Global,
     code: &mut Vec<Line>,
@@ -290,7 +290,7 @@ fn emit_for_guard<'a>(
     put(code, 2, 0, Instr::Operate(operator, 0))
 }
 
-// The step of FOR, and the jump to its test.
+/// The step of FOR, and the jump to its test.
 fn emit_for_step(code: &mut Vec<Line>, known: &Known, head: &ForHead) -> Result<(), AllocError>
     requires { IsPlaced known.now }
     ensures code { OnOk result (code.new.items ≡ code.old.items ++ spec.for_step (names_in known.now) head.now) }

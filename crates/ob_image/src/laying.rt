@@ -23,7 +23,7 @@ pub fn put_at<T: Drop>(items: &mut Vec<T>, number: usize, item: T)
     }
 }
 
-// The first cell after the modules before the one of this number, where these lie one after the other.
+/// The first cell after the modules before the one of this number, where these lie one after the other.
 fn cells_before(code: &[LinkedModule], number: usize) -> usize
     requires there { number ≤ length code.now }
     requires laid { AreLaid 0 (take number code.now) }

@@ -8,7 +8,7 @@ ghost use Rattle.ob_session.specs.Session.{Module};
 
 use ob_code::instr::LinkedModule;
 
-// As many cells as the modules have before the one of this number, where they lie one after the other.
+/// As many cells as the modules have before the one of this number, where they lie one after the other.
 #[tactic(auto, using(crate::proofs::Counted::cells_before, crate::proofs::Counted::cells_beyond))]
 fn first_cell(code: &[LinkedModule], cells: usize, number: usize) -> usize
     requires { cells ≡ all_cells code.now }

@@ -8,7 +8,7 @@ ghost use Rattle.ob_code.specs.Machine.{text_cells};
 use ob_mean::{ModuleVariable, Shape};
 use std::alloc::{AllocError, Global};
 
-// A variable of this shape.
+/// A variable of this shape.
 #[cycle(zeros)]
 #[tactic(auto, using(crate::proofs::Begins::array_image, crate::proofs::Begins::record_image))]
 fn push_zeros(cells: &mut Vec<i32>, shape: &Shape) -> Result<(), AllocError>
@@ -21,7 +21,7 @@ fn push_zeros(cells: &mut Vec<i32>, shape: &Shape) -> Result<(), AllocError>
     }
 }
 
-// The elements of an array.
+/// The elements of an array.
 #[cycle(zeros)]
 #[tactic(auto, using(crate::proofs::Begins::row_image))]
 fn push_elements(cells: &mut Vec<i32>, count: u32, element: &Shape) -> Result<(), AllocError>
@@ -33,7 +33,7 @@ fn push_elements(cells: &mut Vec<i32>, count: u32, element: &Shape) -> Result<()
     Ok(())
 }
 
-// A record without fields has a cell.
+/// A record without fields has a cell.
 #[cycle(zeros)]
 #[tactic(auto, using(crate::proofs::Begins::fields_image))]
 fn push_record(cells: &mut Vec<i32>, fields: &[Shape]) -> Result<(), AllocError>
@@ -45,7 +45,7 @@ fn push_record(cells: &mut Vec<i32>, fields: &[Shape]) -> Result<(), AllocError>
     push_fields(cells, fields)
 }
 
-// Variables of these shapes.
+/// Variables of these shapes.
 #[cycle(zeros)]
 #[tactic(auto, using(crate::proofs::Begins::zeros_image))]
 fn push_fields(cells: &mut Vec<i32>, fields: &[Shape]) -> Result<(), AllocError>
@@ -64,7 +64,7 @@ fn push_cell(cells: &mut Vec<i32>, number: i32) -> Result<(), AllocError>
     Ok(())
 }
 
-// The character of this number in a text, or 0X after its end.
+/// The character of this number in a text, or 0X after its end.
 #[tactic(auto, using(crate::proofs::Begins::text_character, crate::proofs::Begins::text_zero))]
 fn text_cell(text: &[u8], number: usize) -> i32
     ensures { (n : ℕ) (z : ℤ) → number < n → slice_index_or (text_cells n text.now) number z ≡ result }
@@ -76,7 +76,7 @@ fn text_cell(text: &[u8], number: usize) -> i32
     }
 }
 
-// A text in so many cells.
+/// A text in `count` cells.
 fn push_text(cells: &mut Vec<i32>, text: &[u8], count: u32) -> Result<(), AllocError>
     ensures { OnOk result (cells.new.items ≡ cells.old.items ++ text_cells count text.now) }
 {

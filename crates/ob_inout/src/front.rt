@@ -110,7 +110,7 @@ pub(crate) fn integer(chars: &[u8]) -> Option<Front<i32>>
     })
 }
 
-/// The characters of a string between quotes that an array of so many elements has room for: how many.
+/// How many characters a string between quotes has, where an array of `size` elements has room for it.
 #[tactic(auto, unfolding(crate::specs::Reading::string_at))]
 pub(crate) fn string(size: usize, chars: &[u8]) -> Option<Front<usize>>
     ensures value { MatchOption result (spec.string_at size chars.now ≡ None) (λ front. spec.string_at size chars.now ≡ Some (record { value = take front.value (drop 1 chars.now); rest = drop front.used chars.now })) }
@@ -132,7 +132,7 @@ pub(crate) fn string(size: usize, chars: &[u8]) -> Option<Front<usize>>
     })
 }
 
-/// The characters of a name that an array of so many elements has room for: how many.
+/// How many characters a name has, where an array of `size` elements has room for it.
 #[tactic(auto, unfolding(crate::specs::Reading::name_at))]
 pub(crate) fn name(size: usize, chars: &[u8]) -> Option<Front<usize>>
     ensures value { MatchOption result (spec.name_at size chars.now ≡ None) (λ front. spec.name_at size chars.now ≡ Some (record { value = take front.value chars.now; rest = drop front.used chars.now })) }

@@ -7,7 +7,7 @@ ghost use Rattle.ob_inout.specs.Reading as spec;
 
 use std::alloc::AllocError;
 
-// A character as a CHAR: `?` past U+00FF.
+/// A character as a CHAR: `?` past U+00FF.
 fn char_of(c: char) -> u8
     ensures { result ≡ spec.char_of c }
 {

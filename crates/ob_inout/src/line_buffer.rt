@@ -98,14 +98,14 @@ impl LineBuffer {
         self.done = false;
     }
 
-    // The characters that are left.
+    /// The characters that are left.
     fn left(&self) -> &[u8]
         ensures { result.now ≡ self.now.input.left }
     {
         &self.line[self.at..]
     }
 
-    // Uses up the blanks, and says whether anything is left then.
+    /// Uses up the blanks, and says whether anything is left then.
     fn skip_blanks(&mut self) -> bool
         ensures skipped { self.new ≡ skipped self.old }
         ensures some { result ≡ is_some_left self.new }
@@ -115,7 +115,7 @@ impl LineBuffer {
         self.at < self.line.len()
     }
 
-    // Uses up that many characters.
+    /// Uses up that many characters.
     fn advance(&mut self, used: usize)
         requires { used ≤ length self.old.input.left }
         ensures { self.new ≡ advanced used self.old }
@@ -123,7 +123,7 @@ impl LineBuffer {
         self.at += used;
     }
 
-    // Uses up that many characters, of which `count` behind the first `start` are the word.
+    /// Uses up that many characters, of which `count` behind the first `start` are the word.
     fn take_word(&mut self, start: usize, count: usize, used: usize)
         requires inside { start + count ≤ used }
         requires within { used ≤ length self.old.input.left }

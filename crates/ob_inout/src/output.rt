@@ -60,7 +60,7 @@ pub fn put_line_end(output: &mut String) -> Result<(), AllocError>
     output.push('\n')
 }
 
-// How many bytes `put_string` writes.
+/// How many bytes `put_string` writes.
 #[tactic(auto, unfolding(crate::specs::Writing::char_text))]
 fn string_size(characters: &[u8]) -> usize
     ensures { result ≡ length (spec.string_text characters.now) }
@@ -75,14 +75,14 @@ fn string_size(characters: &[u8]) -> usize
     size
 }
 
-// The width that counts: none below 0, and at most the widest.
+/// The width that counts: none below 0, and at most the widest.
 fn field_width(width: i32) -> usize
     ensures { result ≡ spec.field_width width }
 {
     width.clamp(0, WIDEST) as usize
 }
 
-// Writes that many blanks into the room that there is.
+/// Writes that many blanks into the room that there is.
 fn put_blanks(output: &mut String, count: usize) -> Result<(), AllocError>
     requires room { string_len output.old + count ≤ string_capacity output.old }
     ensures ok { IsOk result }

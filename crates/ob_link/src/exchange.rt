@@ -16,7 +16,7 @@ use ob_types::Interface;
 use std::alloc::AllocError;
 
 impl Table {
-    // Loads a module, in the place of the one that has its name, which comes back, or after the others.
+    /// Loads a module, in the place of the one that has its name, which comes back, or after the others.
     fn exchange(&mut self, loaded: SessionModule) -> Result<Option<SessionModule>, AllocError>
         ensures ok { IfOk result (λ back. back ≡ session.find_module self.old loaded.interface.name) }
         ensures new { OnOk result (self.new ≡ session.with_module self.old loaded) }
@@ -31,7 +31,7 @@ impl Table {
         }
     }
 
-    // Takes an exchange back, by what came back from it.
+    /// Takes an exchange back, by what came back from it.
     fn restore(&mut self, back: Option<SessionModule>)
         requires { spec.IsExchanged self.old back }
         ensures { self.new ≡ spec.put_back self.old back }
@@ -42,7 +42,7 @@ impl Table {
         }
     }
 
-    // A module takes its place again.
+    /// A module takes its place again.
     fn put_again(&mut self, before: SessionModule)
         requires { spec.HasName self.old before.interface.name }
         ensures { self.new ≡ session.with_module self.old before }
@@ -53,8 +53,8 @@ impl Table {
     }
 }
 
-// What links, found anew; and a module as the rules see it takes its place among the others. Its names are looked up quickly, where
-// there is memory for that.
+/// What links, found anew; and a module as the rules see it takes its place among the others. Its names are looked up quickly, where
+/// there is memory for that.
 fn take_in(
     table: &Table,
     loaded: &mut Imports,
@@ -90,7 +90,7 @@ impl Modules {
         self.install_anew(loaded)
     }
 
-    // Whether the name of this module is new, and it and all others link.
+    /// Whether the name of this module is new, and it and all others link.
     fn links_behind(&self, loaded: &SessionModule) -> Result<bool, AllocError>
         ensures { IfOk result (λ b. IsTrue b → spec.LinksBehind self.now loaded.now) }
     {
@@ -101,7 +101,7 @@ impl Modules {
         Ok(fault.is_none())
     }
 
-    // Loads such a module after the others.
+    /// Loads such a module after the others.
     fn install_linked(&mut self, loaded: SessionModule) -> Result<Vec<bool>, AllocError>
         requires { spec.LinksBehind self.old loaded }
         ensures new { OnOk result (self.new ≡ session.with_module self.old loaded) }
@@ -124,7 +124,7 @@ impl Modules {
         }
     }
 
-    // Loads a module, and finds anew what links.
+    /// Loads a module, and finds anew what links.
     fn install_anew(&mut self, loaded: SessionModule) -> Result<Vec<bool>, AllocError>
         ensures new { OnOk result (self.new ≡ session.with_module self.old loaded) }
         ensures runs { IfOk result (λ row. row.items ≡ may_run self.new) }

@@ -12,7 +12,7 @@ use crate::table::Table;
 use ob_base::Text;
 use std::alloc::{AllocError, Global};
 
-// What is behind the module of this number.
+/// What is behind the module of this number.
 fn fault_at(
     alloc: Global,
     behind: &[Option<Text>],
@@ -26,7 +26,7 @@ fn fault_at(
     }
 }
 
-// Whether two faults are one.
+/// Whether two faults are one.
 fn same_fault(one: &Option<Text>, other: &Option<Text>) -> bool
     ensures { IsTrue result ↔ (one.now ≡ other.now) }
 {
@@ -37,7 +37,7 @@ fn same_fault(one: &Option<Text>, other: &Option<Text>) -> bool
     }
 }
 
-// Whether each of two rows has the other's faults.
+/// Whether each of two rows has the other's faults.
 fn same_faults(row: &[Option<Text>], other: &[Option<Text>]) -> bool
     ensures { IsTrue result → row.now ≡ other.now }
 {
@@ -52,7 +52,7 @@ fn same_faults(row: &[Option<Text>], other: &[Option<Text>]) -> bool
     true
 }
 
-// Whether none of these is a fault.
+/// Whether none of these is a fault.
 pub(crate) fn no_fault(row: &[Option<Text>]) -> bool
     ensures { result ≡ spec.all_none row.now }
 {
@@ -65,7 +65,7 @@ pub(crate) fn no_fault(row: &[Option<Text>]) -> bool
 }
 
 impl Table {
-    // What is behind the module of this name.
+    /// What is behind the module of this name.
     fn fault_behind(&self, behind: &[Option<Text>], name: &Text) -> Result<Option<Text>, AllocError>
         ensures { IfOk result (λ f. f ≡ slice_index_or behind.now (session.place_of self.now name.now) None) }
     {
@@ -75,7 +75,7 @@ impl Table {
         fault_at(self.alloc(), behind, self.place_of(name))
     }
 
-    // The fault of an import, where these are the faults behind each module.
+    /// The fault of an import, where these are the faults behind each module.
     fn fault_of(
         &self,
         behind: &[Option<Text>],
@@ -95,7 +95,7 @@ impl Table {
         }
     }
 
-    // The first that one of these imports has.
+    /// The first that one of these imports has.
     pub(crate) fn first_fault(
         &self,
         behind: &[Option<Text>],
@@ -111,7 +111,7 @@ impl Table {
         Ok(None)
     }
 
-    // No fault behind any module.
+    /// No fault behind any module.
     fn no_faults(&self) -> Result<Vec<Option<Text>>, AllocError>
         ensures { IfOk result (λ row. row.items ≡ spec.fault_row self.now 0) }
     {
@@ -122,7 +122,7 @@ impl Table {
         Ok(so_far)
     }
 
-    // The faults behind each module, through chains that are longer by an import.
+    /// The faults behind each module, through chains that are longer by an import.
     pub(crate) fn next_faults(
         &self,
         behind: &[Option<Text>],
@@ -136,7 +136,7 @@ impl Table {
         Ok(so_far)
     }
 
-    // The same where nothing is known behind any module.
+    /// The same where nothing is known behind any module.
     fn first_faults(&self) -> Result<Vec<Option<Text>>, AllocError>
         ensures { IfOk result (λ row. row.items ≡ spec.next_row self.now []) }
     {
@@ -144,8 +144,8 @@ impl Table {
         self.next_faults(none.as_slice())
     }
 
-    // The faults behind each module, through chains of as many imports as there are modules. Where no import has a fault of
-    // its own, there is none.
+    /// The faults behind each module, through chains of as many imports as there are modules. Where no import has a fault of
+    /// its own, there is none.
     pub(crate) fn last_faults(&self) -> Result<Vec<Option<Text>>, AllocError>
         ensures { IfOk result (λ row. row.items ≡ spec.fault_row self.now (length self.now)) }
     {
@@ -156,7 +156,7 @@ impl Table {
         self.faults_in_rows()
     }
 
-    // The same, row by row. A row that gives itself gives no other.
+    /// The same, row by row. A row that gives itself gives no other.
     fn faults_in_rows(&self) -> Result<Vec<Option<Text>>, AllocError>
         ensures { IfOk result (λ row. row.items ≡ spec.fault_row self.now (length self.now)) }
     {
@@ -171,7 +171,7 @@ impl Table {
         Ok(behind)
     }
 
-    // Whether the imports of each module link, where these are the faults behind each.
+    /// Whether the imports of each module link, where these are the faults behind each.
     fn runs_by(&self, faults: &[Option<Text>]) -> Result<Vec<bool>, AllocError>
         requires { faults.now ≡ spec.fault_row self.now (length self.now) }
         ensures { IfOk result (λ row. row.items ≡ may_run self.now) }
@@ -182,7 +182,7 @@ impl Table {
         self.runs_by_faults(faults)
     }
 
-    // That each module may run.
+    /// That each module may run.
     fn all_run(&self) -> Result<Vec<bool>, AllocError>
         ensures { IfOk result (λ row. row.items ≡ map (λ (m : Module). true) self.now) }
     {
@@ -193,7 +193,7 @@ impl Table {
         Ok(so_far)
     }
 
-    // That each module may run, and one more.
+    /// That each module may run, and one more.
     pub(crate) fn one_more_runs(&self) -> Result<Vec<bool>, AllocError>
         ensures { IfOk result (λ row. row.items ≡ map (λ (m : Module). true) self.now ++ true ∷ []) }
     {
@@ -202,7 +202,7 @@ impl Table {
         Ok(runs)
     }
 
-    // The same as the faults say.
+    /// The same as the faults say.
     fn runs_by_faults(&self, behind: &[Option<Text>]) -> Result<Vec<bool>, AllocError>
         requires { behind.now ≡ spec.fault_row self.now (length self.now) }
         ensures { IfOk result (λ row. row.items ≡ may_run self.now) }
@@ -215,7 +215,7 @@ impl Table {
         Ok(so_far)
     }
 
-    // What links, found anew: the faults behind each module, and whether the imports of each link.
+    /// What links, found anew: the faults behind each module, and whether the imports of each link.
     pub(crate) fn links(&self) -> Result<(Vec<Option<Text>>, Vec<bool>), AllocError>
         ensures faults { IfOk result (λ both. both.0.items ≡ spec.fault_row self.now (length self.now)) }
         ensures runs { IfOk result (λ both. both.1.items ≡ may_run self.now) }

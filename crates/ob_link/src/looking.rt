@@ -16,7 +16,7 @@ use ob_mean::TypedModule;
 use ob_types::{Exported, Object, Signature};
 use std::alloc::{AllocError, Global};
 
-// Whether a procedure has no parameters and no result.
+/// Whether a procedure has no parameters and no result.
 fn is_plain(signature: &Signature) -> bool
     ensures { result ≡ cells.is_plain signature.now.formals signature.now.result }
 {
@@ -35,14 +35,14 @@ fn is_command(object: &Object) -> bool
     }
 }
 
-// Whether this is the command of this name.
+/// Whether this is the command of this name.
 fn is_named(exported: &Exported, name: &Text) -> bool
     ensures { result ≡ (bytes_eq exported.now.name name.now && cells.is_command exported.now.object) }
 {
     exported.name.same(name) && is_command(&exported.object)
 }
 
-// The place after this one, where it is an exported procedure.
+/// The place after this one, where it is an exported procedure.
 fn place_behind(object: &Object, place: usize) -> usize
     requires { place < usize.MAX }
     ensures { result ≡ cells.place_behind object.now place }
@@ -53,7 +53,7 @@ fn place_behind(object: &Object, place: usize) -> usize
     }
 }
 
-// The place of the command of this name among the exported procedures.
+/// The place of the command of this name among the exported procedures.
 fn command_place(exports: &[Exported], name: &Text) -> Option<usize>
     ensures { result ≡ cells.command_place exports.now name.now 0 }
 {
@@ -67,7 +67,7 @@ fn command_place(exports: &[Exported], name: &Text) -> Option<usize>
     None
 }
 
-// The number of the exported procedure at this place.
+/// The number of the exported procedure at this place.
 fn procedure_at(tree: &TypedModule, place: usize) -> usize
     ensures { result ≡ slice_index tree.now.exported place }
 {
@@ -77,7 +77,7 @@ fn procedure_at(tree: &TypedModule, place: usize) -> usize
     }
 }
 
-// Whether this is In or Out.
+/// Whether this is In or Out.
 fn is_given(name: &Text) -> bool
     ensures { result ≡ cells.is_given name.now }
 {
@@ -93,7 +93,7 @@ fn no_command(alloc: Global, home: &Text, name: &Text) -> Result<LinkFault, Allo
     Ok(LinkFault::NoCommand(home, name))
 }
 
-// What a command comes to whose module's imports have this fault.
+/// What a command comes to whose module's imports have this fault.
 fn linked(fault: Option<Text>, command: Command) -> Looked
     ensures { looked_seen result ≡ cells.linked fault command }
 {
@@ -104,7 +104,7 @@ fn linked(fault: Option<Text>, command: Command) -> Looked
 }
 
 impl Modules {
-    // What a command of a module that is not loaded comes to.
+    /// What a command of a module that is not loaded comes to.
     fn looked_outside(&self, home: &Text, name: &Text) -> Result<Looked, AllocError>
         ensures { IfOk result (λ l. looked_seen l ≡ cells.looked_by (storeless self.now) (record { home = home.now; name = name.now }) None) }
     {
@@ -114,7 +114,7 @@ impl Modules {
         Ok(Looked::Missing(LinkFault::NotLoaded(home.copy(self.alloc())?)))
     }
 
-    // The fault of the imports of this module. Where all modules link, it is seen without a look at a key.
+    /// The fault of the imports of this module. Where all modules link, it is seen without a look at a key.
     fn fault_inside(&self, found: &SessionModule, home: &Text) -> Result<Option<Text>, AllocError>
         requires { session.find_module self.now home.now ≡ Some found.now }
         ensures { IfOk result (λ f. f ≡ session.link_fault self.now found.now.imports) }
@@ -125,7 +125,7 @@ impl Modules {
         self.link_fault(found.imports())
     }
 
-    // What a command of this module comes to.
+    /// What a command of this module comes to.
     fn looked_inside(
         &self,
         found: &SessionModule,
@@ -146,7 +146,7 @@ impl Modules {
         }
     }
 
-    // What a command comes to.
+    /// What a command comes to.
     fn looked_up(&self, home: &Text, name: &Text) -> Result<Looked, AllocError>
         ensures { IfOk result (λ l. looked_seen l ≡ cells.looked_up (storeless self.now) (record { home = home.now; name = name.now })) }
     {
@@ -156,7 +156,7 @@ impl Modules {
         }
     }
 
-    // The same of commands.
+    /// The same of commands.
     fn all_ready(&self, commands: &[CommandName]) -> Result<Ready, AllocError>
         ensures { IfOk result (λ r. ready_seen r ≡ cells.all_ready (storeless self.now) commands.now) }
     {

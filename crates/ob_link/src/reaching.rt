@@ -11,7 +11,7 @@ use crate::modules::Modules;
 use ob_base::Text;
 use std::alloc::AllocError;
 
-// The flag of the module of this number.
+/// The flag of the module of this number.
 fn flag_at(flags: &[bool], number: usize) -> bool
     ensures { result ≡ slice_index_or flags.now number false }
 {
@@ -21,7 +21,7 @@ fn flag_at(flags: &[bool], number: usize) -> bool
     }
 }
 
-// Whether each of two rows has the other's flags.
+/// Whether each of two rows has the other's flags.
 fn same_flags(row: &[bool], other: &[bool]) -> bool
     ensures { IsTrue result → row.now ≡ other.now }
 {
@@ -36,7 +36,7 @@ fn same_flags(row: &[bool], other: &[bool]) -> bool
     true
 }
 
-// Whether one of these is up.
+/// Whether one of these is up.
 fn has_flag(flags: &[bool]) -> bool
     ensures { result ≡ list_any (λ b. b) flags.now }
 {
@@ -49,7 +49,7 @@ fn has_flag(flags: &[bool]) -> bool
 }
 
 impl Modules {
-    // The flag of the module of this name.
+    /// The flag of the module of this name.
     fn flag_behind(&self, behind: &[bool], name: &Text) -> bool
         ensures { result ≡ slice_index_or behind.now (place_of self.now name.now) false }
     {
@@ -59,14 +59,14 @@ impl Modules {
         flag_at(behind, self.place_of(name))
     }
 
-    // Whether an import reaches a module of this name, where these are the modules that do.
+    /// Whether an import reaches a module of this name, where these are the modules that do.
     fn reaches(&self, behind: &[bool], name: &Text, import: &KeyedImport) -> bool
         ensures { result ≡ spec.reaches_in self.now behind.now name.now import.now }
     {
         import.name().same(name) || self.flag_behind(behind, import.name())
     }
 
-    // Whether one of these imports does.
+    /// Whether one of these imports does.
     fn any_reaches(&self, behind: &[bool], name: &Text, imports: &[KeyedImport]) -> bool
         ensures { result ≡ list_any (spec.reaches_in self.now behind.now name.now) imports.now }
     {
@@ -78,7 +78,7 @@ impl Modules {
         false
     }
 
-    // The modules that do, through chains that are longer by an import.
+    /// The modules that do, through chains that are longer by an import.
     fn next_reaching(&self, behind: &[bool], name: &Text) -> Result<Vec<bool>, AllocError>
         ensures { IfOk result (λ row. row.items ≡ spec.next_reach_row self.now behind.now name.now) }
     {
@@ -89,7 +89,7 @@ impl Modules {
         Ok(so_far)
     }
 
-    // The modules that import this name.
+    /// The modules that import this name.
     fn first_reaching(&self, name: &Text) -> Result<Vec<bool>, AllocError>
         ensures { IfOk result (λ row. row.items ≡ spec.reach_row self.now 0 name.now) }
     {
@@ -107,7 +107,7 @@ impl Modules {
         }
     }
 
-    // Then no module reaches one of that name.
+    /// Then no module reaches one of that name.
     fn none_reaches(&self, name: &Text) -> Result<Vec<bool>, AllocError>
         requires { spec.IsApart self.now name.now }
         ensures { IfOk result (λ row. row.items ≡ spec.reaching self.now name.now) }
@@ -139,7 +139,7 @@ impl Modules {
         Ok(row)
     }
 
-    // The same, row by row from the first.
+    /// The same, row by row from the first.
     fn reaching_in_rows(&self, first: Vec<bool>, name: &Text) -> Result<Vec<bool>, AllocError>
         requires { first.items ≡ spec.reach_row self.now 0 name.now }
         ensures { IfOk result (λ row. row.items ≡ spec.reaching self.now name.now) }

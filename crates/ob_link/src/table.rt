@@ -58,7 +58,7 @@ impl Table {
         self.modules.as_slice()
     }
 
-    // The number of the module of this name.
+    /// The number of the module of this name.
     pub(crate) fn number_of(&self, name: &Text) -> Option<usize>
         ensures { result ≡ spec.number_in self.now name.now }
     {
@@ -88,7 +88,7 @@ impl Table {
         }
     }
 
-    // The module of this number.
+    /// The module of this number.
     fn module_at(&self, number: usize) -> Option<&SessionModule>
         ensures { option_copied result ≡ slice_get self.now number }
     {
@@ -103,7 +103,7 @@ impl Table {
         self.alloc
     }
 
-    // In the place of the one that has its name, which comes back.
+    /// In the place of the one that has its name, which comes back.
     pub(crate) fn replace(&mut self, number: usize, loaded: SessionModule) -> SessionModule
         requires { spec.number_in self.old loaded.interface.name ≡ Some number }
         ensures new { self.new ≡ session.with_module self.old loaded }
@@ -112,7 +112,7 @@ impl Table {
         mem::replace(&mut self.modules[number], loaded)
     }
 
-    // Behind the others.
+    /// Behind the others.
     pub(crate) fn append(&mut self, loaded: SessionModule) -> Result<(), AllocError>
         requires { spec.number_in self.old loaded.interface.name ≡ None }
         ensures ok { OnOk result (self.new ≡ session.with_module self.old loaded) }
@@ -128,7 +128,7 @@ impl Table {
         }
     }
 
-    // The last one goes, and its name.
+    /// The last one goes, and its name.
     pub(crate) fn drop_last(&mut self)
         requires { EndsNew self.old }
         ensures { self.new ≡ without_last self.old }

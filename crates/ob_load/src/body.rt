@@ -28,7 +28,7 @@ use ob_vm::{Image, Room};
 use std::alloc::AllocError;
 use std::snapshot::Snapshot;
 
-// What the body of the module of this number begins with.
+/// What the body of the module of this number begins with.
 #[derive(Drop)]
 pub(crate) struct Beginning {
     pub number: usize,
@@ -37,7 +37,7 @@ pub(crate) struct Beginning {
     pub room: Room,
 }
 
-// A machine before the first turn of a body. It takes no memory.
+/// A machine before the first turn of a body. It takes no memory.
 fn begin(
     modules: Modules,
     known: Vec<KnownFaces>,

@@ -32,7 +32,7 @@ use ob_vm::{Image, Room};
 use std::alloc::{AllocError, Global};
 use std::snapshot::Snapshot;
 
-// Where among these numbers one stands, if it does.
+/// Where among these numbers one stands, if it does.
 #[tactic(auto, using(crate::proofs::Called::nowhere_more, crate::proofs::Called::nowhere_all))]
 fn place_in(numbers: &[usize], number: usize) -> Option<usize>
     ensures there { IfSome result (λ place. slice_get numbers.now place ≡ Some number) }
@@ -46,7 +46,7 @@ fn place_in(numbers: &[usize], number: usize) -> Option<usize>
     None
 }
 
-// Where a command's procedure stands among those that its module exports.
+/// Where a command's procedure stands among those that its module exports.
 fn place_of(modules: &Modules, command: Command) -> usize
     requires { (place : ℕ) × IsCallable modules.now command place }
     ensures { IsCallable modules.now command result }
@@ -58,7 +58,7 @@ fn place_of(modules: &Modules, command: Command) -> usize
     }
 }
 
-// The number of the import of this module, which is a new one where none was its import.
+/// The number of the import of this module, which is a new one where none was its import.
 fn import_of(homes: &mut Vec<usize>, home: usize) -> Result<usize, AllocError>
     ensures there { IfOk result (λ import. slice_get homes.new.items import ≡ Some home) }
     ensures others { OnOk result (WithHome homes.old.items home homes.new.items) }
@@ -73,14 +73,14 @@ fn import_of(homes: &mut Vec<usize>, home: usize) -> Result<usize, AllocError>
     }
 }
 
-// The modules that are imported for commands, each once, and the calls: the number of an import, and a place there.
+/// The modules that are imported for commands, each once, and the calls: the number of an import, and a place there.
 #[derive(Drop)]
 struct Called {
     homes: Vec<usize>,
     calls: Vec<(usize, usize)>,
 }
 
-// The calls of commands.
+/// The calls of commands.
 fn all_calls(modules: &Modules, commands: &[Command]) -> Result<Called, AllocError>
     requires { AllRunnable modules.now commands.now }
     ensures { IfOk result (λ c. AreCalled modules.now commands.now c.homes.items c.calls.items) }
@@ -96,7 +96,7 @@ fn all_calls(modules: &Modules, commands: &[Command]) -> Result<Called, AllocErr
     Ok(Called { homes, calls })
 }
 
-// What is known of the module of this number.
+/// What is known of the module of this number.
 fn face_at(alloc: Global, known: &[KnownFaces], number: usize) -> Result<Face, AllocError>
     requires { number < length known.now }
     ensures { IfOk result (λ face. face_in (slice_get known.now number) ≡ Some face) }
@@ -104,7 +104,7 @@ fn face_at(alloc: Global, known: &[KnownFaces], number: usize) -> Result<Face, A
     copy_face(alloc, known[number].face())
 }
 
-// The same of the modules of these numbers.
+/// The same of the modules of these numbers.
 fn faces_of(alloc: Global, known: &[KnownFaces], numbers: &[usize]) -> Result<Vec<Face>, AllocError>
     requires { EachIndex numbers.now (λ k. slice_index numbers.now k < length known.now) }
     ensures { IfOk result (λ faces. AreKnown known.now numbers.now faces.items) }
@@ -117,14 +117,14 @@ fn faces_of(alloc: Global, known: &[KnownFaces], numbers: &[usize]) -> Result<Ve
     Ok(faces)
 }
 
-// A call of the procedure at this place of an import.
+/// A call of the procedure at this place of an import.
 fn call_of(alloc: Global, import: usize, place: usize) -> TypedStatement
     ensures { result ≡ statement.Simple (action.Call (callee.OfImport import place) 0 []) }
 {
     TypedStatement::Simple(Action::Call(Callee::OfImport(import, place), 0, Items::new(alloc)))
 }
 
-// A module of these calls.
+/// A module of these calls.
 fn commands_tree(alloc: Global, calls: &[(usize, usize)]) -> Result<TypedModule, AllocError>
     ensures { IfOk result (λ tree. tree ≡ code.commands_tree calls.now) }
 {
@@ -141,7 +141,7 @@ fn commands_tree(alloc: Global, calls: &[(usize, usize)]) -> Result<TypedModule,
     })
 }
 
-// The code of such a module, over what is known of the modules that are imported.
+/// The code of such a module, over what is known of the modules that are imported.
 fn commands_code(
     modules: &Modules,
     known: &[KnownFaces],
@@ -159,7 +159,7 @@ fn commands_code(
     Ok(code)
 }
 
-// What the beginning of commands takes, made before anything is changed.
+/// What the beginning of commands takes, made before anything is changed.
 #[derive(Drop)]
 pub(crate) struct Calls {
     // Of a module that calls them one after the other.
@@ -192,7 +192,7 @@ fn calls_of(
     })
 }
 
-// The same, and room for one module more after the others.
+/// The same, and room for one module more after the others.
 fn ready(
     modules: &Modules,
     known: &[KnownFaces],
@@ -214,7 +214,7 @@ fn ready(
     calls_of(modules, known, commands, longest)
 }
 
-// A machine before the first turn of commands, over the parts of a session's image. It takes no memory.
+/// A machine before the first turn of commands, over the parts of a session's image. It takes no memory.
 fn begin(
     modules: Modules,
     known: Vec<KnownFaces>,

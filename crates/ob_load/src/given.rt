@@ -31,6 +31,7 @@ impl Model for GivenLines {
 }
 
 impl GivenLines {
+    /// No lines.
     pub fn none() -> GivenLines
         ensures { result ≡ [] }
     {

@@ -20,7 +20,7 @@ use ob_link::{Modules, SessionModule};
 use ob_vm::Room;
 use std::alloc::AllocError;
 
-// A module, what is known of it, and its code, which was made over what is known of its imports.
+/// A module, what is known of it, and its code, which was made over what is known of its imports.
 #[derive(Drop)]
 pub(crate) struct Compiled {
     pub added: SessionModule,
@@ -28,7 +28,7 @@ pub(crate) struct Compiled {
     pub code: Checked,
 }
 
-// What the beginning of a module's body takes, made before anything is changed.
+/// What the beginning of a module's body takes, made before anything is changed.
 #[derive(Drop)]
 pub(crate) struct Prepared {
     pub imports: Vec<usize>,
@@ -60,8 +60,8 @@ fn prepare(
     })
 }
 
-// A module takes its place among the modules, and what is known of it among what is known. What comes back says which modules may
-// run. Where memory is refused, all is as it was.
+/// A module takes its place among the modules, and what is known of it among what is known. What comes back says which modules may
+/// run. Where memory is refused, all is as it was.
 fn take_place(
     modules: &mut Modules,
     known: &mut Vec<KnownFaces>,
@@ -81,7 +81,7 @@ fn take_place(
     Ok(runs)
 }
 
-// A module is loaded, and its body may begin. Where memory is refused, all is as it was.
+/// A module is loaded, and its body may begin. Where memory is refused, all is as it was.
 pub(crate) fn load(
     modules: &mut Modules,
     known: &mut Vec<KnownFaces>,

@@ -64,7 +64,7 @@ impl Model for Machine {
 }
 
 impl Machine {
-    /// Goes on by at most so many turns. Where memory is refused it stands before the turn that wanted it, which enters no
+    /// Goes on by at most `most` turns. Where memory is refused it stands before the turn that wanted it, which enters no
     /// loop's body, and a later call goes on there. After `Ended` and `Trapped` it is not called again; after `NeedsLine` it
     /// answers that again until it is given a line.
     pub fn turns(&mut self, most: u64) -> Turned

@@ -58,7 +58,7 @@ impl Session {
         }
     }
 
-    // The session of these modules, with an image of these parts.
+    /// The session of these modules, with an image of these parts.
     pub(crate) fn of(
         modules: Modules,
         known: Vec<KnownFaces>,

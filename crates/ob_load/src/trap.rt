@@ -27,7 +27,7 @@ pub(crate) fn trap_number(kind: TrapKind) -> u8
     }
 }
 
-// The name of the module of this number; where there is none, no name.
+/// The name of the module of this number; where there is none, no name.
 fn name_at(modules: &[SessionModule], home: usize) -> &[u8]
     ensures { result.now ≡ cells.name_in (slice_get modules.now home) }
 {

@@ -89,8 +89,8 @@ pub enum Argument {
     Place(Designator),
     /// What an open array parameter names.
     Open(Designator),
-    /// What a VAR parameter of record type names: the base part, so many bases down, of a record of this type, which is told
-    /// with it.
+    /// What a VAR parameter of record type names: the base part, as many bases down as the number says, of a record of this type,
+    /// which is told with it.
     Typed(Designator, RecordKind, usize),
     /// The same of what such a parameter of the running procedure names: the type that was told with that is told again.
     Again(Designator, usize),

@@ -21,14 +21,14 @@ pub struct RecordKind {
     pub shape: Shape,
 }
 
-// Whether these are one type.
+/// Whether these are one type.
 fn same_name(first: &TypeName, second: &TypeName) -> bool
     ensures { result ≡ spec.same_name first.now second.now }
 {
     first.text.get().same(second.text.get()) && first.cells == second.cells
 }
 
-// Whether a type is among these.
+/// Whether a type is among these.
 fn is_among(name: &TypeName, types: &[TypeName]) -> bool
     ensures { result ≡ spec.is_among name.now types.now }
 {

@@ -33,7 +33,7 @@ pub struct TypedProcedure {
 pub enum ModuleVariable {
     /// One that is declared, and begins as zero.
     Declared(Shape),
-    /// A string that is passed or compared: so many elements, more than it has characters, the rest of them 0X. Nothing
+    /// A string that is passed or compared, and its number of elements: more than it has characters, the rest of them 0X. Nothing
     /// assigns to it.
     Text(Text, u32),
 }

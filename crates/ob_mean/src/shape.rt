@@ -10,7 +10,7 @@ use std::alloc::AllocError;
 pub enum Shape {
     /// INTEGER, BOOLEAN, CHAR or BYTE.
     Basic,
-    /// So many elements of a shape.
+    /// How many elements, and their shape.
     Array(u32, Shared<Shape>),
     /// Fields, in order of declaration.
     Record(SharedItems<Shape>),

@@ -72,6 +72,7 @@ pub struct ForHead {
     pub step: i32,
 }
 
+/// A typed statement.
 #[cycle(statements)]
 #[derive(Drop)]
 pub enum TypedStatement {

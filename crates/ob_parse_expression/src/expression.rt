@@ -244,6 +244,7 @@ impl Parser<'_> {
         Ok(actuals)
     }
 
+    /// A designator, with its selectors.
     #[cycle(expression)]
     #[tactic(auto, unfolding(crate::specs::ExpressionReading::designator))]
     pub fn designator(&mut self, levels: u32) -> Result<Designator, Refused>

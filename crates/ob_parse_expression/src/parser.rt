@@ -79,6 +79,7 @@ impl<'a> Parser<'a> {
         }
     }
 
+    /// A name.
     #[tactic(auto, unfolding(crate::specs::Reading::ident))]
     pub fn ident(&mut self) -> Result<Ident, Refused>
         ensures read { Reads (reading.ident self.old.rest.now) result self.new.rest.now }

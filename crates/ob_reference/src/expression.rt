@@ -239,7 +239,7 @@ fn is_told(site: Site<'_>, store: &Value, d: &Designator, types: &[TypeName]) ->
     }
 }
 
-/// The record so many levels up of which a place is the base part, where that is of the type of a guard.
+/// The record `levels` levels up of which a place is the base part, where that is of the type of a guard.
 fn extension(
     site: Site<'_>,
     state: &State,

@@ -176,7 +176,7 @@ impl Reference {
         })
     }
 
-    /// The body of a module, from the variables as they are, with these lines and at most so many turns. Nothing is kept.
+    /// The body of a module, from the variables as they are, with these lines and at most `turns` turns. Nothing is kept.
     #[tactic(auto, unfolding(ob_mean::specs::Programs::body_meaning))]
     pub fn run_body(&self, home: usize, lines: Vec<GivenLine>, turns: u64) -> Result<Ran, NoAnswer>
         ensures { IfOk result (λ ran. Says (spec.body_meaning self.now.program.items home (runs.supply turns (map line_in lines.items)) (spec.world_before (value_in self.now.store))) ran) }
@@ -202,7 +202,7 @@ impl Reference {
         }
     }
 
-    /// Commands, one after the other, from the variables as they are, with these lines and at most so many turns. Nothing is
+    /// Commands, one after the other, from the variables as they are, with these lines and at most `turns` turns. Nothing is
     /// kept.
     #[tactic(auto, unfolding(ob_mean::specs::Programs::commands_meaning))]
     pub fn run_commands(

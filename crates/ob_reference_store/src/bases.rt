@@ -25,7 +25,7 @@ pub fn told_by(store: &Value, frame: usize, parameter: usize) -> Option<&SharedI
     }
 }
 
-/// The record so many levels up of which a place is the base part.
+/// The record `levels` levels up of which a place is the base part.
 #[tactic(auto, using(crate::proofs::Paths::part_of))]
 pub fn up(path: Vec<usize>, levels: usize) -> Vec<usize>
     ensures { place_of result.items ≡ spec.up levels (place_of path.items) }
@@ -40,7 +40,7 @@ pub fn up(path: Vec<usize>, levels: usize) -> Vec<usize>
     }
 }
 
-/// The base part so many levels down.
+/// The base part `levels` levels down.
 #[tactic(auto, using(crate::proofs::Paths::part_of))]
 pub fn down(path: Vec<usize>, levels: usize) -> Result<Vec<usize>, NoAnswer>
     ensures { IfOk result (λ part. place_of part.items ≡ spec.down levels (place_of path.items)) }

@@ -51,7 +51,7 @@ fn find_int(state: &mut State) -> Answer<Value>
     }
 }
 
-/// A string for an array of so many elements.
+/// A string for an array of `size` elements.
 fn find_string(alloc: Global, state: &mut State, size: usize) -> Result<Answer<Value>, NoAnswer>
     ensures { (now : values.Value) → values.count now ≡ size → IfOk result (λ a. Finds (spec.finds readers.String now) a state.old state.new) }
 {
@@ -62,7 +62,7 @@ fn find_string(alloc: Global, state: &mut State, size: usize) -> Result<Answer<V
     }
 }
 
-/// A name for an array of so many elements.
+/// A name for an array of `size` elements.
 fn find_name(alloc: Global, state: &mut State, size: usize) -> Result<Answer<Value>, NoAnswer>
     ensures { (now : values.Value) → values.count now ≡ size → IfOk result (λ a. Finds (spec.finds readers.Name now) a state.old state.new) }
 {
@@ -73,7 +73,7 @@ fn find_name(alloc: Global, state: &mut State, size: usize) -> Result<Answer<Val
     }
 }
 
-/// What a reader finds in the buffer, for a variable of so many elements.
+/// What a reader finds in the buffer, for a variable of `size` elements.
 fn find(
     alloc: Global,
     state: &mut State,
@@ -115,7 +115,7 @@ fn give_line(state: &mut State) -> Result<bool, NoAnswer>
     }
 }
 
-/// What a reader reads, for a variable of so many elements: it asks for lines.
+/// What a reader reads, for a variable of `size` elements: it asks for lines.
 fn read(
     alloc: Global,
     state: &mut State,

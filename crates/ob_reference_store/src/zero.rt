@@ -33,7 +33,7 @@ pub(crate) fn character_cell(c: u8) -> Value
     Value::Cell(i32::from(c))
 }
 
-/// An array of so many elements with these characters at its front.
+/// An array of `length` elements with these characters at its front.
 #[tactic(auto, using(crate::proofs::Zeros::text_none, crate::proofs::Zeros::text_front))]
 pub fn text_row(alloc: Global, length: usize, characters: &[u8]) -> Result<Value, AllocError>
     ensures { IfOk result (λ v. value_in v ≡ texts.text_row length characters.now) }
@@ -53,7 +53,7 @@ pub fn text_row(alloc: Global, length: usize, characters: &[u8]) -> Result<Value
     }
 }
 
-/// Equal values, so many of them.
+/// A row of `length` equal values.
 #[tactic(auto, using(crate::proofs::Zeros::row_more))]
 fn equal_row(alloc: Global, length: u32, value: &Value) -> Result<Value, AllocError>
     ensures { IfOk result (λ v. value_in v ≡ spec.row length (value_in value.now)) }

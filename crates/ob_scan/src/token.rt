@@ -69,6 +69,7 @@ pub enum Symbol {
     Colon,
 }
 
+/// What a token is, with its value.
 #[derive(Debug, Drop)]
 pub enum Kind {
     Ident(Text),
@@ -87,12 +88,14 @@ pub struct Span {
     pub column: usize,
 }
 
+/// A token, and where it stands.
 #[derive(Debug, Drop)]
 pub struct Token {
     pub kind: Kind,
     pub span: Span,
 }
 
+/// Whether two signs or reserved words are the same.
 pub fn same_symbol(a: Symbol, b: Symbol) -> bool
     ensures value { result ≡ same_symbol a b }
     ensures same { result ≡ true → a ≡ b }

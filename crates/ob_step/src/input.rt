@@ -1,4 +1,4 @@
-// Readers of In.
+//! Readers of In.
 
 ghost use Rattle.std.specs.Prelude.{◌≡◌, ◌+◌, ◌<◌, ◌^◌, reverse, drop};
 ghost use Rattle.ob_code.specs.Machine.{perform, go};
@@ -16,7 +16,7 @@ use crate::state::{State, Step};
 use ob_code::instr::{LinkedModule, Root, Span, Target};
 use ob_inout::Answer;
 
-// Behind the places that ask for a line.
+/// Behind the places that ask for a line.
 fn leave(state: &mut State)
     requires one { HasOne state.old }
     requires place { state.old.at.place + 3 < 2 ^ 64 }
@@ -111,7 +111,7 @@ fn read_name(code: &[LinkedModule], state: &mut State, span: Span) -> Step
     Step::Moved
 }
 
-// What stands in the buffer for a variable; where nothing does, the next place asks for a line.
+/// What stands in the buffer for a variable; where nothing does, the next place asks for a line.
 pub fn read(code: &[LinkedModule], state: &mut State, target: Target) -> Step
     requires one { HasOne state.old }
     requires target { TargetIsThere code.now (config_of state.old) target }

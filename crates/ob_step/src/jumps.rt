@@ -1,4 +1,4 @@
-// Jumps, and where the language cuts a run off.
+//! Jumps, and where the language cuts a run off.
 
 ghost use Rattle.std.specs.Prelude.{◌≡◌, ◌+◌, ◌<◌, ◌^◌, true};
 ghost use Rattle.ob_code.specs.Machine.{perform};
@@ -12,6 +12,7 @@ use crate::state::{State, Step};
 use ob_code::instr::LinkedModule;
 use ob_mean::TrapKind;
 
+/// A jump over n instructions.
 pub fn skip(code: &[LinkedModule], state: &mut State, n: usize) -> Step
     requires place { state.old.at.place + 1 + n < 2 ^ 64 }
     ensures { Performed (perform code.now (instr.Skip n) (config_of state.old)) state.old state.new result }
@@ -20,6 +21,7 @@ pub fn skip(code: &[LinkedModule], state: &mut State, n: usize) -> Step
     Step::MeetsStatement
 }
 
+/// A jump where the number on top is 0; it comes off.
 pub fn skip_if_zero(code: &[LinkedModule], state: &mut State, n: usize) -> Step
     requires one { HasOne state.old }
     requires place { state.old.at.place + 1 + n < 2 ^ 64 }
@@ -34,7 +36,7 @@ pub fn skip_if_zero(code: &[LinkedModule], state: &mut State, n: usize) -> Step
     Step::MeetsStatement
 }
 
-// Where the number on top is from the first to the last.
+/// Where the number on top is from the first to the last.
 pub fn skip_if_within(
     code: &[LinkedModule],
     state: &mut State,
@@ -55,7 +57,7 @@ pub fn skip_if_within(
     Step::Moved
 }
 
-// The guard of a loop: its body is entered in a turn.
+/// The guard of a loop: its body is entered in a turn.
 pub fn enter_back(code: &[LinkedModule], state: &mut State, n: usize) -> Step
     requires one { HasOne state.old }
     requires place { state.old.at.place + 1 < 2 ^ 64 }
@@ -68,7 +70,7 @@ pub fn enter_back(code: &[LinkedModule], state: &mut State, n: usize) -> Step
     Step::MeetsStatement
 }
 
-// Whether the guard of a loop lets its body be entered.
+/// Whether the guard of a loop lets its body be entered.
 #[inline(always)]
 pub fn enters(code: &[LinkedModule], state: &State, n: usize) -> bool
     requires one { HasOne state.now }
@@ -77,6 +79,7 @@ pub fn enters(code: &[LinkedModule], state: &State, n: usize) -> bool
     top(state) != 0
 }
 
+/// ASSERT: a trap where the number on top is 0; it comes off.
 pub fn assert(code: &[LinkedModule], state: &mut State, line: usize) -> Step
     requires one { HasOne state.old }
     requires place { state.old.at.place + 1 < 2 ^ 64 }

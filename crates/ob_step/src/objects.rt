@@ -1,4 +1,4 @@
-// Where the cells of what instructions name are.
+//! Where the cells of what instructions name are.
 
 ghost use Rattle.std.specs.Prelude.{◌≡◌, ◌+◌, ◌<◌, ◌≤◌, ◌^◌, length, Some, IsSome, slice_get};
 ghost use Rattle.ob_code.specs.Machine as spec;
@@ -10,7 +10,7 @@ use crate::state::State;
 use ob_code::instr::{Extent, Length, LinkedModule, Name, Procedure, Root, Target, Told};
 use ob_mean::Callee;
 
-// The module of this number.
+/// The module of this number.
 pub fn module(code: &[LinkedModule], home: usize) -> &LinkedModule
     requires { home < length code.now }
     ensures { slice_get code.now home ≡ Some result.now }
@@ -18,7 +18,7 @@ pub fn module(code: &[LinkedModule], home: usize) -> &LinkedModule
     &code[home]
 }
 
-// A procedure that is there.
+/// A procedure that is there.
 pub fn procedure(code: &[LinkedModule], home: usize, number: usize) -> &Procedure
     requires { IsSome (spec.procedure_in (slice_get code.now home) number) }
     ensures { spec.procedure_in (slice_get code.now home) number ≡ Some result.now }
@@ -26,7 +26,7 @@ pub fn procedure(code: &[LinkedModule], home: usize, number: usize) -> &Procedur
     &code[home].code.procedures[number]
 }
 
-// The number of the module that a module imports.
+/// The number of the module that a module imports.
 fn imported(code: &[LinkedModule], home: usize, import: usize) -> usize
     requires home { home < length code.now }
     requires import { import < length (imports_in (slice_get code.now home)) }
@@ -35,7 +35,7 @@ fn imported(code: &[LinkedModule], home: usize, import: usize) -> usize
     module(code, home).imports[import]
 }
 
-// The number that an exported procedure has in its module.
+/// The number that an exported procedure has in its module.
 fn exported(code: &[LinkedModule], home: usize, place: usize) -> usize
     requires home { home < length code.now }
     requires place { place < length (exported_in (slice_get code.now home)) }
@@ -44,7 +44,7 @@ fn exported(code: &[LinkedModule], home: usize, place: usize) -> usize
     module(code, home).code.exported[place]
 }
 
-// The module and the number of the procedure that is called.
+/// The module and the number of the procedure that is called.
 pub fn callee(code: &[LinkedModule], home: usize, callee: Callee) -> (usize, usize)
     requires { CalleeIsThere code.now home callee }
     ensures home { result.0 ≡ spec.target_of code.now home callee }
@@ -59,7 +59,7 @@ pub fn callee(code: &[LinkedModule], home: usize, callee: Callee) -> (usize, usi
     }
 }
 
-// What is told of an object that is no record, or of which nothing is asked.
+/// What is told of an object that is no record, or of which nothing is asked.
 pub fn untold() -> Told
     ensures { result ≡ spec.untold }
 {
@@ -82,7 +82,7 @@ fn part_of(base: usize, extent: Extent) -> Name
     }
 }
 
-// Where an object's cells are.
+/// Where an object's cells are.
 pub fn object(code: &[LinkedModule], state: &State, root: Root) -> Name
     requires { RootIsThere code.now (config_of state.now) root }
     ensures value { result ≡ spec.object code.now (config_of state.now) root }
@@ -99,7 +99,7 @@ pub fn object(code: &[LinkedModule], state: &State, root: Root) -> Name
     }
 }
 
-// How many elements an array has.
+/// How many elements an array has.
 pub fn elements(state: &State, length: Length) -> usize
     requires { LengthIsThere (config_of state.now) length }
     ensures { result ≡ spec.elements (config_of state.now) length }
@@ -110,7 +110,7 @@ pub fn elements(state: &State, length: Length) -> usize
     }
 }
 
-// So many cells of an object, from this one on, which are there: where the first is.
+/// Where cell k of an object stands, from which on n cells of the object are there.
 pub fn place_in(object: Name, k: i32, n: usize) -> usize
     requires within { IsSome (spec.within object k n) }
     requires there { object.address + object.cells < 2 ^ 64 }

@@ -1,4 +1,4 @@
-// What a machine writes, which is limited.
+//! What a machine writes, which is limited.
 
 ghost use Rattle.std.specs.Prelude.{◌≡◌, ◌+◌, ◌≤◌, length, string_bytes, map, OnOk, OnErr};
 ghost use Rattle.ob_inout.specs.Writing.{char_text, int_text, line_end, string_text};
@@ -11,7 +11,7 @@ use std::alloc::{AllocError, Global};
 use std::marker::Model;
 use std::mem;
 
-/// A machine writes at most so many bytes in all. A text that would make it more is refused as memory is.
+/// How many bytes a machine writes in all at most. A text that would make it more is refused as memory is.
 pub const MOST_OUTPUT: usize = 16_777_216;
 
 /// What a machine wrote since its output was taken last. It knows how many bytes were taken before.
@@ -34,7 +34,7 @@ impl Model for Output {
     ghost invariant = { λ o. o.taken + length (string_bytes o.text) ≤ most_output };
 }
 
-// Whether so many bytes more may be written.
+/// Whether `more` bytes more may be written.
 fn allow(written: usize, more: usize) -> Result<(), AllocError>
     requires { written ≤ most_output }
     ensures { OnOk result (written + more ≤ most_output) }

@@ -1,12 +1,12 @@
-// What a machine has between two instructions.
+//! What a machine has between two instructions.
 
 use crate::output::Output;
 use ob_code::instr::{Frame, Name};
 use ob_inout::LineBuffer;
 use ob_mean::TrapKind;
 
-// Where it stands, its operands, what its calls' parameters stand for, its callers, the cells of all variables, what it
-// wrote, and what In has of its lines. The last operand, name and caller lie on top.
+/// Where it stands, its operands, what its calls' parameters stand for, its callers, the cells of all variables, what it
+/// wrote, and what In has of its lines. The last operand, name and caller lie on top.
 #[derive(Drop)]
 pub struct State {
     pub at: Frame,
@@ -18,7 +18,7 @@ pub struct State {
     pub input: LineBuffer,
 }
 
-// What one instruction led to: it moved, and perhaps to where a statement begins, or it meets what it leaves to others.
+/// What one instruction led to: it moved, and perhaps to where a statement begins, or it meets what it leaves to others.
 #[derive(Clone, Copy, PartialEq, Eq, Debug)]
 pub enum Step {
     Moved,

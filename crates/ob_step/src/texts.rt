@@ -1,4 +1,4 @@
-// Instructions on texts.
+//! Instructions on texts.
 
 ghost use Rattle.std.specs.Prelude.{◌≡◌, ◌+◌, ◌<◌, ◌≤◌, ◌^◌, ◌++◌, Some, map, length, string_bytes, OnOk, OnErr};
 ghost use Rattle.std.specs.Str.{bytes_eq};
@@ -22,7 +22,7 @@ use ob_code::instr::{LinkedModule, Span};
 use ob_mean::{Relation, TrapKind, holds, truth};
 use std::alloc::AllocError;
 
-// A string for an array of characters, which has to be longer.
+/// A string for an array of characters, which has to be longer.
 pub fn store_text(
     code: &[LinkedModule],
     state: &mut State,
@@ -48,14 +48,14 @@ pub fn store_text(
     Step::MeetsStatement
 }
 
-// The character of this number in a row, or 0X after its end.
+/// The character of this number in a row, or 0X after its end.
 fn character_at(row: &[i32], i: usize) -> u8
     ensures { result ≡ character_in row.now i }
 {
     if i < row.len() { character(row[i]) } else { 0 }
 }
 
-// Whether two texts are the same, and whether the first is before the second.
+/// Whether two texts are the same, and whether the first is before the second.
 fn compare(first: &[i32], second: &[i32]) -> (bool, bool)
     ensures equal { result.0 ≡ bytes_eq (text_in first.now) (text_in second.now) }
     ensures less { result.1 ≡ texts.is_before (text_in first.now) (text_in second.now) }
@@ -71,7 +71,7 @@ fn compare(first: &[i32], second: &[i32]) -> (bool, bool)
     (b == 0, b > 0)
 }
 
-// Where the cells of a text begin, and how many there are.
+/// Where the cells of a text begin, and how many there are.
 fn text_place(code: &[LinkedModule], state: &State, span: Span, k: i32) -> (usize, usize)
     requires span { SpanIsThere code.now (config_of state.now) span }
     requires cells { IsTextIn code.now (config_of state.now) span k }
@@ -83,7 +83,7 @@ fn text_place(code: &[LinkedModule], state: &State, span: Span, k: i32) -> (usiz
     (place_in(object(code, state, span.root), k, n), n)
 }
 
-// Whether a relation holds of two texts.
+/// Whether a relation holds of two texts.
 pub fn relate_texts(
     code: &[LinkedModule],
     state: &mut State,
@@ -123,7 +123,7 @@ pub fn text_size(row: &[i32]) -> usize
     size
 }
 
-/// Writes the text of a row, which has so many bytes. Where memory runs out the output is unchanged.
+/// Writes the text of a row, which has `size` bytes. Where memory runs out the output is unchanged.
 #[tactic(auto, unfolding(ob_inout::specs::Writing::char_text))]
 pub fn write_text(output: &mut String, row: &[i32], size: usize) -> Result<(), AllocError>
     requires { size ≡ length (string_text (map texts.character row.now)) }

@@ -1,4 +1,4 @@
-// What stands before a turn: whether it is one.
+//! What stands before a turn: whether it is one.
 
 ghost use Rattle.std.specs.Prelude.{◌≡◌, ◌+◌, ◌<◌, ◌^◌};
 ghost use Rattle.ob_code.specs.Machine.{perform};
@@ -16,7 +16,7 @@ use ob_mean::{Callee, TrapKind};
 /// How many calls may be open.
 pub const MAX_DEPTH: usize = 1000;
 
-// A call, unless too many are open.
+/// A call, unless too many are open.
 pub fn invoke(code: &[LinkedModule], state: &mut State, callee: Callee, line: usize) -> Step
     requires callable { IsCallable code.now state.old callee }
     ensures { Performed (perform code.now (instr.Invoke callee line) (config_of state.old)) state.old state.new result }
@@ -28,7 +28,7 @@ pub fn invoke(code: &[LinkedModule], state: &mut State, callee: Callee, line: us
     }
 }
 
-// Out.Char.
+/// Out.Char.
 pub fn put_char(code: &[LinkedModule], state: &mut State) -> Step
     requires one { HasOne state.old }
     ensures { Performed (perform code.now instr.PutChar (config_of state.old)) state.old state.new result }
@@ -37,7 +37,7 @@ pub fn put_char(code: &[LinkedModule], state: &mut State) -> Step
     Step::MeetsTurn
 }
 
-// Out.String.
+/// Out.String.
 pub fn put_text(code: &[LinkedModule], state: &mut State, span: Span) -> Step
     requires one { HasOne state.old }
     requires cells { IsTextIn code.now (config_of state.old) span (top_of (config_of state.old).stack) }
@@ -47,7 +47,7 @@ pub fn put_text(code: &[LinkedModule], state: &mut State, span: Span) -> Step
     Step::MeetsTurn
 }
 
-// Out.Int.
+/// Out.Int.
 pub fn put_int(code: &[LinkedModule], state: &mut State) -> Step
     requires two { HasTwo state.old }
     ensures { Performed (perform code.now instr.PutInt (config_of state.old)) state.old state.new result }

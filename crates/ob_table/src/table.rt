@@ -10,7 +10,7 @@ use ob_mean::Shape;
 use std::alloc::{AllocError, Global};
 use std::marker::Model;
 
-// Both together. There is no room for 2^64 cells.
+/// Both together. There is no room for 2^64 cells.
 fn total(first: usize, second: usize) -> Result<usize, AllocError>
     ensures { IfOk result (λ n. n ≡ first + second) }
 {
@@ -45,7 +45,7 @@ pub fn shape_cells(shape: &Shape) -> Result<usize, AllocError>
     }
 }
 
-// A record without fields has a cell.
+/// A record without fields has a cell.
 #[cycle(cells)]
 fn record_cells(fields: &[Shape]) -> Result<usize, AllocError>
     ensures { IfOk result (λ n. n ≡ size (at_least_one (zeros fields.now))) }
@@ -113,6 +113,7 @@ impl Model for Table {
 }
 
 impl Table {
+    /// A table of nothing.
     pub fn new(alloc: Global) -> Table
         ensures { result ≡ [] }
     {

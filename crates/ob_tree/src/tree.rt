@@ -7,12 +7,14 @@
 use ob_base::{Boxed, Items, Text};
 use ob_scan::Span;
 
+/// The sign before a term.
 #[derive(Clone, Copy, Debug, PartialEq, Eq)]
 pub enum Sign {
     Plus,
     Minus,
 }
 
+/// A relation between two sums. IS is apart.
 #[derive(Clone, Copy, Debug, PartialEq, Eq)]
 pub enum Relation {
     Equal,
@@ -23,6 +25,7 @@ pub enum Relation {
     GreaterEqual,
 }
 
+/// An operator between terms.
 #[derive(Clone, Copy, Debug, PartialEq, Eq)]
 pub enum AddOperator {
     Plus,
@@ -30,6 +33,7 @@ pub enum AddOperator {
     Or,
 }
 
+/// An operator between factors.
 #[derive(Clone, Copy, Debug, PartialEq, Eq)]
 pub enum MulOperator {
     Times,
@@ -112,6 +116,7 @@ pub struct NextFactor {
     pub factor: Factor,
 }
 
+/// A factor.
 #[cycle(expression)]
 #[derive(Drop)]
 pub enum Factor {
@@ -137,6 +142,7 @@ pub struct Designator {
     pub selectors: Items<Selector>,
 }
 
+/// What selects a part of a designator.
 #[cycle(expression)]
 #[derive(Drop)]
 pub enum Selector {
@@ -147,6 +153,7 @@ pub enum Selector {
     Guard(Qualident),
 }
 
+/// A statement.
 #[cycle(statement)]
 #[derive(Drop)]
 pub enum Statement {
@@ -197,6 +204,7 @@ pub struct LabelRange {
     pub last: Option<Label>,
 }
 
+/// A label of a CASE, or an end of a range of them.
 #[derive(Debug, Drop)]
 pub enum Label {
     Integer(i32, Span),
@@ -248,12 +256,14 @@ pub struct Formals {
     pub result: Option<Qualident>,
 }
 
+/// A constant that is declared.
 #[derive(Drop)]
 pub struct ConstDeclaration {
     pub name: IdentDef,
     pub value: Boxed<Expr>,
 }
 
+/// A type that is declared.
 #[derive(Drop)]
 pub struct TypeDeclaration {
     pub name: IdentDef,
@@ -270,6 +280,7 @@ pub struct Declarations {
     pub procedures: Items<Procedure>,
 }
 
+/// A procedure that is declared.
 #[cycle(declaration)]
 #[derive(Drop)]
 pub struct Procedure {
@@ -296,6 +307,7 @@ pub struct Import {
     pub module_name: Option<Ident>,
 }
 
+/// A module.
 #[derive(Drop)]
 pub struct Module {
     pub name: Ident,

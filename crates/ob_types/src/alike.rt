@@ -53,7 +53,7 @@ fn same_result(left: Option<Basic>, right: Option<Basic>) -> bool
     }
 }
 
-// Whether two signatures are the same where their types are.
+/// Whether two signatures are the same where their types are.
 fn same_signature(left: &Signature, right: &Signature) -> bool
     ensures { IsTrue result → spec.types_of left.now.formals ≡ spec.types_of right.now.formals → left.now ≡ right.now }
 {
@@ -61,7 +61,7 @@ fn same_signature(left: &Signature, right: &Signature) -> bool
         && same_result(left.result, right.result)
 }
 
-// Whether two objects are the same where their types are.
+/// Whether two objects are the same where their types are.
 fn same_object(left: &Object, right: &Object) -> bool
     ensures { IsTrue result → spec.types_in left.now ≡ spec.types_in right.now → left.now ≡ right.now }
 {
@@ -104,7 +104,7 @@ pub(crate) fn alike(
         && same_object(&left.object, &right.object)
 }
 
-/// So many types from the first are the same in both.
+/// How many types from the first are the same in both.
 pub(crate) fn same_below(left: &[ObType], right: &[ObType]) -> usize
     ensures { spec.SameBelow result left.now right.now }
 {

@@ -142,7 +142,7 @@ fn is_char(of: &ObType) -> bool
     }
 }
 
-/// Whether a string of so many characters may be assigned to a variable of the type `to`: one character to a CHAR, fewer than
+/// Whether a string of `length` characters may be assigned to a variable of the type `to`: one character to a CHAR, fewer than
 /// its elements to an array of CHAR, and any to an open array of CHAR, whose length is known when the assignment runs.
 pub fn string_assignable(to: &ObType, length: usize) -> bool
     ensures { result ≡ spec.string_assignable to.now length }

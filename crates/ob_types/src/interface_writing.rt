@@ -92,7 +92,7 @@ fn put_signature(output: &mut String, signature: &Signature) -> Result<(), Alloc
     Ok(())
 }
 
-// What stands before the value of an exported name: its word and the name.
+/// What stands before the value of an exported name: its word and the name.
 fn put_head(output: &mut String, word: &str, name: &Text) -> Result<(), AllocError>
     ensures { OnOk result (string_bytes output.new ≡ string_bytes output.old ++ word.now ++ spec.name_text name.now) }
 {

@@ -40,7 +40,7 @@ fn are_apart(left: &[u8], right: &[u8]) -> bool
     false
 }
 
-// Whether the lines of two names differ in a place that both have. Or lack of memory.
+/// Whether the lines of two names differ in a place that both have. Or lack of memory.
 fn lines_apart(alloc: Global, left: &[Exported], right: &[Exported]) -> Result<bool, AllocError>
     ensures { IfOk result (λ b. b ≡ numbered_spec.are_apart (spec.exports_text left.now) (spec.exports_text right.now)) }
 {
@@ -51,7 +51,7 @@ fn lines_apart(alloc: Global, left: &[Exported], right: &[Exported]) -> Result<b
     Ok(are_apart(line.as_bytes(), other.as_bytes()))
 }
 
-// Those from a place on.
+/// Those from a place on.
 fn rest_from(exports: &[Exported], place: usize) -> &[Exported]
     requires { place ≤ length exports.now }
     ensures { result.now ≡ drop place exports.now }
@@ -59,8 +59,8 @@ fn rest_from(exports: &[Exported], place: usize) -> &[Exported]
     &exports[place..]
 }
 
-// Whether two lists of exported names, of which the first are not seen to be the same, have one text, where this is seen from the
-// first names alone.
+/// Whether two lists of exported names, of which the first are not seen to be the same, have one text, where this is seen from the
+/// first names alone.
 fn same_rest(
     alloc: Global,
     left: &[Exported],
@@ -81,7 +81,7 @@ fn same_rest(
     }
 }
 
-// Whether two interfaces have the same text, as it is written out.
+/// Whether two interfaces have the same text, as it is written out.
 fn same_text(alloc: Global, left: &Interface, right: &Interface) -> Result<bool, AllocError>
     ensures { IfOk result (λ b. b ≡ bytes_eq (spec.interface_text left.now) (spec.interface_text right.now)) }
 {

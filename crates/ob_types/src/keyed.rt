@@ -10,7 +10,7 @@ use ob_base::{Items, Shared, Text};
 use std::alloc::{AllocError, Global};
 use std::marker::Model;
 
-// The parts of an interface.
+/// The parts of an interface.
 #[derive(Drop)]
 struct Parts {
     name: Text,
@@ -69,7 +69,7 @@ impl Interface {
         self.parts.get().exports.as_slice()
     }
 
-    /// So many exported names from the first are the same in both. A type is compared once for all names in which it stands.
+    /// How many exported names from the first are the same in both. A type is compared once for all names in which it stands.
     pub(crate) fn same_before(&self, other: &Interface) -> usize
         ensures same { take result self.now.exports ≡ take result other.now.exports }
         ensures left { result ≤ length self.now.exports }
@@ -82,7 +82,7 @@ impl Interface {
     }
 }
 
-/// The text of an interface: a line for the module, and one for each name that it exports, in order of declaration. Or want of
+/// The text of an interface: a line for the module, and one for each name that it exports, in order of declaration. Or lack of
 /// memory.
 pub fn interface_text(alloc: Global, interface: &Interface) -> Result<String, AllocError>
     ensures { IfOk result (λ t. string_bytes t ≡ spec.interface_text interface.now) }

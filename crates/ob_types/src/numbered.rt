@@ -11,7 +11,7 @@ use ob_base::Items;
 use std::alloc::{AllocError, Global};
 use std::marker::Model;
 
-// A type is looked for among so many that were numbered last: the time to look for one stays small.
+/// Among how many that were numbered last a type is looked for: the time to look for one stays small.
 const MOST: usize = 32;
 
 /// The number of a type, if it is among those that were numbered last.
@@ -142,13 +142,14 @@ impl NumberedExports {
         })
     }
 
+    /// All of them, in order.
     pub fn as_slice(&self) -> &[Exported]
         ensures { result.now ≡ self.now }
     {
         self.exports.as_slice()
     }
 
-    /// So many from the first are the same in both. A type is compared once for all names in which it stands.
+    /// How many from the first are the same in both. A type is compared once for all names in which it stands.
     pub fn same_before(&self, other: &NumberedExports) -> usize
         ensures same { take result self.now ≡ take result other.now }
         ensures left { result ≤ length self.now }

@@ -17,7 +17,7 @@ pub enum Basic {
 #[derive(Drop)]
 pub enum ObType {
     Basic(Basic),
-    /// So many elements of a type.
+    /// How many elements, and their type.
     Array(u32, Shared<ObType>),
     /// An open array of a type, which a formal parameter alone may have.
     Open(Shared<ObType>),

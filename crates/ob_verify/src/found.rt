@@ -1,5 +1,5 @@
-// What is known of the operands and names before each line, as far as one way over the lines finds it. Another test decides whether
-// it is so.
+//! What is known of the operands and names before each line, as far as one way over the lines finds it. Another test decides whether
+//! it is so.
 
 ghost use Rattle.std.specs.Prelude.{◌≡◌, ◌<◌, length, OnOk};
 
@@ -11,7 +11,7 @@ use ob_code::kinds::{Kind, Known};
 use ob_mean::Callee;
 use std::alloc::{AllocError, Global};
 
-// What an instruction does: it takes so many operands and names, and leaves this one.
+/// What an instruction does: how many operands and names it takes, and what it leaves.
 #[derive(Clone, Copy)]
 struct Change {
     taken: usize,
@@ -141,10 +141,10 @@ fn behind(alloc: Global, change: &Change, known: &Known) -> Result<Known, AllocE
     })
 }
 
-// Of no more operands, and of few more names, anything is found, so that the cost grows with the lines alone.
+/// Of no more operands, and of few more names, anything is found, so that the cost grows with the lines alone.
 const DEEPEST: usize = 256;
 
-// As many operands as a line says, but no more than lines before it can leave: nothing has arrived there yet.
+/// As many operands as a line says, but no more than lines before it can leave: nothing has arrived there yet.
 fn least(alloc: Global, procedure: &Procedure) -> Result<Vec<Known>, AllocError> {
     let mut rows = Vec::new(alloc);
     for place in 0..procedure.lines.len() {
@@ -159,7 +159,7 @@ fn least(alloc: Global, procedure: &Procedure) -> Result<Vec<Known>, AllocError>
     Ok(rows)
 }
 
-// Of each the one or the other.
+/// Of each the one or the other.
 fn joined(alloc: Global, one: &[Kind], other: &[Kind]) -> Result<Items<Kind>, AllocError> {
     let mut kinds = Items::new(alloc);
     for place in 0..one.len() {
@@ -178,7 +178,7 @@ fn copied(alloc: Global, names: &[NameKind]) -> Result<Items<NameKind>, AllocErr
     Ok(copy)
 }
 
-// This arrives at a place. The first names that arrive there stay.
+/// This arrives at a place. The first names that arrive there stay.
 fn arrive(
     alloc: Global,
     rows: &mut Vec<Known>,
@@ -205,7 +205,7 @@ fn arrive(
     Ok(())
 }
 
-// What an instruction leaves arrives at the places after it where it leads, and what it finds where it asks again.
+/// What an instruction leaves arrives at the places after it where it leads, and what it finds where it asks again.
 fn go_on(
     alloc: Global,
     rows: &mut Vec<Known>,

@@ -1,4 +1,4 @@
-// Kinds of operands, and of names.
+//! Kinds of operands, and of names.
 
 ghost use Rattle.std.specs.Prelude.{◌≡◌, ℕ, ◌+◌, ◌<◌, ◌≤◌, length, IsTrue};
 ghost use Rattle.ob_code.specs.Kinds as spec;
@@ -9,10 +9,10 @@ use ob_code::instr::{Length, NameKind};
 use ob_code::kinds::Kind;
 use ob_mean::TypeName;
 
-// No number of 32 bits is this or more.
+/// No number of 32 bits is this or more.
 pub(crate) const NUMBERS: usize = 2_147_483_648;
 
-// Whether the first is known of every operand of which the second is.
+/// Whether the first is known of every operand of which the second is.
 pub(crate) fn covers(expected: Kind, found: Kind) -> bool
     ensures { IsTrue result → Covers expected found }
 {
@@ -63,7 +63,7 @@ fn smaller(one: usize, other: usize) -> usize
     if one < other { one } else { other }
 }
 
-// What is known where one or the other is.
+/// What is known where one or the other is.
 pub(crate) fn either(first: Kind, second: Kind) -> Kind
     ensures first { Covers result first }
     ensures second { Covers result second }
@@ -81,7 +81,7 @@ pub(crate) fn either(first: Kind, second: Kind) -> Kind
     }
 }
 
-// The same of those at one place.
+/// The same of those at one place.
 fn covers_at(expected: &[Kind], found: &[Kind], place: usize) -> bool
     ensures { IsTrue result → CoversAt expected.now found.now place }
 {
@@ -94,7 +94,7 @@ fn covers_at(expected: &[Kind], found: &[Kind], place: usize) -> bool
     }
 }
 
-// The same of each place, where they are as many.
+/// The same of each place, where they are as many.
 fn cover_each(expected: &[Kind], found: &[Kind]) -> bool
     requires { length expected.now ≡ length found.now }
     ensures { IsTrue result → CoverAll expected.now found.now }
@@ -107,7 +107,7 @@ fn cover_each(expected: &[Kind], found: &[Kind]) -> bool
     true
 }
 
-// The same of as many.
+/// The same of as many.
 pub(crate) fn cover_all(expected: &[Kind], found: &[Kind]) -> bool
     ensures { IsTrue result → CoverAll expected.now found.now }
 {
@@ -144,7 +144,7 @@ pub(crate) fn literal(value: i32) -> Kind
     Kind::UpTo(value as usize)
 }
 
-// So much more than at most so much
+/// A number that is at most `most` and `more` more.
 #[tactic(auto, using(crate::proofs::Lows::low_high))]
 fn more(most: usize, more: usize) -> Kind
     ensures { result ≡ spec.low (most + more) }
@@ -155,7 +155,7 @@ fn more(most: usize, more: usize) -> Kind
     }
 }
 
-// So far after where the last element begins
+/// A number of a cell that is at most `most` and `more` more after where the last element begins.
 #[tactic(auto, using(crate::proofs::Lows::inside_far))]
 fn inside(name: usize, size: usize, most: usize, more: usize) -> Kind
     ensures { result ≡ spec.inside name size (most + more) }
@@ -166,7 +166,7 @@ fn inside(name: usize, size: usize, most: usize, more: usize) -> Kind
     }
 }
 
-// So much and so much more, in a record that has so many cells
+/// A number that is at most `most` and `more` more, in a record that has `cells` cells.
 #[tactic(auto, using(crate::proofs::Lows::in_record_far))]
 fn in_record(name: usize, cells: usize, most: usize, more: usize) -> Kind
     ensures { result ≡ spec.in_record name cells (most + more) }
@@ -189,7 +189,7 @@ pub(crate) fn moved(cells: usize, kind: Kind) -> Kind
     }
 }
 
-// An element of so many
+/// The place of one of `count` elements of `size` cells, where that of the first is at most `most`.
 #[tactic(auto, using(crate::proofs::Lows::low_high))]
 fn one_of(count: usize, size: usize, most: usize) -> Kind
     ensures { result ≡ spec.one_of count size most }
@@ -203,7 +203,7 @@ fn one_of(count: usize, size: usize, most: usize) -> Kind
     }
 }
 
-// The same within an element of a name's array
+/// The place of one of `count` parts of `by` cells, where that of the first is within the array that a name stands for.
 #[tactic(auto, using(crate::proofs::Lows::inside_far))]
 fn one_inside(count: usize, by: usize, name: usize, size: usize, most: usize) -> Kind
     ensures { result ≡ spec.one_inside count by name size most }
@@ -217,7 +217,7 @@ fn one_inside(count: usize, by: usize, name: usize, size: usize, most: usize) ->
     }
 }
 
-// The same within a record
+/// The place of one of `count` parts of `by` cells, where that of the first is within a record.
 #[tactic(auto, using(crate::proofs::Lows::in_record_far))]
 fn one_in_record(count: usize, by: usize, name: usize, cells: usize, most: usize) -> Kind
     ensures { result ≡ spec.one_in_record count by name cells most }
@@ -250,7 +250,7 @@ pub(crate) fn element(length: Length, size: usize, kind: Kind) -> Kind
     }
 }
 
-// A place from which a guard went on
+/// A place behind a guard: within a record of `cells` cells.
 pub(crate) fn guarded(name: usize, cells: usize, kind: Kind) -> Kind
     ensures { result ≡ spec.guarded name cells kind }
 {
@@ -261,7 +261,7 @@ pub(crate) fn guarded(name: usize, cells: usize, kind: Kind) -> Kind
     }
 }
 
-// How many cells a record of this type takes
+/// How many cells a record of this type takes.
 pub(crate) fn cells_of(types: &[TypeName]) -> usize
     ensures { result ≡ types_of.cells_of types.now }
 {
@@ -309,7 +309,7 @@ fn each_same(one: &[NameKind], other: &[NameKind]) -> bool
     true
 }
 
-// Whether these are kinds of the same names.
+/// Whether these are kinds of the same names.
 pub(crate) fn are_same(one: &[NameKind], other: &[NameKind]) -> bool
     ensures same { IsTrue result → one.now ≡ other.now }
     ensures only { one.now ≡ other.now → IsTrue result }

@@ -1,4 +1,4 @@
-// Whether loaded modules fit together.
+//! Whether loaded modules fit together.
 
 ghost use Rattle.std.specs.Prelude.{◌≡◌, ℕ, ◌^◌, ◌<◌, IsTrue, true, Some, slice_get};
 ghost use Rattle.ob_code.specs.Linked.{all_cells, AreLaid, Exports, IsAsKnown, Imports, IsLinked, runs_of};
@@ -19,7 +19,7 @@ pub fn are_linked(modules: &[LinkedModule], may_run: &[bool]) -> bool
     are_laid(modules) && all_imports_fit(modules, may_run)
 }
 
-// The modules' cells lie one after the other.
+/// The modules' cells lie one after the other.
 fn are_laid(modules: &[LinkedModule]) -> bool
     ensures laid { IsTrue result → AreLaid 0 modules.now }
     ensures only { AreLaid 0 modules.now → all_cells modules.now < 2 ^ 64 → IsTrue result }

@@ -1,4 +1,4 @@
-// Whether so much is known of the operands and names before each line.
+//! Whether so much is known of the operands and names before each line.
 
 ghost use Rattle.std.specs.Prelude.{◌≡◌, ℕ, ◌++◌, ◌-◌, ◌<◌, ◌≤◌, [], ◌∷◌, length, take, drop, option_copied, IsTrue, Some, slice_get};
 ghost use Rattle.ob_code.specs.Kinds.{LieAmong, LieInElement, LieInRecord, LieInName, Lie, IsLong, ArrayLies, TextLies, TargetLies, LengthIs, TellsType, IsFew, ArePassed, CoverAll, with_top, results_kinds, nothing, OperandsArrive, NamesArrive, Arrives, known_at, listed, Keeps, HasKinds};
@@ -77,7 +77,7 @@ fn lie(names: &[NameKind], root: Root, kind: Kind, count: usize) -> bool
     }
 }
 
-// The elements of a name's array have so many cells.
+/// Whether a name stands for an array whose elements have `size` cells.
 fn is_array(names: &[NameKind], name: usize, size: usize) -> bool
     ensures { IsTrue result → slice_get names.now name ≡ Some (ArrayOf size) }
 {
@@ -136,7 +136,7 @@ fn length_is(names: &[NameKind], length: Length, size: usize) -> bool
     }
 }
 
-// A name that tells the type of a record.
+/// A name that tells the type of a record.
 fn tells_type(named: Option<&NameKind>) -> bool
     ensures { IsTrue result → TellsType (option_copied named.entry) }
 {
@@ -146,7 +146,7 @@ fn tells_type(named: Option<&NameKind>) -> bool
     }
 }
 
-// Records of these types take no more cells.
+/// Records of these types take no more cells.
 fn are_at_most(most: usize, types: &[TypeName]) -> bool
     ensures { IsTrue result → AtMost most types.now }
 {
@@ -169,7 +169,7 @@ fn is_few(root: Root) -> bool
     }
 }
 
-// What is expected of the operands below, and of one on top where there is one.
+/// What is expected of the operands below, and of one on top where there is one.
 fn covers_top(expected: &[Kind], top: Option<Kind>, rest: &[Kind]) -> bool
     ensures { IsTrue result → CoverAll expected.now (with_top top rest.now) }
 {
@@ -182,7 +182,7 @@ fn covers_top(expected: &[Kind], top: Option<Kind>, rest: &[Kind]) -> bool
     }
 }
 
-// At the end of the lines a result is left, or nothing.
+/// At the end of the lines a result is left, or nothing.
 fn ends(gives: bool, top: Option<Kind>, rest: &[Kind]) -> bool
     ensures { IsTrue result → CoverAll (results_kinds gives) (with_top top rest.now) }
 {
@@ -193,7 +193,7 @@ fn ends(gives: bool, top: Option<Kind>, rest: &[Kind]) -> bool
     }
 }
 
-// A place where no more is known of operands than of these.
+/// A place where no more is known of operands than of these.
 fn operands_arrive(
     procedure: &Procedure,
     rows: &[Known],
@@ -213,7 +213,7 @@ fn operands_arrive(
     }
 }
 
-// A place with these names.
+/// A place with these names.
 fn names_arrive(procedure: &Procedure, rows: &[Known], place: usize, names: &[NameKind]) -> bool
     ensures { IsTrue result → NamesArrive (known_at procedure.now (listed rows.now) place) names.now }
 {
@@ -227,7 +227,7 @@ fn names_arrive(procedure: &Procedure, rows: &[Known], place: usize, names: &[Na
     }
 }
 
-// A place with these names, and this one after them.
+/// A place with these names, and this one after them.
 fn name_arrives(
     procedure: &Procedure,
     rows: &[Known],
@@ -246,7 +246,7 @@ fn name_arrives(
     }
 }
 
-// Whether these are the others, and one after them.
+/// Whether these are the others, and one after them.
 fn is_one_more(all: &[NameKind], others: &[NameKind], name: NameKind) -> bool
     ensures { IsTrue result → all.now ≡ others.now ++ name ∷ [] }
 {
@@ -257,7 +257,7 @@ fn is_one_more(all: &[NameKind], others: &[NameKind], name: NameKind) -> bool
     are_same(front, others) && are_same(back, &[name])
 }
 
-// So many operands are there to take.
+/// Whether `taken` operands are there to take.
 fn operands_lead(
     procedure: &Procedure,
     rows: &[Known],
@@ -275,7 +275,7 @@ fn operands_lead(
     operands_arrive(procedure, rows, place, top, rest)
 }
 
-// A place that so many operands fewer reach, and this one on top of them, with the same names.
+/// Whether a place is reached with `taken` operands fewer and `top` on top of them, and the same names.
 fn leads(
     procedure: &Procedure,
     rows: &[Known],
@@ -292,7 +292,7 @@ fn leads(
         && names_arrive(procedure, rows, place, known.names.as_slice())
 }
 
-// The same of one operand fewer, and a name more.
+/// The same of one operand fewer, and a name more.
 fn names_one(
     procedure: &Procedure,
     rows: &[Known],
@@ -308,7 +308,7 @@ fn names_one(
         && name_arrives(procedure, rows, place, known.names.as_slice(), name)
 }
 
-// A call that finds its operands and names, and leads to a place with those that it leaves.
+/// A call that finds its operands and names, and leads to a place with those that it leaves.
 fn calls(procedure: &Procedure, rows: &[Known], known: &Known, place: usize, entry: &Entry) -> bool
     ensures taken { IsTrue result → entry.now.operands ≤ length known.now.operands }
     ensures passed { IsTrue result → ArePassed (Some entry.now) known.now.names }
@@ -336,7 +336,7 @@ fn calls(procedure: &Procedure, rows: &[Known], known: &Known, place: usize, ent
         && names_arrive(procedure, rows, place, rest)
 }
 
-// Whether an instruction finds what it takes and what it asks for, and no place where it leads knows more than it leaves.
+/// Whether an instruction finds what it takes and what it asks for, and no place where it leads knows more than it leaves.
 fn keeps(
     code: &CodeModule,
     procedure: &Procedure,
@@ -390,7 +390,7 @@ fn keeps(
     }
 }
 
-// An instruction that names an object.
+/// An instruction that names an object.
 fn object_keeps(
     code: &CodeModule,
     procedure: &Procedure,
@@ -443,7 +443,7 @@ fn object_keeps(
     }
 }
 
-// An instruction on the type of a record.
+/// An instruction on the type of a record.
 fn record_keeps(
     code: &CodeModule,
     procedure: &Procedure,
@@ -490,7 +490,7 @@ fn record_keeps(
     }
 }
 
-// An instruction that leads to other places than the next.
+/// An instruction that leads to other places than the next.
 fn jump_keeps(
     code: &CodeModule,
     procedure: &Procedure,
@@ -540,7 +540,7 @@ fn jump_keeps(
     }
 }
 
-// The same of the line at a place.
+/// The same of the line at a place.
 fn line_keeps(
     code: &CodeModule,
     procedure: &Procedure,
@@ -557,7 +557,7 @@ fn line_keeps(
     }
 }
 
-// Whether each line keeps its row.
+/// Whether each line keeps its row.
 fn lines_keep(code: &CodeModule, procedure: &Procedure, rows: &[Known]) -> bool
     ensures { IsTrue result → (place : ℕ) (l : LineOf) → slice_get procedure.now.lines.items place ≡ Some l → Keeps code.now procedure.now (listed rows.now) place (listed rows.now place) l.instr }
 {
@@ -569,7 +569,7 @@ fn lines_keep(code: &CodeModule, procedure: &Procedure, rows: &[Known]) -> bool
     true
 }
 
-// A procedure begins with nothing.
+/// A procedure begins with nothing.
 fn begins(procedure: &Procedure, rows: &[Known]) -> bool
     ensures { IsTrue result → Arrives (known_at procedure.now (listed rows.now) 0) nothing }
 {

@@ -1,4 +1,4 @@
-// Tests code that somebody made.
+//! Tests code that somebody made.
 
 ghost use Rattle.std.specs.Prelude.{◌≡◌, ℕ, ◌+◌, ◌-◌, ◌<◌, ◌≤◌, length, option_copied, IsTrue, IfOk, IfSome, Option, Some, slice_get};
 ghost use Rattle.ob_code.specs.Valid.{height, results, height_at, RootFits, LengthFits, SpanFits, TargetFits, Calls, entry_of, is_ask, asks, Fits, LinesFit, ProcedureFits, IsBody, IsValid};
@@ -30,7 +30,7 @@ pub fn validate(alloc: Global, code: CodeModule) -> Result<Option<Checked>, Allo
     }
 }
 
-// Whether code is valid, and enough is known of its operands and names.
+/// Whether code is valid, and enough is known of its operands and names.
 fn is_measured(alloc: Global, code: &CodeModule) -> Result<bool, AllocError>
     ensures { IfOk result (λ b. IsTrue b → IsMeasured code.now) }
 {
@@ -40,7 +40,7 @@ fn is_measured(alloc: Global, code: &CodeModule) -> Result<bool, AllocError>
     have_kinds(alloc, code)
 }
 
-// Whether enough is known of the operands and names of each procedure.
+/// Whether enough is known of the operands and names of each procedure.
 fn have_kinds(alloc: Global, code: &CodeModule) -> Result<bool, AllocError>
     ensures { IfOk result (λ b. IsTrue b → (p : ℕ) (f : Procedure) → slice_get code.now.procedures.items p ≡ Some f → HasKinds code.now f) }
 {
@@ -66,7 +66,7 @@ fn is_valid(code: &CodeModule) -> bool
     ends_with_body(code) && exports_fit(code) && procedures_fit(code)
 }
 
-// The last procedure is the body.
+/// The last procedure is the body.
 fn ends_with_body(code: &CodeModule) -> bool
     ensures { IsTrue result → IsBody (slice_get code.now.procedures.items (length code.now.procedures.items - 1)) }
 {
@@ -128,7 +128,7 @@ fn lines_fit(code: &CodeModule, procedure: &Procedure) -> bool
     true
 }
 
-// How many operands and names lie before the line at this place.
+/// How many operands and names lie before the line at this place.
 fn height_at(procedure: &Procedure, place: usize) -> Option<Height>
     ensures { result ≡ height_at procedure.now.entry.is_function procedure.now.lines.items place }
 {
@@ -145,7 +145,7 @@ fn height_at(procedure: &Procedure, place: usize) -> Option<Height>
     }
 }
 
-// A place where so many operands and names are expected.
+/// Whether as many operands and names are expected at a place.
 fn leads(procedure: &Procedure, place: usize, operands: usize, names: usize) -> bool
     ensures { IsTrue result → height_at procedure.now.entry.is_function procedure.now.lines.items place ≡ Some (height operands names) }
 {
@@ -155,7 +155,7 @@ fn leads(procedure: &Procedure, place: usize, operands: usize, names: usize) -> 
     }
 }
 
-// A place where so many operands, and the result of a call that gives one, are expected.
+/// Whether as many operands, and the result of a call that gives one, are expected at a place.
 fn leaves(procedure: &Procedure, place: usize, operands: usize, gives: bool, names: usize) -> bool
     ensures { IsTrue result → height_at procedure.now.entry.is_function procedure.now.lines.items place ≡ Some (height (operands + results gives) names) }
 {
@@ -170,7 +170,7 @@ fn leaves(procedure: &Procedure, place: usize, operands: usize, gives: bool, nam
     }
 }
 
-// A place where so many operands, and a name more than so many, are expected.
+/// Whether as many operands, and one name more, are expected at a place.
 fn names_one(procedure: &Procedure, place: usize, operands: usize, names: usize) -> bool
     ensures { IsTrue result → height_at procedure.now.entry.is_function procedure.now.lines.items place ≡ Some (height operands (names + 1)) }
 {
@@ -182,7 +182,7 @@ fn names_one(procedure: &Procedure, place: usize, operands: usize, names: usize)
     }
 }
 
-// A jump from this place past so many lines.
+/// Whether a jump from this place past as many lines leads to where these operands and names are expected.
 fn jumps(procedure: &Procedure, place: usize, past: usize, operands: usize, names: usize) -> bool
     requires { place < length procedure.now.lines.items }
     ensures { IsTrue result → height_at procedure.now.entry.is_function procedure.now.lines.items (place + 1 + past) ≡ Some (height operands names) }
@@ -236,7 +236,7 @@ fn target_fits(code: &CodeModule, procedure: &Procedure, target: Target) -> bool
     }
 }
 
-// What a call takes and leaves.
+/// What a call takes and leaves.
 pub(crate) fn entry_of(code: &CodeModule, callee: Callee) -> Option<&Entry>
     ensures { option_copied result ≡ entry_of code.now callee }
 {
@@ -252,7 +252,7 @@ pub(crate) fn entry_of(code: &CodeModule, callee: Callee) -> Option<&Entry>
     }
 }
 
-// A call at this place, before which so many operands and names lie.
+/// Whether a call at this place, before which so many operands and names lie, finds what it takes.
 fn calls(
     code: &CodeModule,
     procedure: &Procedure,
@@ -280,7 +280,7 @@ fn calls(
     }
 }
 
-// Whether a line is asked for at this place.
+/// Whether a line is asked for at this place.
 fn asks(procedure: &Procedure, place: usize) -> bool
     ensures { result ≡ asks (slice_get procedure.now.lines.items place) }
 {
@@ -338,7 +338,7 @@ fn fits(code: &CodeModule, procedure: &Procedure, place: usize, line: &Line) -> 
     }
 }
 
-// An instruction that names an object.
+/// An instruction that names an object.
 fn object_fits(code: &CodeModule, procedure: &Procedure, place: usize, line: &Line) -> bool
     requires { place < length procedure.now.lines.items }
     ensures { IsTrue result → Fits code.now procedure.now procedure.now.lines.items place line.now.operands line.now.names line.now.instr }
@@ -411,7 +411,7 @@ fn object_fits(code: &CodeModule, procedure: &Procedure, place: usize, line: &Li
     }
 }
 
-// An instruction on the type of a record.
+/// An instruction on the type of a record.
 fn record_fits(code: &CodeModule, procedure: &Procedure, place: usize, line: &Line) -> bool
     requires { place < length procedure.now.lines.items }
     ensures { IsTrue result → Fits code.now procedure.now procedure.now.lines.items place line.now.operands line.now.names line.now.instr }
@@ -441,7 +441,7 @@ fn record_fits(code: &CodeModule, procedure: &Procedure, place: usize, line: &Li
     }
 }
 
-// An instruction that leads to other places than the next.
+/// An instruction that leads to other places than the next.
 fn jump_fits(code: &CodeModule, procedure: &Procedure, place: usize, line: &Line) -> bool
     requires { place < length procedure.now.lines.items }
     ensures { IsTrue result → Fits code.now procedure.now procedure.now.lines.items place line.now.operands line.now.names line.now.instr }

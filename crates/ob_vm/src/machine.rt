@@ -53,7 +53,7 @@ impl Model for Machine {
     ghost view = { λ m. machine_of m.state m.used };
 }
 
-// The last procedure is the body.
+/// The last procedure is the body.
 fn body(code: &CodeModule) -> &Procedure
     requires { IsMeasured code.now }
     ensures { slice_get code.now.procedures.items (length code.now.procedures.items - 1) ≡ Some result.now }
@@ -64,7 +64,7 @@ fn body(code: &CodeModule) -> &Procedure
     }
 }
 
-// Room for what the start of this body needs.
+/// Room for what the start of this body needs.
 fn room_of(alloc: Global, body: &Procedure) -> Result<Room, AllocError>
     ensures operands { IfOk result (λ room. body.now.operand_room ≤ room.operands) }
     ensures names { IfOk result (λ room. body.now.name_room ≤ room.names) }
@@ -74,7 +74,7 @@ fn room_of(alloc: Global, body: &Procedure) -> Result<Room, AllocError>
     Ok(Room { stack, names })
 }
 
-// A line that In is given, or none.
+/// A line that In is given, or none.
 fn feed(input: &mut LineBuffer, line: Option<&str>) -> Result<(), AllocError>
     ensures ok { OnOk result (input.new.input ≡ given (option_copied line.entry) input.old.input) }
     ensures none { option_copied line.entry ≡ None → IsOk result }

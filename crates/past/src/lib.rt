@@ -44,7 +44,7 @@ impl<T> Drop for Past<T> {
     }
 }
 
-// A struct with `also_owns` has neither by itself. This one owns nothing.
+/// A struct with `also_owns` has neither by itself. This one owns nothing.
 unsafe impl<T> Send for Past<T> {}
 
 unsafe impl<T> Sync for Past<T> {}

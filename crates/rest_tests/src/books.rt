@@ -9,8 +9,8 @@ const SESSION: &str = r#"POST /api/sessions {"path":"n.ipynb","type":"notebook"}
 const PUT: &str =
     r#"PUT /api/contents/n.ipynb {"type":"notebook","content":{"cells":[{"cell_type":"raw","id":"c","metadata":{},"source":"x"}],"metadata":{},"nbformat":4,"nbformat_minor":5}}"#;
 
-// A put of a recorder's notebook is two looks and one put, whose refusal is the answer. The recorder has the notebook then, and its
-// save is due until one succeeds.
+/// A put of a recorder's notebook is two looks and one put, whose refusal is the answer. The recorder has the notebook then, and its
+/// save is due until one succeeds.
 #[test]
 fn a_put_is_the_recorders(rt: HostRuntime) -> Result<(), Fail> {
     let alloc = rt.alloc();
@@ -43,7 +43,7 @@ fn a_put_is_the_recorders(rt: HostRuntime) -> Result<(), Fail> {
 const PUT_OF_ANOTHER_DATE: &str =
     r#"PUT /api/contents/n.ipynb {"type":"notebook","last_modified":"2001-09-08T01:46:40.123456Z","content":{"cells":[],"metadata":{},"nbformat":4,"nbformat_minor":5}}"#;
 
-// The recorder's notebook has the date of its last put or save.
+/// The recorder's notebook has the date of its last put or save.
 #[test]
 fn a_put_of_another_date_is_not_the_recorders(rt: HostRuntime) -> Result<(), Fail> {
     let alloc = rt.alloc();
@@ -63,7 +63,7 @@ fn a_put_of_another_date_is_not_the_recorders(rt: HostRuntime) -> Result<(), Fai
     Ok(())
 }
 
-// The recorder of a file that is deleted goes, and its session stays.
+/// The recorder of a file that is deleted goes, and its session stays.
 #[test]
 fn a_deleted_file_has_no_recorder(rt: HostRuntime) -> Result<(), Fail> {
     let alloc = rt.alloc();

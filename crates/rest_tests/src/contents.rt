@@ -67,7 +67,7 @@ no file
 400 Bad Request
 "#;
 
-// Files of bytes and of text; a folder shows what stands in it in byte order, without contents.
+/// Files of bytes and of text; a folder shows what stands in it in byte order, without contents.
 #[test]
 fn files_and_folders(rt: HostRuntime) -> Result<(), Fail> {
     assert_play(&rt, FILES_AND_FOLDERS)
@@ -136,7 +136,7 @@ no file
 "{\n  \"cells\": [\n    {\n      \"cell_type\": \"raw\",\n      \"id\": \"run-2\",\n      \"metadata\": {},\n      \"source\": [\n        \"a\"\n      ]\n    },\n    {\n      \"cell_type\": \"raw\",\n      \"id\": \"run-1\",\n      \"metadata\": {},\n      \"source\": [\n        \"b\"\n      ]\n    },\n    {\n      \"cell_type\": \"raw\",\n      \"id\": \"run-3\",\n      \"metadata\": {},\n      \"source\": [\n        \"c\"\n      ]\n    }\n  ],\n  \"metadata\": {},\n  \"nbformat\": 4,\n  \"nbformat_minor\": 5\n}\n"
 "#;
 
-// What is put at a notebook's path is a notebook, and is stored as the one text of it.
+/// What is put at a notebook's path is a notebook, and is stored as the one text of it.
 #[test]
 fn notebooks(rt: HostRuntime) -> Result<(), Fail> {
     assert_play(&rt, NOTEBOOKS)
@@ -194,7 +194,7 @@ const REFUSALS_OF_A_PUT_IN_ORDER: &str = r#"> PUT /api/contents/d {"type":"direc
 200 OK {"content":[{"content":null,"created":"2001-09-09T01:46:40.123456Z","format":null,"last_modified":"2001-09-09T01:46:40.123456Z","mimetype":null,"name":"d","path":"d","type":"directory","writable":true}],"created":"1970-01-01T00:00:00.000000Z","format":"json","last_modified":"1970-01-01T00:00:00.000000Z","mimetype":null,"name":"","path":"","type":"directory","writable":true}
 "#;
 
-// The body's fields, then the path, a notebook elsewhere, and what the shelf refuses.
+/// The body's fields, then the path, a notebook elsewhere, and what the shelf refuses.
 #[test]
 fn refusals_of_a_put_in_order(rt: HostRuntime) -> Result<(), Fail> {
     assert_play(&rt, REFUSALS_OF_A_PUT_IN_ORDER)
@@ -246,7 +246,7 @@ const DATES_OF_PUTS: &str =
 404 Not Found
 "#;
 
-// A put over what was last put at another date than the request says changes nothing.
+/// A put over what was last put at another date than the request says changes nothing.
 #[test]
 fn dates_of_puts(rt: HostRuntime) -> Result<(), Fail> {
     assert_play(&rt, DATES_OF_PUTS)
@@ -299,7 +299,7 @@ const BAD_PATHS: &str = r#"> PUT /api/contents/a%2Fb {"type":"file","format":"te
 201 Created {"content":null,"created":"2001-09-09T01:46:40.123456Z","format":null,"last_modified":"2001-09-09T01:46:40.123456Z","mimetype":null,"name":"ä ?...%","path":"ä ?...%","type":"file","writable":true}
 "#;
 
-// A segment that is empty, a point or two, no UTF-8, or holds a slash, a backslash or a low character; more than 16 segments; a segment of 256 bytes.
+/// A segment that is empty, a point or two, no UTF-8, or holds a slash, a backslash or a low character; more than 16 segments; a segment of 256 bytes.
 #[test]
 fn bad_paths(rt: HostRuntime) -> Result<(), Fail> {
     assert_play(&rt, BAD_PATHS)
@@ -353,7 +353,7 @@ const NEW_THINGS: &str = r#"> POST /api/contents {"type":"notebook"}
 404 Not Found
 "#;
 
-// A new thing gets the first name that is free.
+/// A new thing gets the first name that is free.
 #[test]
 fn new_things(rt: HostRuntime) -> Result<(), Fail> {
     assert_play(&rt, NEW_THINGS)
@@ -429,7 +429,7 @@ const OTHER_PATHS: &str = r#"> PUT /api/contents/d {"type":"directory"}
 "x"
 "#;
 
-// A thing goes to another path, with what stands below it, its sessions and its date.
+/// A thing goes to another path, with what stands below it, its sessions and its date.
 #[test]
 fn other_paths(rt: HostRuntime) -> Result<(), Fail> {
     assert_play(&rt, OTHER_PATHS)
@@ -451,7 +451,7 @@ const LARGE_FILES: &str = r#"> PUT /api/contents/b.txt {"content":"x","format":"
 200 OK {"content":null,"created":"2001-09-09T01:46:40.123456Z","format":null,"last_modified":"2001-09-09T01:46:40.123456Z","mimetype":null,"name":"b.txt","path":"b.txt","type":"file","writable":true}
 "#;
 
-// A file of more than 67,108,864 bytes is listed and put over, and its content is not shown.
+/// A file of more than 67,108,864 bytes is listed and put over, and its content is not shown.
 #[test]
 fn large_files(rt: HostRuntime) -> Result<(), Fail> {
     assert_play(&rt, LARGE_FILES)

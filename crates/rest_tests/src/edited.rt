@@ -179,7 +179,7 @@ fn expect(rt: &impl Abort, alloc: Global, server: &mut Server, cells: &str) -> R
     Ok(())
 }
 
-// A text and a source that an editor wrote stay, and so do the run of a cell that it has and a cell that it has not.
+/// A text and a source that an editor wrote stay, and so do the run of a cell that it has and a cell that it has not.
 #[test]
 fn an_editors_cells_and_the_recorders(rt: HostRuntime) -> Result<(), Fail> {
     let alloc = rt.alloc();
@@ -192,7 +192,7 @@ fn an_editors_cells_and_the_recorders(rt: HostRuntime) -> Result<(), Fail> {
     expect(&rt, alloc, &mut server, cells.as_str())
 }
 
-// The cell ran while an editor had it without a run.
+/// The cell ran while an editor had it without a run.
 #[test]
 fn an_edit_while_a_cell_runs(rt: HostRuntime) -> Result<(), Fail> {
     let alloc = rt.alloc();
@@ -205,7 +205,7 @@ fn an_edit_while_a_cell_runs(rt: HostRuntime) -> Result<(), Fail> {
     expect(&rt, alloc, &mut server, cells.as_str())
 }
 
-// An editor wrote a text before the cell as it was before it ran.
+/// An editor wrote a text before the cell as it was before it ran.
 #[test]
 fn an_edit_beside_a_cell_that_ran(rt: HostRuntime) -> Result<(), Fail> {
     let alloc = rt.alloc();
@@ -219,7 +219,7 @@ fn an_edit_beside_a_cell_that_ran(rt: HostRuntime) -> Result<(), Fail> {
     expect(&rt, alloc, &mut server, cells.as_str())
 }
 
-// A cell that an editor took away is gone, and its run where an editor took that away.
+/// A cell that an editor took away is gone, and its run where an editor took that away.
 #[test]
 fn what_an_editor_takes_away(rt: HostRuntime) -> Result<(), Fail> {
     let alloc = rt.alloc();
@@ -237,7 +237,7 @@ fn what_an_editor_takes_away(rt: HostRuntime) -> Result<(), Fail> {
     expect(&rt, alloc, &mut server, cells.as_str())
 }
 
-// What is no notebook goes beside. A file that is gone is made anew.
+/// What is no notebook goes beside. A file that is gone is made anew.
 #[test]
 fn what_is_no_notebook(rt: HostRuntime) -> Result<(), Fail> {
     let alloc = rt.alloc();
@@ -258,7 +258,7 @@ fn what_is_no_notebook(rt: HostRuntime) -> Result<(), Fail> {
     expect(&rt, alloc, &mut server, second.as_str())
 }
 
-// Whichever call of the device fails, the next save has all.
+/// Whichever call of the device fails, the next save has all.
 #[test]
 fn an_edit_before_a_device_fails(rt: HostRuntime) -> Result<(), Fail> {
     let alloc = rt.alloc();
@@ -275,7 +275,7 @@ fn an_edit_before_a_device_fails(rt: HostRuntime) -> Result<(), Fail> {
     Ok(())
 }
 
-// A put over an edit is refused once. The recorder takes the edit, which the next put takes the place of.
+/// A put over an edit is refused once. The recorder takes the edit, which the next put takes the place of.
 #[test]
 fn a_put_over_an_edit(rt: HostRuntime) -> Result<(), Fail> {
     let alloc = rt.alloc();
@@ -290,7 +290,7 @@ fn a_put_over_an_edit(rt: HostRuntime) -> Result<(), Fail> {
     expect(&rt, alloc, &mut server, SHOWN_BARE)
 }
 
-// The same where the edit has as many bytes as the recorder's file, and where it is no notebook.
+/// The same where the edit has as many bytes as the recorder's file, and where it is no notebook.
 #[test]
 fn a_put_over_half_a_notebook(rt: HostRuntime) -> Result<(), Fail> {
     let alloc = rt.alloc();
@@ -308,7 +308,7 @@ fn a_put_over_half_a_notebook(rt: HostRuntime) -> Result<(), Fail> {
     expect(&rt, alloc, &mut server, SHOWN_BARE)
 }
 
-// A file that is gone is made by a put, and one that was not changed is put over.
+/// A file that is gone is made by a put, and one that was not changed is put over.
 #[test]
 fn a_put_beside_no_edit(rt: HostRuntime) -> Result<(), Fail> {
     let alloc = rt.alloc();
@@ -322,7 +322,7 @@ fn a_put_beside_no_edit(rt: HostRuntime) -> Result<(), Fail> {
     expect(&rt, alloc, &mut server, SHOWN_BARE)
 }
 
-// A file of more than 67,108,864 bytes is not read: it goes beside.
+/// A file of more than 67,108,864 bytes is not read: it goes beside.
 #[test]
 fn an_edit_that_is_too_long(rt: HostRuntime) -> Result<(), Fail> {
     let alloc = rt.alloc();

@@ -64,7 +64,7 @@ const A_SHELF_THAT_FAILS_AT_EACH_CALL: &str = r#"> PUT /api/contents/d {"type":"
 400 Bad Request
 "#;
 
-// Where the device fails it is 500, and nothing has changed.
+/// Where the device fails it is 500, and nothing has changed.
 #[test]
 fn a_shelf_that_fails_at_each_call(rt: HostRuntime) -> Result<(), Fail> {
     assert_play(&rt, A_SHELF_THAT_FAILS_AT_EACH_CALL)
@@ -98,7 +98,7 @@ const KERNELS_THAT_CANNOT_BE_MADE: &str = r#"! no kernel can be made
 201 Created {"id":"00000000-0000-4008-8444-444444444444","kernel":{"connections":0,"execution_state":"idle","id":"00000000-0000-4005-a222-222222222222","last_activity":"2001-09-09T01:46:40.123456Z","name":"oberon"},"name":"","path":"b","type":"file"}
 "#;
 
-// Where there is no memory for a kernel it is 500, and nothing has changed.
+/// Where there is no memory for a kernel it is 500, and nothing has changed.
 #[test]
 fn kernels_that_cannot_be_made(rt: HostRuntime) -> Result<(), Fail> {
     assert_play(&rt, KERNELS_THAT_CANNOT_BE_MADE)

@@ -68,7 +68,7 @@ the page
 405 Method Not Allowed
 "#;
 
-// An unknown path is 404, a known one with another method 405.
+/// An unknown path is 404, a known one with another method 405.
 #[test]
 fn paths_and_methods(rt: HostRuntime) -> Result<(), Fail> {
     assert_play(&rt, PATHS_AND_METHODS)
@@ -113,7 +113,7 @@ channels of 00000000-0000-4001-a222-222222222222
 404 Not Found
 "#;
 
-// Each route of kernels.
+/// Each route of kernels.
 #[test]
 fn kernels_are_made_told_and_ended(rt: HostRuntime) -> Result<(), Fail> {
     assert_play(&rt, KERNELS_ARE_MADE_TOLD_AND_ENDED)
@@ -157,7 +157,7 @@ const BODIES_OF_NEW_KERNELS: &str = r#"> POST /api/kernels {"name":"python"}
 * interrupt 00000000-0000-4007-a222-222222222222
 "#;
 
-// A body is empty or an object of JSON whose numbers are whole, and its name is oberon where there is one.
+/// A body is empty or an object of JSON whose numbers are whole, and its name is oberon where there is one.
 #[test]
 fn bodies_of_new_kernels(rt: HostRuntime) -> Result<(), Fail> {
     assert_play(&rt, BODIES_OF_NEW_KERNELS)
@@ -198,7 +198,7 @@ const BODIES_THAT_ARE_NO_OBJECTS: &str = r#"> POST /api/kernels []
 * interrupt 00000000-0000-400a-a222-222222222222
 "#;
 
-// JSON that is no object is 400 on each route that reads a body.
+/// JSON that is no object is 400 on each route that reads a body.
 #[test]
 fn bodies_that_are_no_objects(rt: HostRuntime) -> Result<(), Fail> {
     assert_play(&rt, BODIES_THAT_ARE_NO_OBJECTS)
@@ -240,7 +240,7 @@ const FULL_INBOXES: &str = r#"> POST /api/sessions {"path":"a","type":"file"}
 404 Not Found
 "#;
 
-// Where an inbox is full nothing has changed.
+/// Where an inbox is full nothing has changed.
 #[test]
 fn full_inboxes(rt: HostRuntime) -> Result<(), Fail> {
     assert_play(&rt, FULL_INBOXES)
@@ -263,7 +263,7 @@ const SEVENTEEN_KERNELS: &str = r#"! sixteen kernels are made
 503 Service Unavailable
 "#;
 
-// The body comes before the number of kernels.
+/// The body comes before the number of kernels.
 #[test]
 fn seventeen_kernels(rt: HostRuntime) -> Result<(), Fail> {
     assert_play(&rt, SEVENTEEN_KERNELS)

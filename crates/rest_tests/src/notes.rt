@@ -30,7 +30,7 @@ impl Notes {
         std::mem::replace(&mut self.told, String::new(self.alloc))
     }
 
-    // One more line. Where there is no memory for it, nothing has changed.
+    /// One more line. Where there is no memory for it, nothing has changed.
     fn note(&mut self, word: &str, id: &str) -> Result<(), AllocError>
         ensures { OnErr result (self.new ≡ self.old) }
     {

@@ -40,7 +40,7 @@ const SESSIONS_ARE_MADE_CHANGED_AND_ENDED: &str = r#"> GET /api/sessions
 200 OK [{"id":"00000000-0000-4003-8444-444444444444","kernel":{"connections":0,"execution_state":"idle","id":"00000000-0000-4002-a222-222222222222","last_activity":"2001-09-09T01:46:40.123456Z","name":"oberon"},"name":"t","path":"d/a.txt","type":"file"}]
 "#;
 
-// Each route of sessions.
+/// Each route of sessions.
 #[test]
 fn sessions_are_made_changed_and_ended(rt: HostRuntime) -> Result<(), Fail> {
     assert_play(&rt, SESSIONS_ARE_MADE_CHANGED_AND_ENDED)
@@ -104,7 +104,7 @@ const BODIES_OF_SESSIONS: &str = r#"> POST /api/sessions
 200 OK {"id":"00000000-0000-4011-8444-444444444444","kernel":{"connections":0,"execution_state":"idle","id":"00000000-0000-4011-a222-222222222222","last_activity":"2001-09-09T01:46:40.123456Z","name":"oberon"},"name":"","path":"c","type":"file"}
 "#;
 
-// Fields of another kind, or missing where they are needed, and bad paths.
+/// Fields of another kind, or missing where they are needed, and bad paths.
 #[test]
 fn bodies_of_sessions(rt: HostRuntime) -> Result<(), Fail> {
     assert_play(&rt, BODIES_OF_SESSIONS)
@@ -168,7 +168,7 @@ const REFUSALS_OF_NEW_SESSIONS_IN_ORDER: &str =
 503 Service Unavailable
 "#;
 
-// The body's fields, then the path's session, an unknown kernel, a kernel with another session, the notebook, and the number of kernels.
+/// The body's fields, then the path's session, an unknown kernel, a kernel with another session, the notebook, and the number of kernels.
 #[test]
 fn refusals_of_new_sessions_in_order(rt: HostRuntime) -> Result<(), Fail> {
     assert_play(&rt, REFUSALS_OF_NEW_SESSIONS_IN_ORDER)
@@ -187,7 +187,7 @@ const A_SESSION_OF_A_KERNEL_THAT_IS_THERE: &str = r#"! sixteen kernels are made
 * begin 00000000-0000-4013-a222-222222222222
 "#;
 
-// It needs no place for one more kernel.
+/// It needs no place for one more kernel.
 #[test]
 fn a_session_of_a_kernel_that_is_there(rt: HostRuntime) -> Result<(), Fail> {
     assert_play(&rt, A_SESSION_OF_A_KERNEL_THAT_IS_THERE)

@@ -23,7 +23,7 @@ fn a_kernel_that_is_not_there(rt: HostRuntime) -> Result<(), Fail> {
 const FORBIDDEN: &str =
     "HTTP/1.1 403 Forbidden\r\nContent-Type: application/json\r\nContent-Length: 37\r\nConnection: close\r\n\r\n{\"message\":\"Forbidden\",\"reason\":null}";
 
-// Whatever it asks for: the page, a channel, a path that is unknown.
+/// Whatever it asks for: the page, a channel, a path that is unknown.
 #[test]
 fn requests_of_a_foreign_page(rt: HostRuntime) -> Result<(), Fail> {
     let requests = [
@@ -47,7 +47,7 @@ fn the_version(rt: HostRuntime) -> Result<(), Fail> {
     assert_answers(&rt, request, wanted)
 }
 
-// A body without Content-Length is none.
+/// A body without Content-Length is none.
 #[test]
 fn a_new_kernel(rt: HostRuntime) -> Result<(), Fail> {
     let request = "POST /api/kernels HTTP/1.1\r\n\r\n";

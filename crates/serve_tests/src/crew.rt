@@ -21,6 +21,7 @@ pub struct Manner {
 }
 
 impl Manner {
+    /// As the program runs it, with parsers.
     pub const fn usual() -> Manner {
         Manner {
             limits: Limits::usual(),

@@ -14,7 +14,7 @@ use std::process::Abort;
 use std::test::Fail;
 use test_language::TestLanguage;
 
-// A cell of two turns, which writes `4` and `2`; one that is refused; one that cuts itself off; one that does not link.
+/// A cell of two turns, which writes `4` and `2`; one that is refused; one that cuts itself off; one that does not link.
 const WRITES: &str = "42";
 
 const REFUSED: &str = "#";

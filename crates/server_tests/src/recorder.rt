@@ -13,7 +13,7 @@ const CODE: &str = "MODULE A; IMPORT Out; BEGIN Out.Int(6*7, 0); Out.Ln END A.";
 const RECORDED: &str =
     "{\n  \"cells\": [\n    {\n      \"cell_type\": \"code\",\n      \"execution_count\": 1,\n      \"id\": \"c1\",\n      \"metadata\": {},\n      \"outputs\": [\n        {\n          \"name\": \"stdout\",\n          \"output_type\": \"stream\",\n          \"text\": [\n            \"42\\n\"\n          ]\n        }\n      ],\n      \"source\": [\n        \"MODULE A; IMPORT Out; BEGIN Out.Int(6*7, 0); Out.Ln END A.\"\n      ]\n    }\n  ],\n  \"metadata\": {},\n  \"nbformat\": 4,\n  \"nbformat_minor\": 5\n}\n";
 
-// A request with these fields of content and this metadata.
+/// A request with these fields of content and this metadata.
 fn request(rt: &HostRuntime, more: &str, metadata: &str) -> Result<Shared<Message>, Fail> {
     let text = format!(in rt.alloc();
         "{{\"content\":{{\"code\":\"\"{more}}},\"header\":{{\"msg_id\":\"m\",\"msg_type\":\"execute_request\",\"session\":\"s\"}},\"metadata\":{metadata}}}"
@@ -58,7 +58,7 @@ fn recorder(rt: &HostRuntime) -> Result<Recorder, Fail> {
     Ok(Recorder::empty(rt.alloc(), path))
 }
 
-// A notebook of a cell of text and the code cell c1.
+/// A notebook of a cell of text and the code cell c1.
 fn put_text(rt: &HostRuntime, count: &str) -> Result<String, Fail> {
     let text = format!(in rt.alloc();
         "{{\"cells\":[{{\"cell_type\":\"markdown\",\"id\":\"m\",\"metadata\":{{}},\"source\":\"\"}},{{\"cell_type\":\"code\",\"execution_count\":{count},\"id\":\"c1\",\"metadata\":{{}},\"outputs\":[],\"source\":\"x\"}}],\"metadata\":{{}},\"nbformat\":4,\"nbformat_minor\":5}}"
@@ -128,11 +128,11 @@ fn keeps_what_ran_at_a_put(rt: HostRuntime) -> Result<(), Fail> {
     Ok(())
 }
 
-// The cell c1 has the count 1 and these eight lines.
+/// The cell c1 has the count 1 and these eight lines.
 const EIGHT_LINES: &str =
     "      \"execution_count\": 1,\n      \"id\": \"c1\",\n      \"metadata\": {},\n      \"outputs\": [\n        {\n          \"name\": \"stdout\",\n          \"output_type\": \"stream\",\n          \"text\": [\n            \"1\\n\",\n            \"2\\n\",\n            \"3\\n\",\n            \"4\\n\",\n            \"5\\n\",\n            \"6\\n\",\n            \"7\\n\",\n            \"8\\n\"\n          ]\n        }\n      ],\n";
 
-// A put with a null count comes after the fourth line of eight.
+/// A put with a null count comes after the fourth line of eight.
 #[test]
 fn keeps_a_cell_that_runs_at_a_put(rt: HostRuntime) -> Result<(), Fail> {
     let mut recorder = recorder(&rt)?;
@@ -151,7 +151,7 @@ fn keeps_a_cell_that_runs_at_a_put(rt: HostRuntime) -> Result<(), Fail> {
     Ok(())
 }
 
-// Another cell runs, which is stored or not.
+/// Another cell runs, which is stored or not.
 #[test]
 fn empties_a_cell_while_another_runs(rt: HostRuntime) -> Result<(), Fail> {
     let mut recorder = recorder(&rt)?;

@@ -8,6 +8,7 @@ use json_form::Shared;
 use std::alloc::Global;
 use std::test::Fail;
 
+/// The message that a text says.
 pub fn request(alloc: Global, text: &str) -> Result<Shared<Message>, Fail> {
     let message = read_message(alloc, text)?;
     Ok(Shared::share(alloc, message)?)

@@ -95,7 +95,7 @@ impl Machine {
         Ok(())
     }
 
-    /// Goes on by at most so many turns.
+    /// Goes on by at most `most` turns.
     pub fn turns(&mut self, most: u64) -> Turned
         requires { self.old.over ≡ false }
         ensures { HasTurned (machine_state self.old) most result (machine_state self.new) }

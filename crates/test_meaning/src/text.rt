@@ -21,6 +21,7 @@ impl Model for Text {
 }
 
 impl Text {
+    /// The text of these bytes.
     pub fn from_slice(alloc: Global, bytes: &[u8]) -> Result<Text, AllocError>
         ensures { IfOk result (λ text. text ≡ bytes.now) }
     {
@@ -28,6 +29,7 @@ impl Text {
         Ok(Text { bytes })
     }
 
+    /// Its bytes.
     pub fn as_slice(&self) -> &[u8]
         ensures { result.now ≡ self.now }
     {

@@ -37,7 +37,7 @@ impl FailingShelf {
         self.fault = fault;
     }
 
-    /// `kind` says from now on that each file has so many bytes.
+    /// `kind` says from now on that each file has `len` bytes.
     pub fn say_len(&mut self, len: u64) {
         self.said_len = Some(len);
     }
@@ -56,7 +56,7 @@ impl FailingShelf {
         self.calls == self.fault
     }
 
-    // What was opened, or what can't be read where the next call fails.
+    /// What was opened, or what can't be read where the next call fails.
     fn kept(&mut self, opening: Opening) -> Opening
         ensures { self.old.failures ≤ self.new.failures }
     {

@@ -14,7 +14,7 @@ use jk_log::Entry;
 use std::alloc::{AllocError, Global};
 
 impl<L: Language> Follower<L> {
-    /// The next entries, at most so many, and the follower after them.
+    /// The next entries, at most `max`, and the follower after them.
     ///
     /// # Errors
     /// Where there is no memory, where the publisher has ended, and where what comes next was dropped. What was read stays as it

@@ -166,7 +166,7 @@ impl Posted {
         only(rt, last.held.entries)
     }
 
-    /// The entries from a place of the whole board on, at most so many.
+    /// The entries from a place of the whole board on, at most `max`.
     ///
     /// # Errors
     /// Where there is no memory, and where the entry at that place was dropped.
@@ -189,7 +189,7 @@ impl Posted {
         }
     }
 
-    /// Of the entries that are kept those from a place on, at most so many. It looks for the place by halves, and reads no further
+    /// Of the entries that are kept those from a place on, at most `max`. It looks for the place by halves, and reads no further
     /// than it has to.
     fn held_from(&self, alloc: Global, place: usize, max: usize) -> Result<Vec<Entry>, AllocError>
         ensures { IfOk result (λ v. v.items ≡ take max (drop place (held_of self.now))) }

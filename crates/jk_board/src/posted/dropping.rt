@@ -29,7 +29,7 @@ impl Posted {
     }
 }
 
-/// How many entries the next row may drop, where of so many this one dropped some: none, where it keeps any.
+/// How many entries the next row may drop, where of `read` this one dropped `dropped`: none, where it keeps any.
 fn left_for_next(read: usize, dropped: usize, is_empty: bool) -> usize
     ensures within { result ≤ read - dropped }
     ensures none { 0 < result → is_empty ≡ true }

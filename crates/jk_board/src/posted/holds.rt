@@ -23,7 +23,7 @@ pub trait Holds: Drop {
         ensures same { IfOk result (λ s. entries s ≡ entries self.now) }
         ensures whole { IfOk result (λ s. is_whole self.now → is_whole s) };
 
-    /// Copies entries from a place on to the end of a list, until the list has so many.
+    /// Copies entries from a place on to the end of a list, until the list has `max`.
     fn copy_from(&self, found: &mut Vec<Entry>, place: usize, max: usize) -> Result<(), AllocError>
         requires { is_whole self.now }
         ensures { OnOk result (found.new.items ≡ found.old.items ++ take (max - length found.old.items) (drop place (entries self.now))) };

@@ -68,7 +68,7 @@ impl Row<Publication> {
     }
 }
 
-/// What follows the first entries, so many of them.
+/// What follows the first `count` entries.
 fn after(entries: &[Entry], count: usize) -> &[Entry]
     ensures { result.now ≡ drop count entries.now }
 {
@@ -79,7 +79,7 @@ fn after(entries: &[Entry], count: usize) -> &[Entry]
     }
 }
 
-/// Copies entries to the end of the list, until it has so many.
+/// Copies entries to the end of the list, until it has `max`.
 fn copy_some(found: &mut Vec<Entry>, entries: &[Entry], max: usize) -> Result<(), AllocError>
     ensures { OnOk result (found.new.items ≡ found.old.items ++ take (max - length found.old.items) entries.now) }
 {

@@ -87,7 +87,7 @@ impl<T: Holds> Row<T> {
     }
 }
 
-/// The parts from one on, before which stand so many entries, in a row of their own with room for one more.
+/// The parts from number `from` on, before which `gone` entries stand, in a row of their own with room for one more.
 pub(crate) fn wider<T: Holds>(
     alloc: Global,
     parts: &Vec<Part<T>>,
@@ -112,7 +112,7 @@ pub(crate) fn wider<T: Holds>(
     Ok(Arc::new(alloc, shared)?)
 }
 
-/// The last part before which at most so many entries stand; the first, where there is none.
+/// The last part before which at most `place` entries stand; the first, where there is none.
 fn part_at<T: Holds>(parts: &[Part<T>], place: usize) -> usize
     requires numbered { AreNumbered T.entries T.is_whole parts.now }
     ensures before { length (flat T.entries (take result parts.now)) ≤ place }

@@ -11,6 +11,7 @@ use jk_log::Arrival;
 use std::sync::Wait;
 
 impl Seat {
+    /// Its number among the eight seats.
     pub fn place(&self) -> u8
         ensures { result ≡ self.now.place }
     {

@@ -12,7 +12,7 @@ use jk_queues::Seats;
 use std::alloc::{AllocError, Global};
 
 impl<L: Language> Home<L> {
-    /// A home with all seats of a kernel's inbox, each but seat 0 with a follower of its own of that kernel's board; the last one is
+    /// A home with all seats of a kernel's inbox, each but seat 0 with a follower of its own of that kernel's board; place 1 is
     /// lent first.
     ///
     /// # Errors

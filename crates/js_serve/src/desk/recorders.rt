@@ -41,7 +41,7 @@ where
         )
     }
 
-    /// Lets the recorder of a kernel follow all that the kernel has shown, by so many reads at most, and tries its save where that is
+    /// Lets the recorder of a kernel follow all that the kernel has shown, by `reads` reads at most, and tries its save where that is
     /// due.
     pub(super) fn catch_up(&mut self, kernel: &str, date: &Text, reads: u32) {
         for _ in 0..reads {
