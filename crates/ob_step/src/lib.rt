@@ -14,4 +14,4 @@ pub mod step;
 mod texts;
 pub mod turn;
 mod values;
-mod waits;
+pub mod waits;

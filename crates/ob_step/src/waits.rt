@@ -1,12 +1,12 @@
 //! What stands before a turn: whether it is one.
 
-ghost use Rattle.std.specs.Prelude.{◌≡◌, ◌+◌, ◌<◌, ◌^◌};
+ghost use Rattle.std.specs.Prelude.{◌≡◌, ◌+◌, ◌<◌, ◌^◌, true};
 ghost use Rattle.ob_code.specs.Machine.{perform};
 ghost use Rattle.ob_code.specs.Places.{top_of, IsTextIn};
 ghost use Rattle.ob_code.specs.declared.instr.Instr.TheVariants as instr;
 ghost use Rattle.ob_step.specs.States.{config_of};
 ghost use Rattle.ob_step.specs.Needs.{IsCallable, HasOne, HasTwo};
-ghost use Rattle.ob_step.specs.Steps.{Performed};
+ghost use Rattle.ob_step.specs.Steps.{Performed, IsTurn};
 
 use crate::operands::{top, top_two};
 use crate::state::{State, Step};
@@ -26,6 +26,15 @@ pub fn invoke(code: &[LinkedModule], state: &mut State, callee: Callee, line: us
     } else {
         Step::MeetsTrap(TrapKind::CallDepth, line)
     }
+}
+
+/// Whether a call is a turn: not too many are open.
+#[inline(always)]
+pub fn may_call(code: &[LinkedModule], state: &State, callee: Callee, line: usize) -> bool
+    requires callable { IsCallable code.now state.now callee }
+    ensures { result ≡ true → IsTurn (perform code.now (instr.Invoke callee line) (config_of state.now)) }
+{
+    state.frames.len() < MAX_DEPTH
 }
 
 /// Out.Char.
