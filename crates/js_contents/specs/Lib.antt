@@ -7,3 +7,4 @@ pub mod Lists
 pub mod Reads
 pub mod Puts
 pub mod Stores
+pub mod Shown

@@ -9,6 +9,7 @@ mod notebook;
 mod place;
 mod put;
 mod read;
+mod shown;
 mod store;
 
 pub use kind::{about_at, is_notebook_name};

@@ -13,11 +13,12 @@ use crate::list::objects;
 use crate::look::{is_folder, kind_at, names_in, open_at};
 use crate::notebook::notebook_in;
 use crate::place::{Place, place_of};
+use crate::shown::notebook_body;
 use base64::engine::general_purpose::STANDARD;
 use js_http::{Bytes, ErrorStatus, Request, Response, query_value};
 use js_shelf::{Item, ItemKind, Name, Opening, Shelf};
 use js_tables::{About, Kind, Plan, Refusal, Tables, json_body, model_value, reply, text_value};
-use nb_doc::{Row, notebook_value};
+use nb_doc::Row;
 use serde_json::Value;
 use std::alloc::{AllocError, Global};
 
@@ -131,9 +132,8 @@ fn notebook_plan(alloc: Global, about: &About, bytes: &[u8]) -> Result<Plan, Ref
     ensures { Gives result (spec.notebook_plan about.now bytes.now) }
 {
     let notebook = notebook_in(alloc, bytes)?;
-    let content = notebook_value(alloc, &notebook)?;
-    let value = json_model(alloc, about, content)?;
-    Ok(shown(alloc, &value)?)
+    let body = notebook_body(alloc, about, &notebook)?;
+    Ok(reply(Response::Success(body)))
 }
 
 fn file_plan(alloc: Global, about: &About, bytes: &[u8]) -> Result<Plan, Refusal>

@@ -6,7 +6,8 @@ ghost use Rattle.nb_doc.specs.Building.{empty_notebook};
 ghost use Rattle.nb_doc.specs.Documents.{IsDocument};
 ghost use Rattle.nb_doc.specs.Writing.{notebook_form, notebook_text};
 
-use nb_doc::{Notebook, write_notebook};
+use nb_doc::Notebook;
+use nb_text::write_notebook;
 use std::alloc::{AllocError, Global};
 use std::marker::Model;
 
