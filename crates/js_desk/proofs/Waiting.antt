@@ -1,5 +1,5 @@
 -- Each who waits is given back once or waits still.
-use Rattle.std.proofs.Common.{◌≡◌, ◌<◌, ◌+◌, ℕ, zero, suc, List, [], ◌∷◌, ◌++◌, length, slice_index_or, slice_set, set, take, drop, sym, refl, ap, ◌∙◌, subst, append_assoc, append-nil, arith}
+use Rattle.std.proofs.Common.{Bool, true, false, Result, Ok, Err, OnOk, OnErr, ◌≡◌, ◌<◌, ◌+◌, ℕ, zero, suc, List, [], ◌∷◌, ◌++◌, length, slice_index_or, slice_set, set, take, drop, sym, refl, ap, ◌∙◌, subst, append_assoc, append-nil, arith}
 use Rattle.std.specs.List.{remove}
 use Rattle.std.specs.List.Sorted.{IsPermutation}
 use Rattle.std.proofs.lemmas.List.{take-set, drop-set-lt}
@@ -66,7 +66,7 @@ module _ {W : Type 0} where
       (IsPermutation-middle e.waiters w rest)
       (IsPermutation-sym (w ∷ waiting old) (w ∷ (e.waiters ++ rest)) (IsPermutation-cons w (waiting old) (e.waiters ++ rest) (apart old place e low is)))))))
 
-  let_go_waiting : (place : ℕ) (ws : List W) (old new : List (Row W)) → LetsGo place ws old new → IsPermutation (ws ++ waiting new) (waiting old)
+  pub let_go_waiting : (place : ℕ) (ws : List W) (old new : List (Row W)) → LetsGo place ws old new → IsPermutation (ws ++ waiting new) (waiting old)
   let_go_waiting place ws old new (e, f, low, is, (these, (same, none)), now) =
       let rest : List W = waiting (remove old place) in
       let left : IsPermutation (waiting new) rest =
@@ -74,10 +74,20 @@ module _ {W : Type 0} where
       IsPermutation-trans (ws ++ waiting new) (ws ++ rest) (waiting old) (IsPermutation-append_right ws (waiting new) rest left)
       (IsPermutation-sym (waiting old) (ws ++ rest) (subst (λ l. IsPermutation (waiting old) (l ++ rest)) (sym these) (apart old place e low is)))
 
-  end_waiting : (place : ℕ) (ws : List W) (old new : List (Row W)) → Ends place ws old new → IsPermutation (ws ++ waiting new) (waiting old)
+  pub end_waiting : (place : ℕ) (ws : List W) (old new : List (Row W)) → Ends place ws old new → IsPermutation (ws ++ waiting new) (waiting old)
   end_waiting place ws old new (e, low, is, these, now) =
       subst (λ l. IsPermutation (ws ++ waiting l) (waiting old)) (sym now)
       (IsPermutation-sym (waiting old) (ws ++ waiting (remove old place)) (subst (λ l. IsPermutation (waiting old) (l ++ waiting (remove old place))) (sym these) (apart old place e low is)))
+
+  -- whether it was ending already, or ends now, or there was no memory
+  pub begun : {E : Type 0} (r : Result (Unit {0}) E) (b : Bool) (kernel : List ℕ) (old new : List (Row W)) → (b ≡ true → new ≡ old)
+      → (b ≡ false → OnOk r (Begins kernel old new)) → OnErr r (new ≡ old) → waiting new ≡ waiting old
+  begun r true kernel old new there fresh err = ap waiting (there refl)
+  begun (Ok done) false kernel old new there fresh err = begin_waiting kernel old new (fresh refl)
+  begun (Err e) false kernel old new there fresh err = ap waiting err
+
+  pub joins_waiting : (kernel : List ℕ) (w : W) (old new : List (Row W)) → Joins kernel w old new → IsPermutation (waiting new) (w ∷ waiting old)
+  joins_waiting kernel w old new (place, there, does) = join_waiting place w old new does
 
   -- ---- lists of acts
 

@@ -1,3 +1,5 @@
 pub mod Rows
 pub mod Endings
 pub mod Acts
+pub mod Kept
+pub mod Askers

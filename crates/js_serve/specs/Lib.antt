@@ -3,3 +3,4 @@ pub mod Recording
 pub mod Told
 pub mod Hosting
 pub mod Channels
+pub mod Asking

@@ -1,6 +1,9 @@
 //! The desk: the one thread that has the tables, the kernels and the files, and answers requests one after the other.
+ghost use Rattle.std.specs.Prelude.{◌≡◌, None};
+ghost use Rattle.js_desk.specs.Askers.{AreAnsweredOnce};
 
 use crate::call::{Call, Reply, Upgrade};
+use crate::client::{Client, Made, Matter, admit, refused};
 use crate::clock::{date_now, given_now};
 use crate::concern::{Concern, concern_of};
 use crate::driving::Opened;
@@ -10,7 +13,7 @@ use crate::pulse::{QUICK, Rhythm, Round};
 use crossbeam_channel::{Receiver, Sender, unbounded};
 use ends::Delay;
 use jk_language::Language;
-use js_desk::{Endings, Held};
+use js_desk::Askers;
 use js_http::{ErrorStatus, Request, Response};
 use js_paced::Selector;
 use js_rest::{Manager, Outcome, ReadRequest, Running};
@@ -32,16 +35,7 @@ mod stopping;
 /// How many jobs may wait with no memory for more: the thread that calls for recorders, and some more.
 const ROOM: usize = 4;
 
-/// A kernel whose thread was given out, and the reply that waits for its ends.
-#[derive(Drop)]
-struct Awaited<L: Language> {
-    opened: Receiver<Opened<L>>,
-    response: Response,
-    reply: Sender<Reply<L>>,
-}
-
-/// The tables with the kernels, the files, and what is still to be done.
-#[derive(Drop)]
+/// The tables with the kernels, the files, who has asked, and what is still to be done. It can't be dropped, and ends by `close`.
 pub struct Desk<L: Language, R: Wait + Drop, S: Drop>
 where
     Kernels<R, L>: Running,
@@ -53,7 +47,8 @@ where
     /// Where connections tell their calls, and where these come.
     sender: Sender<Call<L>>,
     calls: Receiver<Call<L>>,
-    awaited: Option<Awaited<L>>,
+    /// All who have asked, each of whom was answered once or waits.
+    clients: Askers<Client<L>, ReadRequest, Made<L>>,
     /// What is to be started next, the last one first.
     jobs: Vec<Job<L>>,
     /// Where the thread that calls for recorders is told how long it pauses, in milliseconds. There is none where that thread could
@@ -64,21 +59,10 @@ where
     rhythm: Rhythm,
     /// The look at all recorders that is under way, if there is one.
     round: Option<Round>,
-    /// The kernels that are ending, and the replies that wait for their ends.
-    endings: Endings<Sender<Reply<L>>>,
-    /// Requests that wait for kernels that are ending.
-    held: Held<Asked<L>>,
     /// How far the server has stopped, once it was told to.
     stopping: Option<Stopping>,
     /// What the stream of the next channel rests by.
     selector: Option<Selector>,
-}
-
-/// A request that waits, and where its reply goes.
-#[derive(Drop)]
-struct Asked<L: Language> {
-    request: ReadRequest,
-    reply: Sender<Reply<L>>,
 }
 
 impl<L, R, S> Desk<L, R, S>
@@ -103,14 +87,12 @@ where
             shelf,
             sender,
             calls,
-            awaited: None,
+            clients: Askers::new(alloc),
             jobs,
             pauses: None,
             beats: false,
             rhythm: Rhythm::new(),
             round: None,
-            endings: Endings::new(alloc),
-            held: Held::new(alloc),
             stopping: None,
             selector: None,
         })
@@ -128,20 +110,30 @@ where
     }
 
     /// Does what is to be done next, and answers the job for which a thread is to be started now, if there is one. Where none
-    /// can be started the job is to be dropped. Once the server has stopped nothing is done any more.
-    pub fn next(&mut self) -> Option<Job<L>> {
+    /// can be started the job is to be dropped. Once the server has stopped nothing is done any more. Each who has asked was
+    /// answered once then, or waits for a kernel that is made or ends.
+    pub fn next(&mut self) -> Option<Job<L>>
+        ensures settled { self.new.clients.turn ≡ None }
+        ensures once { AreAnsweredOnce self.new.clients }
+    {
+        let job = self.do_next();
+        self.clients.settle(&self.rt);
+        job
+    }
+
+    fn do_next(&mut self) -> Option<Job<L>> {
         if let Some(job) = self.jobs.pop() {
             return Some(job);
         }
-        if let Some(awaited) = self.awaited.take() {
-            self.await_ends(awaited);
+        if let Some(made) = self.clients.take_made() {
+            self.await_ends(made);
             return None;
         }
         if self.stopping.is_some() {
             return self.stop_on();
         }
-        if let Some(asked) = self.held.next() {
-            return self.reply_to(asked.request, asked.reply);
+        if let Some(request) = self.clients.next_held() {
+            return self.reply_to(request);
         }
         if let Some(round) = self.round.take() {
             return self.go_on(round);
@@ -151,21 +143,21 @@ where
     }
 
     fn take(&mut self, call: Call<L>) -> Option<Job<L>> {
-        match call {
-            Call::Accepted(stream) => {
+        match admit(&self.rt, &mut self.clients, call) {
+            Matter::Accepted(stream) => {
                 let calls = self.sender.clone().ok()?;
                 Some(Job::Connection(stream, calls))
             }
-            Call::Asked(request, reply) => self.reply_or_refuse(request, reply),
-            Call::Written => {
+            Matter::Asked(request) => self.reply_or_refuse(request),
+            Matter::Written => {
                 self.note_written();
                 None
             }
-            Call::Back => {
+            Matter::Back => {
                 self.take_back();
                 None
             }
-            Call::Pulse => {
+            Matter::Pulse => {
                 self.beat();
                 None
             }
@@ -178,37 +170,36 @@ where
         self.manager.running.drop_left();
     }
 
+    /// Answers whoever is to be answered now.
+    fn send(&mut self, answer: Reply<L>) {
+        self.clients.answer(&self.rt, answer);
+    }
+
     /// Replies to a request, after a look at what the kernels have published. Where it made a kernel, the answer is the job of
     /// its thread, and the reply waits for it. A request that is about a kernel that is ending, its session or its notebook waits for
     /// that end.
-    fn reply_to(&mut self, request: ReadRequest, reply: Sender<Reply<L>>) -> Option<Job<L>> {
+    fn reply_to(&mut self, request: ReadRequest) -> Option<Job<L>> {
         let Some(given) = given_now(&self.rt, self.alloc) else {
-            self.send(reply, refused(ErrorStatus::InternalServerError));
+            self.send(refused(ErrorStatus::InternalServerError));
             return None;
         };
         self.look(&given.date);
         let concern = concern_of(self.alloc, request.request());
         match self.turn_of(request.request().method, &concern) {
-            Delay::No => self.answer(request, &concern, &given, reply),
+            Delay::No => self.answer(request, &concern, &given),
             Delay::Join(id) => {
-                self.end_later(id.as_str(), reply);
+                self.end_later(id.as_str());
                 None
             }
             Delay::Hold => {
-                self.hold(request, reply);
+                self.hold(request);
                 None
             }
         }
     }
 
     /// Replies to a request now. The recorders of the notebooks that it is about have followed what was shown before.
-    fn answer(
-        &mut self,
-        request: ReadRequest,
-        concern: &Concern,
-        given: &Given,
-        reply: Sender<Reply<L>>,
-    ) -> Option<Job<L>> {
+    fn answer(&mut self, request: ReadRequest, concern: &Concern, given: &Given) -> Option<Job<L>> {
         match concern {
             Concern::File(path) => self.catch_up_at(path.as_str(), &given.date),
             Concern::Paths => self.catch_up_at("", &given.date),
@@ -220,62 +211,54 @@ where
             .step(self.alloc, &mut self.shelf, given, &request, prepared);
         self.start_recorders();
         match outcome {
-            Outcome::Answered(answer) => self.carry_on(answer, &request, given, reply),
+            Outcome::Answered(answer) => self.carry_on(answer, &request, given),
             Outcome::Shown(about, opening) => {
-                self.send(reply, Reply::Shown(about, opening));
+                self.send(Reply::Shown(about, opening));
                 None
             }
         }
     }
 
     /// Replies as an answer says.
-    fn carry_on(
-        &mut self,
-        answer: Answer,
-        request: &Request,
-        given: &Given,
-        reply: Sender<Reply<L>>,
-    ) -> Option<Job<L>> {
+    fn carry_on(&mut self, answer: Answer, request: &Request, given: &Given) -> Option<Job<L>> {
         match answer {
-            Answer::Reply(response) => self.respond(response, reply),
+            Answer::Reply(response) => self.respond(response),
             Answer::Channels(id) => {
                 let channel = self.channel_for(request, id, given);
-                self.send(reply, channel);
+                self.send(channel);
                 None
             }
             Answer::Ends(id) => {
-                self.end_later(id.as_str(), reply);
+                self.end_later(id.as_str());
                 None
             }
             Answer::Page => {
-                self.send(reply, Reply::Page);
+                self.send(Reply::Page);
                 None
             }
             Answer::Stops => {
-                self.stop(reply);
+                self.stop();
                 None
             }
         }
     }
 
-    fn send(&self, reply: Sender<Reply<L>>, answer: Reply<L>) {
-        let _ = reply.send(&self.rt, answer);
-    }
-
     /// Sends a response, or lets it wait for the kernel that was made.
-    fn respond(&mut self, response: Response, reply: Sender<Reply<L>>) -> Option<Job<L>> {
+    fn respond(&mut self, response: Response) -> Option<Job<L>> {
         match self.manager.running.take_unopened() {
             Some(unopened) => {
                 let Unopened { opening, opened } = unopened;
-                self.awaited = Some(Awaited {
-                    opened,
-                    response,
-                    reply,
-                });
+                if self
+                    .clients
+                    .wait_for_made(Made { opened, response })
+                    .is_some()
+                {
+                    self.manager.running.drop_last();
+                }
                 Some(Job::Drive(opening))
             }
             None => {
-                self.send(reply, Reply::Response(response));
+                self.send(Reply::Response(response));
                 None
             }
         }
@@ -283,19 +266,15 @@ where
 
     /// Waits for the ends of a new kernel, and sends the response that waits for them. Where none come the kernel is gone, and
     /// its row goes before the next answer.
-    fn await_ends(&mut self, awaited: Awaited<L>) {
-        let Awaited {
-            opened,
-            response,
-            reply,
-        } = awaited;
+    fn await_ends(&mut self, made: Made<L>) {
+        let Made { opened, response } = made;
         let answer = if self.take_opened(&opened) {
             self.start_recorders();
             Reply::Response(response)
         } else {
             refused(ErrorStatus::InternalServerError)
         };
-        self.send(reply, answer);
+        self.send(answer);
     }
 
     fn take_opened(&mut self, opened: &Receiver<Opened<L>>) -> bool {
@@ -339,9 +318,4 @@ where
             Err(_) => refused(ErrorStatus::InternalServerError),
         }
     }
-}
-
-/// A refusal with a status.
-fn refused<L: Language>(status: ErrorStatus) -> Reply<L> {
-    Reply::Response(Response::Refused(status))
 }

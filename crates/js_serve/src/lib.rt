@@ -4,6 +4,7 @@
 mod bell;
 mod call;
 mod channel;
+mod client;
 mod clock;
 mod concern;
 mod connection;
@@ -24,6 +25,7 @@ mod watch;
 
 pub use bell::Bell;
 pub use call::{Call, Place, Reply, Upgrade};
+pub use client::{Client, Made};
 pub use crowd::{Guest, Ticket};
 pub use desk::Desk;
 pub use driving::{NewKernel, Opened, Opening, drive_kernel};

@@ -150,9 +150,11 @@ where
         None => false,
     };
     if !accepts {
+        drop(desk.close());
         return Err(Unserved::Memory);
     }
     if announce(output, port).is_err() {
+        drop(desk.close());
         return Err(Unserved::Device);
     }
     for _ in rt.forever() {
@@ -163,6 +165,7 @@ where
             let _ = start(rt, alloc, job);
         }
         if desk.has_stopped() {
+            drop(desk.close());
             return Ok(());
         }
     }

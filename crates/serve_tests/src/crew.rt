@@ -9,7 +9,7 @@ use std::random::RandomSource;
 use std::sync::Wait;
 use std::thread::{JoinHandle, Threads};
 use std::time::Clock;
-use std::{io, mem, thread};
+use std::{io, thread};
 use test_language::TestLanguage;
 
 /// How a server is run.
@@ -88,8 +88,7 @@ where
             break;
         }
     }
-    let none = MemoryShelf::new(alloc).ok()?;
-    Some(mem::replace(desk.shelf(), none))
+    Some(desk.close())
 }
 
 /// A server that runs in a thread of its own.

@@ -1,13 +1,12 @@
 //! Kernels that end: who waits for that, and the rows that go.
 
-use super::{Asked, Desk, refused};
-use crate::call::Reply;
+use super::Desk;
+use crate::client::refused;
 use crate::concern::{Concern, id_in, is_within};
 use crate::kernels::Kernels;
 use crate::pulse::QUICK;
-use crossbeam_channel::Sender;
 use jk_language::Language;
-use js_http::{ErrorStatus, Method, Response};
+use js_http::{ErrorStatus, Method};
 use js_rest::{ReadRequest, Running};
 use js_shelf::Shelf;
 use js_tables::{Kernel, Update, find_by_session, find_kernel};
@@ -38,23 +37,22 @@ where
 {
     /// Ends the kernels whose recorders were told all that they show. Those who have waited long enough for another are answered.
     pub(super) fn end_ended(&mut self, date: &Text) {
-        for place in (0..self.endings.len()).rev() {
+        for place in (0..self.clients.endings().len()).rev() {
             let Some(kernel) = self.ending_at(place) else {
                 continue;
             };
             self.catch_up(kernel.as_str(), date, FEW_READS);
             if self.manager.running.is_read(kernel.as_str()) {
                 self.end_at(place, kernel);
-            } else if self.endings.is_late(&self.rt, place) {
-                let late = self.endings.let_go(self.alloc, place);
-                self.tell_waiters(late);
+            } else if self.clients.endings().is_late(&self.rt, place) {
+                self.clients.let_go(&self.rt, self.alloc, place);
             }
         }
     }
 
     /// The kernel that is ending in a row.
     fn ending_at(&self, place: usize) -> Option<Text> {
-        self.endings.kernel(place)?.copy().ok()
+        self.clients.endings().kernel(place)?.copy().ok()
     }
 
     /// The kernel that is ending in a row goes, with its recorder, and those who wait for that are answered.
@@ -63,36 +61,25 @@ where
         if !self.drop_row(kernel) {
             return;
         }
-        let waiters = self.endings.end(place);
-        self.tell_waiters(waiters);
-        self.held.look_again();
+        self.clients.end(&self.rt, place);
+        self.clients.look_again();
         self.manager.running.follow();
         self.manager.running.drop_left();
     }
 
-    /// Answers those who waited for a kernel's end.
-    fn tell_waiters(&self, waiters: Option<Vec<Sender<Reply<L>>>>) {
-        let Some(waiters) = waiters else {
-            return;
-        };
-        for reply in waiters {
-            self.send(reply, Reply::Response(Response::NoContent));
-        }
-    }
-
     /// The kernel of that identifier was told to shut down. The reply waits until its recorder was told all that it shows.
-    pub(super) fn end_later(&mut self, id: &str, reply: Sender<Reply<L>>) {
-        let _ = self.endings.begin(self.alloc, id);
+    pub(super) fn end_later(&mut self, id: &str) {
+        let _ = self.clients.begin_end(self.alloc, id);
         let now = Instant::now(&self.rt).ok();
-        if let Some(reply) = self.endings.join(id, reply, now) {
-            self.send(reply, refused(ErrorStatus::InternalServerError));
+        if !self.clients.join(id, now) {
+            self.send(refused(ErrorStatus::InternalServerError));
         }
         self.ring(QUICK);
     }
 
     /// Whether a request has to wait for a kernel that is ending.
     pub(super) fn turn_of(&self, method: Method, concern: &Concern) -> Delay {
-        if self.endings.is_empty() {
+        if self.clients.endings().is_empty() {
             return Delay::No;
         }
         let kernels = &self.manager.tables.kernels;
@@ -120,7 +107,7 @@ where
         let Some(kernel) = kernel else {
             return Delay::No;
         };
-        if !self.endings.has(kernel.id.as_str()) {
+        if !self.clients.endings().has(kernel.id.as_str()) {
             return Delay::No;
         }
         match kernel.id.copy() {
@@ -147,16 +134,17 @@ where
     fn is_ending_at(&self, kernel: &Kernel, path: &str) -> bool {
         match &kernel.session {
             Some(session) => {
-                self.endings.has(kernel.id.as_str()) && is_within(session.path.as_str(), path)
+                self.clients.endings().has(kernel.id.as_str())
+                    && is_within(session.path.as_str(), path)
             }
             None => false,
         }
     }
 
     /// Lets a request wait for a kernel that is ending.
-    pub(super) fn hold(&mut self, request: ReadRequest, reply: Sender<Reply<L>>) {
-        if let Some(asked) = self.held.hold(Asked { request, reply }) {
-            self.send(asked.reply, refused(ErrorStatus::InternalServerError));
+    pub(super) fn hold(&mut self, request: ReadRequest) {
+        if !self.clients.hold(request) {
+            self.send(refused(ErrorStatus::InternalServerError));
         }
     }
 
@@ -177,7 +165,7 @@ where
         for place in (0..self.manager.tables.kernels.len()).rev() {
             if let Some(id) = self.ended_at(place) {
                 if self.is_recorded(id.as_str()) {
-                    if self.endings.begin(self.alloc, id.as_str()).is_ok() {
+                    if self.clients.begin_end(self.alloc, id.as_str()).is_ok() {
                         self.ring(QUICK);
                     }
                 } else {
@@ -195,7 +183,7 @@ where
     /// The identifier of the kernel in a row that was shut down or is gone, and is not ending already.
     fn ended_at(&mut self, place: usize) -> Option<Text> {
         let id = self.manager.tables.kernels.get(place)?.id.copy().ok()?;
-        if self.endings.has(id.as_str()) || !self.manager.running.has_ended(id.as_str()) {
+        if self.clients.endings().has(id.as_str()) || !self.manager.running.has_ended(id.as_str()) {
             return None;
         }
         Some(id)

@@ -117,7 +117,7 @@ where
 
     /// What was found, or that a kernel is ending where that is more urgent.
     fn or_ending(&self, found: Found) -> Found {
-        if self.endings.is_empty() {
+        if self.clients.endings().is_empty() {
             found
         } else {
             found.or(Found::Ending)

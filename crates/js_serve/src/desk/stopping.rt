@@ -1,13 +1,13 @@
 //! How the server stops: each kernel is ended as its DELETE ends it, and then the desk has nothing to do any more.
 ghost use Rattle.std.specs.Prelude.{◌≡◌, ◌&&◌, ◌||◌};
 
-use super::{Desk, refused};
+use super::Desk;
 use crate::call::Reply;
+use crate::client::refused;
 use crate::clock::date_now;
 use crate::job::Job;
 use crate::kernels::Kernels;
 use crate::pulse::QUICK;
-use crossbeam_channel::Sender;
 use jk_language::Language;
 use js_desk::is_over;
 use js_http::{Bytes, ErrorStatus, Response};
@@ -60,39 +60,50 @@ where
         }
     }
 
-    /// The files.
-    pub fn shelf(&mut self) -> &mut S {
-        &mut self.shelf
+    /// Answers all who wait still that the server stops. The files are left.
+    pub fn close(self) -> S {
+        let Desk {
+            rt,
+            alloc,
+            manager: _,
+            shelf,
+            sender: _,
+            calls: _,
+            clients,
+            jobs: _,
+            pauses: _,
+            beats: _,
+            rhythm: _,
+            round: _,
+            stopping: _,
+            selector: _,
+        } = self;
+        clients.close(&rt, alloc);
+        shelf
     }
 
     /// The server was told to stop. Requests that wait are answered that it is not there for them. Where memory is refused, it
     /// goes on as before.
-    pub(super) fn stop(&mut self, reply: Sender<Reply<L>>) {
+    pub(super) fn stop(&mut self) {
         let Ok(content) = nothing(self.alloc) else {
-            self.send(reply, refused(ErrorStatus::InternalServerError));
+            self.send(refused(ErrorStatus::InternalServerError));
             return;
         };
-        self.send(reply, Reply::Last(Response::Success(content)));
+        self.send(Reply::Last(Response::Success(content)));
         self.stopping = Some(Stopping {
             begun: Instant::now(&self.rt).ok(),
             answered: false,
             done: false,
         });
-        for asked in self.held.take_all(self.alloc) {
-            self.send(asked.reply, refused(ErrorStatus::ServiceUnavailable));
-        }
+        self.clients.stop(&self.rt, self.alloc);
     }
 
     /// Replies to a request, unless the server stops.
-    pub(super) fn reply_or_refuse(
-        &mut self,
-        request: ReadRequest,
-        reply: Sender<Reply<L>>,
-    ) -> Option<Job<L>> {
+    pub(super) fn reply_or_refuse(&mut self, request: ReadRequest) -> Option<Job<L>> {
         if self.stopping.is_none() {
-            return self.reply_to(request, reply);
+            return self.reply_to(request);
         }
-        self.send(reply, refused(ErrorStatus::ServiceUnavailable));
+        self.send(refused(ErrorStatus::ServiceUnavailable));
         None
     }
 
@@ -143,7 +154,7 @@ where
     /// The kernel in a row that is not ending.
     fn lasting_at(&self, place: usize) -> Option<Text> {
         let id = self.manager.tables.kernels.get(place)?.id.copy().ok()?;
-        if self.endings.has(id.as_str()) {
+        if self.clients.endings().has(id.as_str()) {
             return None;
         }
         Some(id)
@@ -161,7 +172,7 @@ where
             return;
         }
         if self.is_recorded(id.as_str()) {
-            let _ = self.endings.begin(self.alloc, id.as_str());
+            let _ = self.clients.begin_end(self.alloc, id.as_str());
         } else {
             let _ = self.drop_row(id);
         }
