@@ -62,6 +62,9 @@ fn a_module_is_compiled_over_another(rt: HostRuntime) -> Result<(), Fail> {
     let second =
         "MODULE B; IMPORT A; VAR s: ARRAY 3 OF CHAR; i: INTEGER; PROCEDURE P; END P; BEGIN A.P(s, A.x); i := A.F() + A.r.j END B.";
     assert_eq!(rt; counts_behind(rt.alloc(), A, second)?, (4, 2, 1));
+    let named =
+        "MODULE B; IMPORT X := A, O := Out, A, Y := A; VAR s: ARRAY 3 OF CHAR; i: INTEGER; PROCEDURE P; END P; BEGIN X.P(s, A.x); i := Y.F() + A.r.j END B.";
+    assert_eq!(rt; counts_behind(rt.alloc(), A, named)?, (4, 2, 1));
     assert_eq!(rt;
         counts_behind(
             rt.alloc(),

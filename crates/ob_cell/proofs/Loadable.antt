@@ -1,6 +1,6 @@
 -- What loading asks of a checked module: what keys say of it and of its imports, its commands, and that its imports don't
 -- reach it.
-use Rattle.std.proofs.Common.{◌≡◌, ◌≢◌, ℕ, zero, suc, ◌+◌, Bool, true, false, cond, ◌&&◌, ◌||◌, List, [], ◌∷◌, ◌++◌, map, Option, Some, None, is_some, option_map, if◌then◌else◌, refl, sym, ap, ◌∙◌, subst, arith}
+use Rattle.std.proofs.Common.{◌≡◌, ◌≢◌, ℕ, zero, suc, ◌+◌, nat_eq, Bool, true, false, cond, ◌&&◌, ◌||◌, List, [], ◌∷◌, ◌++◌, length, map, Option, Some, None, is_some, option_map, if◌then◌else◌, refl, sym, ap, ◌∙◌, subst, arith}
 use Rattle.std.specs.Prelude.{slice_get, slice_index, slice_index_or}
 use Rattle.std.specs.Str.{bytes_eq}
 use Rattle.std.proofs.lemmas.Option.{slice_get-map}
@@ -29,12 +29,13 @@ use Rattle.ob_check_scope.specs.Names.{place_in, is_among}
 use Rattle.ob_check_scope.specs.Rule.{gives}
 use Rattle.ob_check_module.specs.CheckedTree.{CheckedTree}
 use Rattle.ob_check_module.specs.declared.checked.Imported.{Imported}
-use Rattle.ob_check_module.specs.Modules.{with_key, imported_by, all_imported, module_at}
+use Rattle.ob_check_module.specs.Modules.{with_key, imported_by, with_imports, all_imported, module_at}
 use Rattle.ob_check_kinds.specs.Shapes.{parameters_of}
 use Rattle.ob_check_laws.specs.Fitting as fit
 use Rattle.ob_check_laws.specs.Fitting.{procedure_heading, procedure_headings, heading_of, face_of_interface}
 use Rattle.ob_check_laws.specs.Solid.{EachSolid}
 use Rattle.ob_check_laws.proofs.Modules.{each_tree_agrees}
+use Rattle.ob_check_laws.proofs.Rules.{joined_thrice}
 use Rattle.ob_gen.specs.TypesAgree.{TypesAgree}
 use Rattle.ob_session.specs.Session.{Import, Module, name_of, find_module, place_of}
 use Rattle.ob_session.specs.Links.{Reached, First, Behind, Through}
@@ -116,21 +117,44 @@ module _ (ms : Loaded) (loaded : LoadedWords ms) (self : List ℕ) where
   unfolding module_place
   first_import place h = first_of ms h.0 place h.1
 
-  said_by : (e : Entry) (is : List Imported) → EntryRight ms self e → Said is → Said (imported_by ms e ++ is)
-  said_by (entry.Constant c) is h g = g
-  said_by (entry.TypeName t) is h g = g
-  said_by (entry.Variable t v) is h g = g
-  said_by (entry.Procedure p n) is h g = g
-  said_by entry.In is h g = g
-  said_by entry.Out is h g = g
-  said_by (entry.Module i place) is h g =
-      let r = first_import place h in
-      subst (λ o. Said (with_key o ++ is)) (sym r.there)
-      (said_more (fit.face_named ms r.x.interface.name) (face_of_interface r.x.interface) (interface_text r.x.interface) is (ap (fit.face_named ms) r.name ∙ r.face) (words_at ms place r.x loaded r.there) g)
+  faces_join : (is js : List Imported) → fit.faces_of ms (is ++ js) ≡ fit.faces_of ms is ++ fit.faces_of ms js
+  faces_join [] js = refl
+  faces_join (i ∷ is) js = ap (λ l. fit.with_face (fit.face_named ms i.name) ++ l) (faces_join is js) ∙ sym (joined_thrice (fit.with_face (fit.face_named ms i.name)) (fit.faces_of ms is) (fit.faces_of ms js))
+
+  abbrev told : List Imported → List Face
+  told is = map (λ (i : Import). face_said i.key) (map meaning.import_of is)
+
+  told_join : (is js : List Imported) → told (is ++ js) ≡ told is ++ told js
+  told_join [] js = refl
+  told_join (i ∷ is) js = ap (λ l. face_said (meaning.import_of i).key ∷ l) (told_join is js)
+
+  said_join : (is js : List Imported) → Said is → Said js → Said (is ++ js)
+  said_join is js h g = faces_join is js ∙ ap (λ l. l ++ fit.faces_of ms js) h ∙ ap (λ l. told is ++ l) g ∙ sym (told_join is js)
+
+  said_by : (n : ℕ) (e : Entry) → EntryRight ms self e → Said (imported_by ms n e)
+  said_by n (entry.Constant c) h = refl
+  said_by n (entry.TypeName t) h = refl
+  said_by n (entry.Variable t v) h = refl
+  said_by n (entry.Procedure p k) h = refl
+  said_by n entry.In h = refl
+  said_by n entry.Out h = refl
+  said_by n (entry.Module i place) h = by (nat_eq i n)
+    where
+      by : (b : Bool) → Said (cond b (with_key (slice_get ms place)) [])
+      by true =
+          let r = first_import place h in
+          subst (λ o. Said (with_key o)) (sym r.there)
+          (said_more (fit.face_named ms r.x.interface.name) (face_of_interface r.x.interface) (interface_text r.x.interface) [] (ap (fit.face_named ms) r.name ∙ r.face) (words_at ms place r.x loaded r.there) refl)
+      by false = refl
+
+  said_behind : (is : List Imported) (ds : List Declared) → Said is → Each (DeclaredRight ms self) ds → Said (with_imports ms is ds)
+  said_behind is [] g h = g
+  said_behind is (d ∷ ds) g h =
+      let more = imported_by ms (length is) d.entry in
+      said_behind (is ++ more) ds (said_join is more g (said_by (length is) d.entry h.0.1)) h.1
 
   pub said_all : (ds : List Declared) → Each (DeclaredRight ms self) ds → Said (all_imported ms ds)
-  said_all [] h = refl
-  said_all (d ∷ ds) h = said_by d.entry (all_imported ms ds) h.0.1 (said_all ds h.1)
+  said_all ds h = said_behind [] ds refl h
 
 -- ---- imports that don't reach the module
 
@@ -189,38 +213,45 @@ module _ (modules : List Module) (self : List ℕ) where
   flag_of true h = absurd (let t : is_among (self ∷ []) self ≡ true = ap (λ c. c || false) (equal_name self) in let n : true ≡ false = sym t ∙ h in cc)
   flag_of false h = refl
 
-  apart_of : (place : ℕ) → ImportRight (seen modules) self place → (is : List Import) → Each (Apart modules self) is → Each (Apart modules self) (map meaning.import_of (with_key (slice_get (seen modules) place)) ++ is)
+  apart_of : (place : ℕ) → ImportRight (seen modules) self place → Each (Apart modules self) (map meaning.import_of (with_key (slice_get (seen modules) place)))
   unfolding module_place
-  apart_of place h is g =
+  apart_of place h =
       let r = found_first modules h.0 place h.1 in
       let flag : reached_by modules self r.y ≡ false = flag_of _ (subst (λ o. reaches o self ≡ false) r.there h.3) in
-      subst (λ o. Each (Apart modules self) (map meaning.import_of (with_key o) ++ is)) (sym r.there) (
+      subst (λ o. Each (Apart modules self) (map meaning.import_of (with_key o))) (sym r.there) (
         (
           (λ same. let t = sym (equal_name self) ∙ ap (λ n. bytes_eq n self) (sym same ∙ r.name) ∙ h.2 in absurd (let n : true ≡ false = t in cc)),
           (λ d found. let one : r.y ≡ d = some_same r.y d (sym r.found ∙ ap (find_module modules) (sym r.name) ∙ found) in
               subst (λ x. reached_by modules self x ≡ false) one flag),
         ),
-        g,
+        tt,
       )
 
-  apart_by : (e : Entry) (is : List Import) → EntryRight (seen modules) self e → Each (Apart modules self) is → Each (Apart modules self) (map meaning.import_of (imported_by (seen modules) e) ++ is)
-  apart_by (entry.Constant c) is h g = g
-  apart_by (entry.TypeName t) is h g = g
-  apart_by (entry.Variable t v) is h g = g
-  apart_by (entry.Procedure p n) is h g = g
-  apart_by entry.In is h g = g
-  apart_by entry.Out is h g = g
-  apart_by (entry.Module i place) is h g = apart_of place h is g
+  apart_by : (n : ℕ) (e : Entry) → EntryRight (seen modules) self e → Each (Apart modules self) (map meaning.import_of (imported_by (seen modules) n e))
+  apart_by n (entry.Constant c) h = tt
+  apart_by n (entry.TypeName t) h = tt
+  apart_by n (entry.Variable t v) h = tt
+  apart_by n (entry.Procedure p k) h = tt
+  apart_by n entry.In h = tt
+  apart_by n entry.Out h = tt
+  apart_by n (entry.Module i place) h = by (nat_eq i n)
+    where
+      by : (b : Bool) → Each (Apart modules self) (map meaning.import_of (cond b (with_key (slice_get (seen modules) place)) []))
+      by true = apart_of place h
+      by false = tt
 
-  map_join : (xs ys : List Imported) → map meaning.import_of (xs ++ ys) ≡ map meaning.import_of xs ++ map meaning.import_of ys
-  map_join [] ys = refl
-  map_join (x ∷ xs) ys = ap (λ l. meaning.import_of x ∷ l) (map_join xs ys)
+  apart_join : (is js : List Imported) → Each (Apart modules self) (map meaning.import_of is) → Each (Apart modules self) (map meaning.import_of js) → Each (Apart modules self) (map meaning.import_of (is ++ js))
+  apart_join [] js h g = g
+  apart_join (i ∷ is) js h g = (h.0, apart_join is js h.1 g)
+
+  apart_behind : (is : List Imported) (ds : List Declared) → Each (Apart modules self) (map meaning.import_of is) → Each (DeclaredRight (seen modules) self) ds → Each (Apart modules self) (map meaning.import_of (with_imports (seen modules) is ds))
+  apart_behind is [] g h = g
+  apart_behind is (d ∷ ds) g h =
+      let more = imported_by (seen modules) (length is) d.entry in
+      apart_behind (is ++ more) ds (apart_join is more g (apart_by (length is) d.entry h.0.1)) h.1
 
   pub all_apart : (ds : List Declared) → Each (DeclaredRight (seen modules) self) ds → Each (Apart modules self) (map meaning.import_of (all_imported (seen modules) ds))
-  all_apart [] h = tt
-  all_apart (d ∷ ds) h =
-      subst (Each (Apart modules self)) (sym (map_join (imported_by (seen modules) d.entry) (all_imported (seen modules) ds)))
-      (apart_by d.entry (map meaning.import_of (all_imported (seen modules) ds)) h.0.1 (all_apart ds h.1))
+  all_apart ds h = apart_behind [] ds tt h
 
 -- ---- commands
 

@@ -25,7 +25,7 @@ use Rattle.ob_check_scope.specs.declared.imports.StandardName.{StandardName}
 use Rattle.ob_check_scope.specs.declared.imports.StandardName.TheVariants as standard
 use Rattle.ob_check_scope.specs.declared.scope.Scope.{Scope}
 use Rattle.ob_check_scope.specs.Block.{find}
-use Rattle.ob_check_decl.specs.Declarations.{loaded_place, with_module, other_module, imported_as, import_named, import_rule, own_name, new_constant, constant_rule, new_type, type_rule, exported_variable, own_variable, variable_in, variable_rule, typed_variables, variables_rule, declarations_rule, module_rule, max_nesting, first_name, has_mark}
+use Rattle.ob_check_decl.specs.Declarations.{loaded_place, number_of_module, module_numbered, other_module, imported_as, import_named, import_rule, own_name, new_constant, constant_rule, new_type, type_rule, exported_variable, own_variable, variable_in, variable_rule, typed_variables, variables_rule, declarations_rule, module_rule, max_nesting, first_name, has_mark}
 use Rattle.ob_check_scope.specs.Exports.{Modules}
 use Rattle.ob_check_decl.specs.Headings.{kind_of, standing_of, no_parameters, parameter_rule, typed_parameters, section_rule, formals_rule, heading_rule}
 use Rattle.ob_check_scope.specs.Imports.{module_place, reaches, standard_named}
@@ -231,8 +231,16 @@ module _ (ms : Modules) (loaded : LoadedWords ms) where
     placed own None place h = absurd h
     placed own (Some p) place h = (ap Some h.1, subst (λ q. reaches (slice_get ms q) self ≡ false) h.1 (not_true _ h.0))
 
+    -- a module has the number that it has already or a new one
+    numbered_right : (s : Scope) (name : List ℕ) (place : ℕ) (o : Option ℕ) (t : Scope) → IsWord name → ImportRight ms self place → gives (module_numbered s name place o) t → InModule s → InModule t
+    unfolding module_numbered
+    numbered_right s name place None t n right h g =
+        subst InModule h.2 (more s _ (record { name = name; exported = is_empty s.around && false; entry = entry.Module s.import_count place }) g refl refl refl refl (n, right))
+    numbered_right s name place (Some import) t n right h g =
+        subst InModule h (more s _ (record { name = name; exported = is_empty s.around && false; entry = entry.Module import place }) g refl refl refl refl (n, right))
+
     import_as_right : (s : Scope) (name own : List ℕ) (x : StandardName) (t : Scope) → IsWord name → bytes_eq own self ≡ false → gives (imported_as ms s name own x) t → InModule s → InModule t
-    unfolding imported_as other_module with_module
+    unfolding imported_as other_module
     import_as_right s name own standard.In t n other h g =
         subst InModule h (more s _ (record { name = name; exported = is_empty s.around && false; entry = entry.In }) g refl refl refl refl (n, tt))
     import_as_right s name own standard.Out t n other h g =
@@ -240,7 +248,7 @@ module _ (ms : Modules) (loaded : LoadedWords ms) where
     import_as_right s name own standard.System t n other h g = absurd h
     import_as_right s name own standard.Other t n other h g =
         let p = placed own (module_place ms own) h.0 (subst (λ m. gives (loaded_place ms m (module_place ms own)) h.0) g.name h.1) in
-        subst InModule (h.2).2 (more s _ (record { name = name; exported = is_empty s.around && false; entry = entry.Module s.import_count h.0 }) g refl refl refl refl (n, (own, p.0, other, p.1)))
+        numbered_right s name h.0 (number_of_module s.block h.0) t n (own, p.0, other, p.1) h.2 g
 
     import_right : (s : Scope) (i : Import) (t : Scope) → IsWord i.name.name → gives (import_rule ms s i) t → InModule s → InModule t
     unfolding import_rule import_named

@@ -1,7 +1,7 @@
 -- To be believed.
 -- Declarations: the imports of a module, and the constants, types and variables of a module or a procedure (Wirth, The
 -- Programming Language Oberon, Oberon-07).
-use Rattle.std.specs.Prelude.{ℕ, ◌+◌, List, [], ◌∷◌, ◌++◌, Bool, true, false, not, Option, Some, None, is_some, nat_le, nat_lt, slice_get, if◌then◌else◌}
+use Rattle.std.specs.Prelude.{ℕ, ◌+◌, List, [], ◌∷◌, ◌++◌, reverse, Bool, true, false, not, Option, Some, None, is_some, nat_eq, nat_le, nat_lt, slice_get, if◌then◌else◌}
 use Rattle.std.specs.Str.{bytes_eq}
 use Rattle.ob_check_scope.specs.declared.rule.RuleCode.TheVariants as code
 use Rattle.ob_tree.specs.declared.tree.ConstDeclaration.{ConstDeclaration}
@@ -75,11 +75,33 @@ unfoldable pub loaded_place : Modules → List ℕ → Option ℕ → Rule ℕ
 loaded_place ms self None = Breaks code.NotLoaded
 loaded_place ms self (Some place) = Needs (not (reaches (slice_get ms place) self)) code.ImportsItself (Given place)
 
--- the imported modules but for In and Out are numbered
-unfoldable pub with_module : Scope → List ℕ → ℕ → Rule Scope
-with_module s name place =
+-- the number that a name has for the module that is loaded at a place, if it stands for it
+abbrev pub number_by : Entry → ℕ → Option ℕ
+number_by (entry.Module import other) place = if nat_eq other place then Some import else None
+number_by e place = None
+
+abbrev pub or_other : Option ℕ → Option ℕ → Option ℕ
+or_other (Some import) other = Some import
+or_other None other = other
+
+-- the number that the first of these names for that module has
+abbrev pub number_among : List Declared → ℕ → Option ℕ
+number_among [] place = None
+number_among (d ∷ ds) place = or_other (number_by d.entry place) (number_among ds place)
+
+-- the number that the last name for it has
+abbrev pub number_of_module : List Declared → ℕ → Option ℕ
+number_of_module ds place = number_among (reverse ds) place
+
+-- The imported modules but for In and Out are numbered. A module that is imported under two names is one module, of one number.
+unfoldable pub module_numbered : Scope → List ℕ → ℕ → Option ℕ → Rule Scope
+module_numbered s name place (Some import) = Given (with_entry s name false (entry.Module import place))
+module_numbered s name place None =
     Then (there (one_more max_count s.import_count) code.Size) (λ n.
     Given (with_entry (record s { import_count = n }) name false (entry.Module s.import_count place)))
+
+abbrev pub with_module : Scope → List ℕ → ℕ → Rule Scope
+with_module s name place = module_numbered s name place (number_of_module s.block place)
 
 unfoldable pub other_module : Modules → Scope → List ℕ → List ℕ → Rule Scope
 other_module ms s name own = Then (loaded_place ms s.module_name (module_place ms own)) (λ place. with_module s name place)

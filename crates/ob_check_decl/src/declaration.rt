@@ -11,7 +11,7 @@ ghost use Rattle.ob_check_scope.specs.declared.scope.Scope.{Scope};
 use crate::written_type::written_type;
 use ob_base::Text;
 use ob_check_const::constant::constant;
-use ob_check_scope::block::{Block, Entry, Standing};
+use ob_check_scope::block::{Block, Declared, Entry, Standing};
 use ob_check_scope::imports::{Imports, StandardName, standard_named};
 use ob_check_scope::names::Names;
 use ob_check_scope::rejected::{Rejected, broken};
@@ -116,16 +116,58 @@ fn with_import(alloc: Global, so_far: Scope, name: &Ident, entry: Entry) -> Resu
     Ok(so_far)
 }
 
-/// One import more of a module that is loaded at a place.
-#[tactic(auto, unfolding(crate::specs::Declarations::with_module))]
-fn with_module(alloc: Global, so_far: Scope, name: &Ident, place: usize) -> Result<Scope, Rejected>
-    requires { find so_far.block name.now.name ≡ None }
-    ensures { Judges (spec.with_module so_far name.now.name place) result }
+/// The number that a name has for the module that is loaded at a place, if it stands for it.
+fn number_by(entry: &Entry, place: usize) -> Option<usize>
+    ensures { result ≡ spec.number_by entry.now place }
 {
+    match entry {
+        Entry::Module(import, other) => { if *other == place { Some(*import) } else { None } }
+        _ => None,
+    }
+}
+
+/// The number that the last name for that module has. It is found at once where modules have many names one after the other.
+fn number_of_module(declared: &[Declared], place: usize) -> Option<usize>
+    ensures { result ≡ spec.number_of_module declared.now place }
+{
+    let mut i = declared.len();
+    while i > 0 {
+        i -= 1;
+        if let Some(import) = number_by(&declared[i].entry, place) {
+            return Some(import);
+        }
+    }
+    None
+}
+
+/// One import more of a module that is loaded at a place, by the number that it has already or by a new one.
+#[tactic(auto, unfolding(crate::specs::Declarations::module_numbered))]
+fn module_numbered(
+    alloc: Global,
+    so_far: Scope,
+    name: &Ident,
+    place: usize,
+    known: Option<usize>,
+) -> Result<Scope, Rejected>
+    requires { find so_far.block name.now.name ≡ None }
+    ensures { Judges (spec.module_numbered so_far name.now.name place known) result }
+{
+    if let Some(import) = known {
+        return with_import(alloc, so_far, name, Entry::Module(import, place));
+    }
     let mut so_far = so_far;
     let number = so_far.import_count;
     so_far.import_count = next_place(number, name.span)?;
     with_import(alloc, so_far, name, Entry::Module(number, place))
+}
+
+/// One import more of a module that is loaded at a place.
+fn with_module(alloc: Global, so_far: Scope, name: &Ident, place: usize) -> Result<Scope, Rejected>
+    requires { find so_far.block name.now.name ≡ None }
+    ensures { Judges (spec.with_module so_far name.now.name place) result }
+{
+    let known = number_of_module(so_far.block.declared(), place);
+    module_numbered(alloc, so_far, name, place, known)
 }
 
 /// One import more of a module but for In, Out and SYSTEM.

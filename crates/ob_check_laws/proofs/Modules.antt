@@ -1,5 +1,8 @@
 -- The typed tree of a module is well formed.
-use Rattle.std.proofs.Common.{◌≡◌, inl, ◌<◌, ℕ, zero, suc, ◌+◌, nat_lt, ◌++◌, length, Bool, true, false, ◌&&◌, cond, List, [], ◌∷◌, Option, Some, None, option_map, slice_get, refl, sym, ap, ◌∙◌, subst, arith}
+use Rattle.std.proofs.Common.{◌≡◌, inl, ◌<◌, ℕ, zero, suc, ◌+◌, nat_eq, nat_lt, eq-eqb, ◌++◌, length, Bool, true, false, ◌&&◌, cond, List, [], ◌∷◌, reverse, Option, Some, None, option_map, slice_get, refl, sym, ap, ◌∙◌, subst, arith}
+use mathlib.Core.List.{reverse_aux}
+use Rattle.std.proofs.lemmas.Bool.{eqb-true}
+use Rattle.std.proofs.lemmas.Bool.Decides.{nat_tests}
 use Rattle.std.proofs.lemmas.Option.{slice_get_within}
 use Rattle.std.proofs.lemmas.Slice.Eq.{bytes_eq-Decides}
 use Rattle.std.specs.Str.{bytes_eq}
@@ -26,7 +29,7 @@ use Rattle.ob_check_scope.specs.declared.imports.StandardName.{StandardName}
 use Rattle.ob_check_scope.specs.declared.imports.StandardName.TheVariants as standard
 use Rattle.ob_check_scope.specs.declared.scope.Scope.{Scope}
 use Rattle.ob_check_decl.specs.Declarations as declarations
-use Rattle.ob_check_decl.specs.Declarations.{one_more, max_count, max_variables, has_mark, own_name, loaded_place, with_module, other_module, imported_as, import_named, import_rule, constant_rule, new_constant, type_rule, new_type, variable_in, variable_rule, typed_variables, variables_rule, declarations_rule}
+use Rattle.ob_check_decl.specs.Declarations.{one_more, max_count, max_variables, has_mark, own_name, loaded_place, number_by, or_other, number_among, number_of_module, module_numbered, with_module, other_module, imported_as, import_named, import_rule, constant_rule, new_constant, type_rule, new_type, variable_in, variable_rule, typed_variables, variables_rule, declarations_rule}
 use Rattle.ob_check_scope.specs.Exports.{Modules, module_names}
 use Rattle.ob_check_scope.specs.Imports.{module_place, standard_named}
 use Rattle.ob_check_decl.specs.Interfaces.{exported_procedures, number_of, exported_of, object_of, exports_of}
@@ -34,11 +37,11 @@ use Rattle.ob_types.specs.declared.exports.Exported.{Exported}
 use Rattle.ob_check_scope.specs.LoadedTree.{LoadedTree}
 use Rattle.ob_check_scope.specs.Names.{place_in}
 use Rattle.ob_check_scope.specs.Rule.{gives, there, through}
-use Rattle.ob_check_scope.specs.Scope.{opening}
+use Rattle.ob_check_scope.specs.Scope.{opening, with_entry}
 use Rattle.ob_check_scope.specs.Stack.{is_empty}
 use Rattle.ob_check_module.specs.declared.checked.Imported.{Imported}
 use Rattle.ob_check_module.specs.CheckedTree.{CheckedTree}
-use Rattle.ob_check_module.specs.Modules.{exported_variable, exported_variables, own_variable, own_variables, declared_variables, with_key, imported_by, all_imported, checked_of, body_rule, procedures_rule, checked_rule, module_at}
+use Rattle.ob_check_module.specs.Modules.{exported_variable, exported_variables, own_variable, own_variables, declared_variables, with_key, imported_by, with_imports, all_imported, checked_of, body_rule, procedures_rule, checked_rule, module_at}
 use Rattle.ob_check_module.specs.Procedures.{Checking, counted, procedure_at}
 use Rattle.ob_check_kinds.specs.Shapes.{shape_of}
 use Rattle.ob_check_stmt.specs.Statements.{statements_at}
@@ -46,6 +49,7 @@ use Rattle.ob_mean.specs.declared.shape.Shape.{Shape}
 use Rattle.ob_mean.specs.declared.face.Heading.{Heading}
 use Rattle.ob_check_laws.specs.Fitting.{face_of_interface, variable_shape, variable_shapes, procedure_heading, procedure_headings, StartsWith, ScopeFits, heading_of, face_of_loaded, loaded_face, with_face, face_named, faces_of, EachCheckedFits}
 use Rattle.ob_types.specs.Solid.{IsSolid, ExportsSolid}
+use Rattle.ob_types.specs.InterfaceText.{interface_text}
 use Rattle.ob_types.specs.Types.{cells}
 use Rattle.ob_check_laws.specs.Solid.{EachSolid}
 use Rattle.ob_check_laws.proofs.Solid.{SolidEntry, SeenSolid, type_solid}
@@ -102,12 +106,15 @@ own_more : (ds : List Declared) (d : Declared) → own_variables (ds ++ d ∷ []
 own_more [] d = joined_none (own_variable d.entry)
 own_more (x ∷ ds) d = ap (λ l. own_variable x.entry ++ l) (own_more ds d) ∙ sym (joined_thrice (own_variable x.entry) (own_variables ds) (own_variable d.entry))
 
-imports_more : (ms : Modules) (ds : List Declared) (d : Declared) → all_imported ms (ds ++ d ∷ []) ≡ all_imported ms ds ++ imported_by ms d.entry
-imports_more ms [] d = joined_none (imported_by ms d.entry)
-imports_more ms (x ∷ ds) d = ap (λ l. imported_by ms x.entry ++ l) (imports_more ms ds d) ∙ sym (joined_thrice (imported_by ms x.entry) (all_imported ms ds) (imported_by ms d.entry))
+imports_behind : (ms : Modules) (is : List Imported) (ds : List Declared) (d : Declared) → with_imports ms is (ds ++ d ∷ []) ≡ with_imports ms is ds ++ imported_by ms (length (with_imports ms is ds)) d.entry
+imports_behind ms is [] d = refl
+imports_behind ms is (x ∷ ds) d = imports_behind ms (is ++ imported_by ms (length is) x.entry) ds d
 
-faces_more : (ms : Modules) (ds : List Declared) (d : Declared) → faces_of ms (all_imported ms (ds ++ d ∷ [])) ≡ faces_of ms (all_imported ms ds) ++ faces_of ms (imported_by ms d.entry)
-faces_more ms ds d = ap (faces_of ms) (imports_more ms ds d) ∙ faces_append ms (all_imported ms ds) (imported_by ms d.entry)
+imports_more : (ms : Modules) (ds : List Declared) (d : Declared) → all_imported ms (ds ++ d ∷ []) ≡ all_imported ms ds ++ imported_by ms (length (all_imported ms ds)) d.entry
+imports_more ms ds d = imports_behind ms [] ds d
+
+faces_more : (ms : Modules) (ds : List Declared) (d : Declared) → faces_of ms (all_imported ms (ds ++ d ∷ [])) ≡ faces_of ms (all_imported ms ds) ++ faces_of ms (imported_by ms (length (all_imported ms ds)) d.entry)
+faces_more ms ds d = ap (faces_of ms) (imports_more ms ds d) ∙ faces_append ms (all_imported ms ds) (imported_by ms (length (all_imported ms ds)) d.entry)
 
 -- ---- the declarations of a module
 
@@ -159,23 +166,66 @@ entry_solid ms exported own faces entry.In h = tt
 entry_solid ms exported own faces entry.Out h = tt
 entry_solid ms exported own faces (entry.Module i place) h = tt
 
+-- ---- numbers of imports
+
+abbrev import_of : LoadedTree → Imported
+import_of m = record { name = m.interface.name; key = interface_text m.interface }
+
+next_import : (ms : Modules) (n m place : ℕ) → n ≡ m → imported_by ms m (entry.Module n place) ≡ with_key (slice_get ms place)
+next_import ms n m place e = ap (λ b. cond b (with_key (slice_get ms place)) []) (eq-eqb n m e)
+
+earlier_import : (ms : Modules) (n m place : ℕ) → n < m → imported_by ms m (entry.Module n place) ≡ []
+earlier_import ms n m place h = ap (λ b. cond b (with_key (slice_get ms place)) []) (let other : nat_eq n m ≡ false = grind (arith, nat_tests) in other)
+
+entry_read : (ms : Modules) (exported own : List ModuleVariable) (faces : List Face) (e : Entry) (place import : ℕ) → ModuleEntry ms exported own faces e → number_by e place ≡ Some import → slice_get faces import ≡ loaded_face (slice_get ms place)
+entry_read ms exported own faces (entry.Constant c) place import h e = nothing import e
+entry_read ms exported own faces (entry.TypeName t) place import h e = nothing import e
+entry_read ms exported own faces (entry.Variable t s) place import h e = nothing import e
+entry_read ms exported own faces (entry.Procedure p n) place import h e = nothing import e
+entry_read ms exported own faces entry.In place import h e = nothing import e
+entry_read ms exported own faces entry.Out place import h e = nothing import e
+entry_read ms exported own faces (entry.Module n other) place import h e = by (nat_eq other place) refl e
+  where
+    by : (b : Bool) → nat_eq other place ≡ b → cond b (Some n) None ≡ Some import → slice_get faces import ≡ loaded_face (slice_get ms place)
+    by true f k = ap (slice_get faces) (sym (some_same n import k)) ∙ h ∙ ap (λ p. loaded_face (slice_get ms p)) (eqb-true other place f)
+    by false f k = nothing import k
+
+among_read : (ms : Modules) (exported own : List ModuleVariable) (faces : List Face) (ds : List Declared) (place import : ℕ) → EachEntry (ModuleEntry ms exported own faces) ds → number_among ds place ≡ Some import → slice_get faces import ≡ loaded_face (slice_get ms place)
+among_read ms exported own faces [] place import h e = nothing import e
+among_read ms exported own faces (d ∷ ds) place import h e = by (number_by d.entry place) refl (among_read ms exported own faces ds place import h.1) e
+  where
+    by : (o : Option ℕ) → number_by d.entry place ≡ o → (number_among ds place ≡ Some import → slice_get faces import ≡ loaded_face (slice_get ms place)) → or_other o (number_among ds place) ≡ Some import → slice_get faces import ≡ loaded_face (slice_get ms place)
+    by (Some n) f rest k = entry_read ms exported own faces d.entry place import h.0 (f ∙ k)
+    by None f rest k = rest k
+
+each_reversed : (Q : Entry → Type 0) (xs ys : List Declared) → EachEntry Q xs → EachEntry Q ys → EachEntry Q (reverse_aux xs ys)
+each_reversed Q [] ys h g = g
+each_reversed Q (x ∷ xs) ys h g = each_reversed Q xs (x ∷ ys) h.1 (h.0, g)
+
+number_read : (ms : Modules) (exported own : List ModuleVariable) (faces : List Face) (ds : List Declared) (place import : ℕ) → EachEntry (ModuleEntry ms exported own faces) ds → number_of_module ds place ≡ Some import → slice_get faces import ≡ loaded_face (slice_get ms place)
+number_read ms exported own faces ds place import h e = among_read ms exported own faces (reverse ds) place import (each_reversed (ModuleEntry ms exported own faces) ds [] h tt) e
+
 module _ (ms : Modules) (loaded : EachSolid ms) where
+  -- so many are imported, and each has a face
+  abbrev Counted : ℕ → List Imported → Type 0
+  Counted n is = (n ≡ length is) × (n ≡ length (faces_of ms is))
+
   abbrev ModulePart : ℕ → ℕ → ℕ → List Declared → Type 0
   ModulePart ec oc ic ds =
-      (ec ≡ length (exported_variables ds)) × (oc ≡ length (own_variables ds)) × (ic ≡ length (faces_of ms (all_imported ms ds)))
+      (ec ≡ length (exported_variables ds)) × (oc ≡ length (own_variables ds)) × Counted ic (all_imported ms ds)
       × ((exported own : List ModuleVariable) (faces : List Face) → StartsWith exported (exported_variables ds) → StartsWith own (own_variables ds) → StartsWith faces (faces_of ms (all_imported ms ds)) → EachEntry (ModuleEntry ms exported own faces) ds)
       × EachAligned ds
 
   abbrev InModule : Scope → Type 0
   InModule s = (s.around ≡ []) × (s.enclosing ≡ []) × ModulePart s.exported_count s.own_count s.import_count s.block
 
-  more : (ec oc ic : ℕ) (ds : List Declared) (d : Declared) (ec1 oc1 ic1 : ℕ) → ModulePart ec oc ic ds → ec1 ≡ length (exported_variables ds ++ exported_variable d.entry) → oc1 ≡ length (own_variables ds ++ own_variable d.entry) → ic1 ≡ length (faces_of ms (all_imported ms ds) ++ faces_of ms (imported_by ms d.entry))
-      → ((exported own : List ModuleVariable) (faces : List Face) → StartsWith exported (exported_variables ds ++ exported_variable d.entry) → StartsWith own (own_variables ds ++ own_variable d.entry) → StartsWith faces (faces_of ms (all_imported ms ds) ++ faces_of ms (imported_by ms d.entry)) → ModuleEntry ms exported own faces d.entry)
+  more : (ec oc ic : ℕ) (ds : List Declared) (d : Declared) (ec1 oc1 ic1 : ℕ) → ModulePart ec oc ic ds → ec1 ≡ length (exported_variables ds ++ exported_variable d.entry) → oc1 ≡ length (own_variables ds ++ own_variable d.entry) → Counted ic1 (all_imported ms ds ++ imported_by ms (length (all_imported ms ds)) d.entry)
+      → ((exported own : List ModuleVariable) (faces : List Face) → StartsWith exported (exported_variables ds ++ exported_variable d.entry) → StartsWith own (own_variables ds ++ own_variable d.entry) → StartsWith faces (faces_of ms (all_imported ms ds) ++ faces_of ms (imported_by ms (length (all_imported ms ds)) d.entry)) → ModuleEntry ms exported own faces d.entry)
       → Aligned d.exported d.entry → ModulePart ec1 oc1 ic1 (ds ++ d ∷ [])
   more ec oc ic ds d ec1 oc1 ic1 g e o i new aligned = (
     e ∙ ap length (sym (exported_more ds d)),
     o ∙ ap length (sym (own_more ds d)),
-    i ∙ ap length (sym (faces_more ms ds d)),
+    subst (Counted ic1) (sym (imports_more ms ds d)) i,
     λ exported own faces a b c.
         let a1 = subst (StartsWith exported) (exported_more ds d) a in
         let b1 = subst (StartsWith own) (own_more ds d) b in
@@ -196,6 +246,9 @@ module _ (ms : Modules) (loaded : EachSolid ms) where
   none_more : {A : Type 0} (n : ℕ) (xs : List A) → n ≡ length xs → n ≡ length (xs ++ [])
   none_more n xs e = e ∙ ap length (sym (joined_none xs))
 
+  no_import : (s : Scope) → InModule s → Counted s.import_count (all_imported ms s.block ++ [])
+  no_import s g = subst (Counted s.import_count) (sym (joined_none (all_imported ms s.block))) (g.2).2
+
   one_counted : {A : Type 0} (n m : ℕ) (xs : List A) (x : A) → n ≡ length xs → n + 1 ≡ m → m ≡ length (xs ++ x ∷ [])
   one_counted n m xs x e f = let k : length (xs ++ x ∷ []) ≡ length xs + 1 = length_more xs x in omega arith
 
@@ -208,7 +261,7 @@ module _ (ms : Modules) (loaded : EachSolid ms) where
     g.0,
     g.1,
     more s.exported_count s.own_count s.import_count s.block (record { name = x.name.name.name; exported = is_empty s.around && has_mark x.name; entry = entry.Constant (h.1).0 }) s.exported_count s.own_count s.import_count g.2
-        (none_more s.exported_count (exported_variables s.block) (g.2).0) (none_more s.own_count (own_variables s.block) (g.2).1) (none_more s.import_count (faces_of ms (all_imported ms s.block)) (g.2).2) (λ a b c d e f. tt) tt,
+        (none_more s.exported_count (exported_variables s.block) (g.2).0) (none_more s.own_count (own_variables s.block) (g.2).1) (no_import s g) (λ a b c d e f. tt) tt,
   )
 
   type_fits : (n : ℕ) (s : Scope) (x : TypeDeclaration) (t : Scope) → gives (type_rule ms n s x) t → InModule s → InModule t
@@ -217,7 +270,7 @@ module _ (ms : Modules) (loaded : EachSolid ms) where
     g.0,
     g.1,
     more s.exported_count s.own_count s.import_count s.block (record { name = x.name.name.name; exported = is_empty s.around && has_mark x.name; entry = entry.TypeName (h.1).0.of }) s.exported_count s.own_count s.import_count g.2
-        (none_more s.exported_count (exported_variables s.block) (g.2).0) (none_more s.own_count (own_variables s.block) (g.2).1) (none_more s.import_count (faces_of ms (all_imported ms s.block)) (g.2).2) (λ a b c d e f. type_solid ms loaded s (solid_here s g) _ n 0 x.of (h.1).0 (h.1).1) tt,
+        (none_more s.exported_count (exported_variables s.block) (g.2).0) (none_more s.own_count (own_variables s.block) (g.2).1) (no_import s g) (λ a b c d e f. type_solid ms loaded s (solid_here s g) _ n 0 x.of (h.1).0 (h.1).1) tt,
   )
 
   variable_in_fits : (mark : Bool) (s : Scope) (name : List ℕ) (t : ObType) (u : Scope) → IsSolid t → cells t < 2147483648 → gives (variable_in true mark s name t) u → InModule s → InModule u
@@ -227,7 +280,7 @@ module _ (ms : Modules) (loaded : EachSolid ms) where
     g.1,
     more s.exported_count s.own_count s.import_count s.block (record { name = name; exported = is_empty s.around && true; entry = entry.Variable t (standing.Exported s.exported_count) }) h.0 s.own_count s.import_count g.2
         (one_counted s.exported_count h.0 (exported_variables s.block) (module_variable.Declared (shape_of t)) (g.2).0 (counted_by max_variables s.exported_count h.0 h.1))
-        (none_more s.own_count (own_variables s.block) (g.2).1) (none_more s.import_count (faces_of ms (all_imported ms s.block)) (g.2).2)
+        (none_more s.own_count (own_variables s.block) (g.2).1) (no_import s g)
         (λ a b c d e f. (ap (slice_get a) (g.2).0 ∙ starts_reads a (exported_variables s.block) (module_variable.Declared (shape_of t)) d, sound)) (ap (λ x. is_empty x && true) g.0, few),
   )
   variable_in_fits false s name t u sound few h g = subst InModule h.2 (
@@ -236,7 +289,7 @@ module _ (ms : Modules) (loaded : EachSolid ms) where
     more s.exported_count s.own_count s.import_count s.block (record { name = name; exported = is_empty s.around && false; entry = entry.Variable t (standing.Own s.own_count) }) s.exported_count h.0 s.import_count g.2
         (none_more s.exported_count (exported_variables s.block) (g.2).0)
         (one_counted s.own_count h.0 (own_variables s.block) (module_variable.Declared (shape_of t)) (g.2).1 (counted_by max_variables s.own_count h.0 h.1))
-        (none_more s.import_count (faces_of ms (all_imported ms s.block)) (g.2).2)
+        (no_import s g)
         (λ a b c d e f. (ap (slice_get b) (g.2).1 ∙ starts_reads b (own_variables s.block) (module_variable.Declared (shape_of t)) e, sound)) (ap (λ x. is_empty x && false) g.0, few),
   )
 
@@ -266,19 +319,58 @@ module _ (ms : Modules) (loaded : EachSolid ms) where
   found_place self own None place h = absurd h
   found_place self own (Some p) place h = ap Some h.1
 
-  module_fits : (s : Scope) (name : List ℕ) (own : List ℕ) (place : ℕ) (t : Scope) → IsLoaded ms own place → gives (with_module s name place) t → InModule s → InModule t
-  unfolding with_module
-  module_fits s name own place t l h g = subst InModule h.2 (
+  -- a module that has no number yet
+  first_more : (s : Scope) (name : List ℕ) (own : List ℕ) (place count : ℕ) → IsLoaded ms own place → s.import_count + 1 ≡ count → InModule s → InModule (with_entry (record s { import_count = count }) name false (entry.Module s.import_count place))
+  first_more s name own place count l next g = (
     g.0,
     g.1,
-    more s.exported_count s.own_count s.import_count s.block (record { name = name; exported = is_empty s.around && false; entry = entry.Module s.import_count place }) s.exported_count s.own_count h.0 g.2
+    more s.exported_count s.own_count s.import_count s.block (record { name = name; exported = is_empty s.around && false; entry = entry.Module s.import_count place }) s.exported_count s.own_count count g.2
         (none_more s.exported_count (exported_variables s.block) (g.2).0) (none_more s.own_count (own_variables s.block) (g.2).1)
-        (one_counted s.import_count h.0 (faces_of ms (all_imported ms s.block)) (face_of_loaded l.0) (g.2).2 (counted_by max_count s.import_count h.0 h.1) ∙ ap (λ x. length (faces_of ms (all_imported ms s.block) ++ x)) (sym one_face))
-        (λ a b c d e f. ap (slice_get c) (g.2).2 ∙ starts_reads c (faces_of ms (all_imported ms s.block)) (face_of_loaded l.0) (subst (λ x. StartsWith c (faces_of ms (all_imported ms s.block) ++ x)) one_face f) ∙ ap loaded_face (sym l.1)) tt,
+        (subst (λ (js : List Imported). Counted count (all_imported ms s.block ++ js)) (sym one_import) (
+          one_counted s.import_count count (all_imported ms s.block) (import_of l.0) ((g.2).2).0 next,
+          one_counted s.import_count count (faces_of ms (all_imported ms s.block)) (face_of_loaded l.0) ((g.2).2).1 next ∙ ap length (sym (faces_append ms (all_imported ms s.block) (import_of l.0 ∷ []) ∙ ap (λ x. faces_of ms (all_imported ms s.block) ++ x) one_face)),
+        ))
+        (λ a b c d e f. ap (slice_get c) ((g.2).2).1 ∙ starts_reads c (faces_of ms (all_imported ms s.block)) (face_of_loaded l.0) (subst (λ x. StartsWith c (faces_of ms (all_imported ms s.block) ++ x)) (ap (faces_of ms) one_import ∙ one_face) f) ∙ ap loaded_face (sym l.1)) tt,
   )
     where
-      one_face : faces_of ms (with_key (slice_get ms place)) ≡ face_of_loaded l.0 ∷ []
-      one_face = ap (λ o. faces_of ms (with_key o)) l.1 ∙ ap (λ o. with_face o ++ []) l.2
+      one_import : imported_by ms (length (all_imported ms s.block)) (entry.Module s.import_count place) ≡ import_of l.0 ∷ []
+      one_import = next_import ms s.import_count (length (all_imported ms s.block)) place ((g.2).2).0 ∙ ap with_key l.1
+
+      one_face : faces_of ms (import_of l.0 ∷ []) ≡ face_of_loaded l.0 ∷ []
+      one_face = ap (λ o. with_face o ++ []) l.2
+
+  -- and one that has one
+  again_more : (s : Scope) (name : List ℕ) (own : List ℕ) (place import : ℕ) → IsLoaded ms own place → number_of_module s.block place ≡ Some import → InModule s → InModule (with_entry s name false (entry.Module import place))
+  again_more s name own place import l e g = (
+    g.0,
+    g.1,
+    more s.exported_count s.own_count s.import_count s.block (record { name = name; exported = is_empty s.around && false; entry = entry.Module import place }) s.exported_count s.own_count s.import_count g.2
+        (none_more s.exported_count (exported_variables s.block) (g.2).0) (none_more s.own_count (own_variables s.block) (g.2).1)
+        (subst (λ (js : List Imported). Counted s.import_count (all_imported ms s.block ++ js)) (sym no_more) (no_import s g))
+        (λ a b c x y z. read a b c (part a (exported_variables s.block) [] x) (part b (own_variables s.block) [] y) (part c (faces_of ms (all_imported ms s.block)) _ z)) tt,
+  )
+    where
+      read : (exported own : List ModuleVariable) (faces : List Face) → StartsWith exported (exported_variables s.block) → StartsWith own (own_variables s.block) → StartsWith faces (faces_of ms (all_imported ms s.block)) → slice_get faces import ≡ loaded_face (slice_get ms place)
+      read exported own faces x y z = number_read ms exported own faces s.block place import ((g.2).3 exported own faces x y z) e
+
+      inside : import < length (faces_of ms (all_imported ms s.block))
+      inside = slice_get_within (faces_of ms (all_imported ms s.block)) import (face_of_loaded l.0) (
+          read (exported_variables s.block) (own_variables s.block) (faces_of ms (all_imported ms s.block)) (same (exported_variables s.block)) (same (own_variables s.block)) (same (faces_of ms (all_imported ms s.block)))
+          ∙ ap loaded_face l.1)
+
+      before : (n faces imports : ℕ) → n ≡ imports → n ≡ faces → import < faces → import < imports
+      before n faces imports a b c = omega arith
+
+      no_more : imported_by ms (length (all_imported ms s.block)) (entry.Module import place) ≡ []
+      no_more = earlier_import ms import (length (all_imported ms s.block)) place (before s.import_count (length (faces_of ms (all_imported ms s.block))) (length (all_imported ms s.block)) ((g.2).2).0 ((g.2).2).1 inside)
+
+  numbered_fits : (s : Scope) (name own : List ℕ) (place : ℕ) (o : Option ℕ) (t : Scope) → IsLoaded ms own place → number_of_module s.block place ≡ o → gives (module_numbered s name place o) t → InModule s → InModule t
+  unfolding module_numbered
+  numbered_fits s name own place None t l e h g = subst InModule h.2 (first_more s name own place h.0 l (counted_by max_count s.import_count h.0 h.1) g)
+  numbered_fits s name own place (Some import) t l e h g = subst InModule h (again_more s name own place import l e g)
+
+  module_fits : (s : Scope) (name : List ℕ) (own : List ℕ) (place : ℕ) (t : Scope) → IsLoaded ms own place → gives (with_module s name place) t → InModule s → InModule t
+  module_fits s name own place t l h g = numbered_fits s name own place (number_of_module s.block place) t l refl h g
 
   import_as_fits : (s : Scope) (name own : List ℕ) (n : StandardName) (t : Scope) → gives (imported_as ms s name own n) t → InModule s → InModule t
   unfolding imported_as other_module module_place
@@ -286,13 +378,13 @@ module _ (ms : Modules) (loaded : EachSolid ms) where
     g.0,
     g.1,
     more s.exported_count s.own_count s.import_count s.block (record { name = name; exported = is_empty s.around && false; entry = entry.In }) s.exported_count s.own_count s.import_count g.2
-        (none_more s.exported_count (exported_variables s.block) (g.2).0) (none_more s.own_count (own_variables s.block) (g.2).1) (none_more s.import_count (faces_of ms (all_imported ms s.block)) (g.2).2) (λ a b c d e f. tt) tt,
+        (none_more s.exported_count (exported_variables s.block) (g.2).0) (none_more s.own_count (own_variables s.block) (g.2).1) (no_import s g) (λ a b c d e f. tt) tt,
   )
   import_as_fits s name own standard.Out t h g = subst InModule h (
     g.0,
     g.1,
     more s.exported_count s.own_count s.import_count s.block (record { name = name; exported = is_empty s.around && false; entry = entry.Out }) s.exported_count s.own_count s.import_count g.2
-        (none_more s.exported_count (exported_variables s.block) (g.2).0) (none_more s.own_count (own_variables s.block) (g.2).1) (none_more s.import_count (faces_of ms (all_imported ms s.block)) (g.2).2) (λ a b c d e f. tt) tt,
+        (none_more s.exported_count (exported_variables s.block) (g.2).0) (none_more s.own_count (own_variables s.block) (g.2).1) (no_import s g) (λ a b c d e f. tt) tt,
   )
   import_as_fits s name own standard.System t h g = absurd h
   import_as_fits s name own standard.Other t h g =
@@ -303,7 +395,7 @@ module _ (ms : Modules) (loaded : EachSolid ms) where
   import_fits s i t h g = import_as_fits s i.name.name (own_name i.name i.module_name) (standard_named (own_name i.name i.module_name)) t (h.1).1 g
 
   opening_fits : (name : List ℕ) → InModule (opening name)
-  opening_fits name = (refl, refl, (refl, refl, refl, (λ a b c d e f. tt), tt))
+  opening_fits name = (refl, refl, (refl, refl, (refl, refl), (λ a b c d e f. tt), tt))
 
   declared_fits : (m : Module) (s : Scope) → gives (declarations.module_rule ms m) s → InModule s
   unfolding declarations.module_rule

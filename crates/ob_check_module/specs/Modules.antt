@@ -1,6 +1,6 @@
 -- To be believed.
 -- Modules (Wirth, The Programming Language Oberon, Oberon-07): the typed module, its interface, and what it imports.
-use Rattle.std.specs.Prelude.{List, [], ◌∷◌, ◌++◌, Option, Some, None, slice_get}
+use Rattle.std.specs.Prelude.{ℕ, List, [], ◌∷◌, ◌++◌, length, Option, Some, None, nat_eq, slice_get, if◌then◌else◌}
 use Rattle.ob_tree.specs.declared.tree.Declarations.{out-Declarations}
 use Rattle.ob_tree.specs.declared.tree.Module.{Module}
 use Rattle.ob_types.specs.InterfaceText.{interface_text}
@@ -44,19 +44,24 @@ own_variables (d ∷ ds) = own_variable d.entry ++ own_variables ds
 abbrev pub declared_variables : List Declared → List ModuleVariable
 declared_variables ds = exported_variables ds ++ own_variables ds
 
--- ---- imports, each with the key that the module has now
+-- ---- imports, each with the key that the module has now: a module that has several names is one of them
 
 abbrev pub with_key : Option LoadedTree → List Imported
 with_key None = []
 with_key (Some m) = record { name = m.interface.name; key = interface_text m.interface } ∷ []
 
-abbrev pub imported_by : Modules → Entry → List Imported
-imported_by ms (entry.Module import place) = with_key (slice_get ms place)
-imported_by ms e = []
+-- the module that is the next one behind so many, if a name stands for it
+abbrev pub imported_by : Modules → ℕ → Entry → List Imported
+imported_by ms n (entry.Module import place) = if nat_eq import n then with_key (slice_get ms place) else []
+imported_by ms n e = []
+
+-- these, and those behind them
+abbrev pub with_imports : Modules → List Imported → List Declared → List Imported
+with_imports ms is [] = is
+with_imports ms is (d ∷ ds) = with_imports ms (is ++ imported_by ms (length is) d.entry) ds
 
 abbrev pub all_imported : Modules → List Declared → List Imported
-all_imported ms [] = []
-all_imported ms (d ∷ ds) = imported_by ms d.entry ++ all_imported ms ds
+all_imported ms ds = with_imports ms [] ds
 
 -- ---- the whole
 

@@ -1,6 +1,6 @@
 //! Modules.
 
-ghost use Rattle.std.specs.Prelude.{◌≡◌, ◌++◌, [], option_copied, IfOk, IfErr};
+ghost use Rattle.std.specs.Prelude.{◌≡◌, ◌++◌, [], length, option_copied, IfOk, IfErr};
 ghost use Rattle.ob_tree.specs.declared.tree.Declarations.{out-Declarations};
 ghost use Rattle.ob_check_scope.specs.Rule.{Judges, gives, answer};
 ghost use Rattle.ob_check_module.specs.CheckedTree.{CheckedTree};
@@ -119,16 +119,23 @@ fn with_key(
     }
 }
 
+/// These imports, and the module of a name where it is the next one behind them.
 fn imported_by(
     alloc: Global,
     imports: &Imports,
     so_far: Items<Imported>,
     entry: &Entry,
 ) -> Result<Items<Imported>, AllocError>
-    ensures { IfOk result (λ is. is ≡ so_far ++ spec.imported_by imports.now entry.now) }
+    ensures { IfOk result (λ is. is ≡ so_far ++ spec.imported_by imports.now (length so_far) entry.now) }
 {
     match entry {
-        Entry::Module(_, place) => with_key(alloc, so_far, imports.modules().get(*place)),
+        Entry::Module(import, place) => {
+            if *import == so_far.len() {
+                with_key(alloc, so_far, imports.modules().get(*place))
+            } else {
+                Ok(so_far)
+            }
+        }
         _ => Ok(so_far),
     }
 }

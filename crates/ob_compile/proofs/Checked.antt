@@ -1,5 +1,5 @@
 -- What the static rules give can be compiled.
-use Rattle.std.proofs.Common.{◌≡◌, ℕ, zero, suc, Bool, true, false, cond, List, [], ◌∷◌, ◌++◌, Option, Some, None, is_some, slice_get, refl, sym, ap, ◌∙◌, subst}
+use Rattle.std.proofs.Common.{◌≡◌, ℕ, zero, suc, nat_eq, Bool, true, false, cond, List, [], ◌∷◌, ◌++◌, length, Option, Some, None, is_some, slice_get, refl, sym, ap, ◌∙◌, subst}
 use Rattle.std.specs.Prelude.{IsSome}
 use Rattle.std.specs.Str.{bytes_eq}
 use Rattle.std.proofs.lemmas.Slice.Eq.{bytes_eq-Decides}
@@ -13,7 +13,7 @@ use Rattle.ob_check_scope.specs.LoadedTree.{LoadedTree}
 use Rattle.ob_check_scope.specs.Rule.{gives}
 use Rattle.ob_check_module.specs.declared.checked.Imported.{Imported}
 use Rattle.ob_check_module.specs.CheckedTree.{CheckedTree}
-use Rattle.ob_check_module.specs.Modules.{all_imported, body_rule, checked_rule, imported_by, module_at, procedures_rule, with_key}
+use Rattle.ob_check_module.specs.Modules.{body_rule, checked_rule, imported_by, module_at, procedures_rule, with_imports, with_key}
 use Rattle.ob_check_laws.specs.Fitting.{face_named, face_of_loaded, faces_of, with_face}
 use Rattle.ob_check_laws.proofs.Modules.{each_checked}
 use Rattle.ob_compile.specs.Compilable.{AreFacesOf, EachCheckedIsCompilable}
@@ -50,24 +50,30 @@ key_loaded : (ms : Modules) (place : ℕ) (o : Option LoadedTree) → slice_get 
 key_loaded ms place None h = tt
 key_loaded ms place (Some m) h = (loaded_named ms place m h, tt)
 
-entry_loaded : (ms : Modules) (e : Entry) → AllLoaded ms (imported_by ms e)
-entry_loaded ms (entry.Constant c) = tt
-entry_loaded ms (entry.TypeName t) = tt
-entry_loaded ms (entry.Variable t s) = tt
-entry_loaded ms (entry.Procedure p n) = tt
-entry_loaded ms entry.In = tt
-entry_loaded ms entry.Out = tt
-entry_loaded ms (entry.Module i place) = key_loaded ms place (slice_get ms place) refl
+entry_loaded : (ms : Modules) (n : ℕ) (e : Entry) → AllLoaded ms (imported_by ms n e)
+entry_loaded ms n (entry.Constant c) = tt
+entry_loaded ms n (entry.TypeName t) = tt
+entry_loaded ms n (entry.Variable t s) = tt
+entry_loaded ms n (entry.Procedure p k) = tt
+entry_loaded ms n entry.In = tt
+entry_loaded ms n entry.Out = tt
+entry_loaded ms n (entry.Module i place) = by (nat_eq i n)
+  where
+    by : (b : Bool) → AllLoaded ms (cond b (with_key (slice_get ms place)) [])
+    by true = key_loaded ms place (slice_get ms place) refl
+    by false = tt
 
-block_loaded : (ms : Modules) (ds : List Declared) → AllLoaded ms (all_imported ms ds)
-block_loaded ms [] = tt
-block_loaded ms (d ∷ ds) = joined_loaded ms (imported_by ms d.entry) (all_imported ms ds) (entry_loaded ms d.entry) (block_loaded ms ds)
+block_loaded : (ms : Modules) (is : List Imported) (ds : List Declared) → AllLoaded ms is → AllLoaded ms (with_imports ms is ds)
+block_loaded ms is [] h = h
+block_loaded ms is (d ∷ ds) h =
+    let more = imported_by ms (length is) d.entry in
+    block_loaded ms (is ++ more) ds (joined_loaded ms is more h (entry_loaded ms (length is) d.entry))
 
 imports_loaded : (ms : Modules) (m : Module) (c : CheckedTree) → gives (module_at ms m) c → AllLoaded ms c.imports
 unfolding module_at checked_rule procedures_rule body_rule
 imports_loaded ms m c h =
     let checking = (h.2).0 in
-    subst (λ (x : CheckedTree). AllLoaded ms x.imports) (((h.2).2).2) (block_loaded ms checking.0.block)
+    subst (λ (x : CheckedTree). AllLoaded ms x.imports) (((h.2).2).2) (block_loaded ms [] checking.0.block tt)
 
 -- ---- and no face but theirs is among them
 
