@@ -65,14 +65,15 @@ pub fn head(alloc: Global, stream: &mut TcpStream) -> io::Result<String> {
     Ok(head)
 }
 
-/// Sends a text of 126 to 65,535 bytes.
-pub fn send(stream: &mut TcpStream, text: &str) -> io::Result<()> {
+/// Adds a frame of a text of 126 to 65,535 bytes.
+pub fn add_frame(frames: &mut Vec<u8>, text: &str) -> io::Result<()> {
     let Ok(len) = u16::try_from(text.len()) else {
         return Err(ErrorKind::InvalidInput.into());
     };
     let size = len.to_be_bytes();
-    stream.write_all(&[0x81, 0xfe, size[0], size[1], 0, 0, 0, 0])?;
-    stream.write_all(text.as_bytes())
+    frames.extend_from_slice(&[0x81, 0xfe, size[0], size[1], 0, 0, 0, 0])?;
+    frames.extend_from_slice(text.as_bytes())?;
+    Ok(())
 }
 
 /// What comes next.

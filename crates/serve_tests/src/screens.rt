@@ -1,8 +1,8 @@
 //! Kernels and screens.
 
 use crate::rows::{
-    BUSY_A, BUSY_C, CELL, IDLE_A, IDLE_C, INFO, INFO_A, INPUT_C, ITS_ID, KERNEL, OK_C, SCREEN,
-    SHOWS_42,
+    BUSY_A, BUSY_C, BUSY_D, CELL, IDLE_A, IDLE_C, IDLE_D, INFO, INFO_A, INPUT_C, INPUT_D, ITS_ID,
+    KERNEL, OK_C, OK_D, SCREEN, SHOWS_4, SHOWS_42,
 };
 use crate::steps::{Step, play};
 use std::test::Fail;
@@ -20,6 +20,48 @@ const TWO_SCREENS: &[Step] = &[
     Step::Sends(0, "c", CELL, r#"{"code":"42\n"}"#),
     Step::Sees(0, &[BUSY_C, INPUT_C, SHOWS_42, OK_C, IDLE_C]),
     Step::Sees(1, &[BUSY_C, INPUT_C, SHOWS_42, IDLE_C]),
+];
+
+/// How the cell `c` ends, whose text is `!`, and how a cell `d` ends that came with it.
+const TRAP_C: &str =
+    r#""ename":"Trap","evalue":"trap 2 in , line 1"*"msg_type":"error"*"parent_header":{*"msg_id":"c""#;
+
+const TRAP_REPLY_C: &str =
+    r#""execution_count":1,"status":"error"*"msg_type":"execute_reply"*"parent_header":{*"msg_id":"c""#;
+
+const ABORTED: &str =
+    r#""channel":"shell","content":{"status":"aborted"}*"msg_type":"execute_reply"*"parent_header":{*"msg_id":"d""#;
+
+const BURST: &[Step] = &[
+    KERNEL,
+    ITS_ID,
+    SCREEN,
+    Step::Sends(0, "a", INFO, "{}"),
+    Step::Sees(0, &[BUSY_A, INFO_A, IDLE_A]),
+    Step::Bursts(
+        0,
+        &[
+            ("c", r#"{"code":"!"}"#),
+            ("d", r#"{"code":"4"}"#),
+            ("d", r#"{"code":"4"}"#),
+        ],
+    ),
+    Step::Sees(0, &[BUSY_C, INPUT_C, TRAP_C, TRAP_REPLY_C, IDLE_C]),
+    Step::Sees(0, &[BUSY_D, ABORTED, IDLE_D, BUSY_D, ABORTED, IDLE_D]),
+    Step::Sends(0, "d", CELL, r#"{"code":"4"}"#),
+    Step::Sees(0, &[BUSY_D, INPUT_D, SHOWS_4, OK_D, IDLE_D]),
+];
+
+const HASTY_SCREEN: &[Step] = &[
+    KERNEL,
+    ITS_ID,
+    SCREEN,
+    Step::Sends(0, "a", INFO, "{}"),
+    Step::Sees(0, &[BUSY_A, INFO_A, IDLE_A]),
+    SCREEN,
+    Step::Sends(1, "c", CELL, r#"{"code":"4"}"#),
+    Step::Leaves(1),
+    Step::Sees(0, &[BUSY_C, INPUT_C, SHOWS_4, IDLE_C]),
 ];
 
 const EIGHT_SCREENS: &[Step] = &[
@@ -74,6 +116,18 @@ const SEVENTEEN_KERNELS: &[Step] = &[
 #[test]
 fn two_screens(rt: HostRuntime) -> Result<(), Fail> {
     play(rt, rt.alloc(), TWO_SCREENS)
+}
+
+/// Cells that came in one piece with a cell that fails are aborted, and a later one runs.
+#[test]
+fn burst(rt: HostRuntime) -> Result<(), Fail> {
+    play(rt, rt.alloc(), BURST)
+}
+
+/// A screen sends a cell and is gone at once: the cell runs, and another screen sees it.
+#[test]
+fn hasty_screen(rt: HostRuntime) -> Result<(), Fail> {
+    play(rt, rt.alloc(), HASTY_SCREEN)
 }
 
 /// Seven screens have a seat, and the eighth finds none until one of the others is gone.

@@ -1,7 +1,8 @@
 //! Tests as rows of steps.
 
-use crate::client::{NOTHING, connect, drip, head, message, rest, send};
+use crate::client::{NOTHING, add_frame, connect, drip, head, message, rest};
 use crate::crew::{Manner, begin};
+use crate::rows::CELL;
 use js_shelf::{Item, Shelf};
 use std::alloc::{AllocError, Global};
 use std::io::{ErrorKind, Write};
@@ -35,6 +36,8 @@ pub enum Step {
     Opens(&'static str),
     /// A screen sends a message of this identifier, type and content on the shell channel, or a shutdown on the control channel.
     Sends(usize, &'static str, &'static str, &'static str),
+    /// A screen sends cells of these identifiers and contents, in one piece.
+    Bursts(usize, &'static [(&'static str, &'static str)]),
     /// The next messages of a screen are like these.
     Sees(usize, &'static [&'static str]),
     /// A screen is gone.
@@ -164,7 +167,8 @@ impl Client {
         }
     }
 
-    fn tell(&mut self, place: usize, id: &str, kind: &str, content: &str) -> io::Result<()> {
+    /// Adds the frame of a message.
+    fn add(&self, frames: &mut Vec<u8>, id: &str, kind: &str, content: &str) -> io::Result<()> {
         let channel = if kind == "shutdown_request" {
             "control"
         } else {
@@ -173,7 +177,21 @@ impl Client {
         let text = format!(in self.alloc;
             "{{\"channel\":\"{channel}\",\"content\":{content},\"header\":{{\"msg_id\":\"{id}\",\"msg_type\":\"{kind}\",\"session\":\"s\"}},\"metadata\":{{\"cellId\":\"c1\"}},\"parent_header\":{{}}}}"
         )?;
-        send(self.stream(place)?, text.as_str())
+        add_frame(frames, text.as_str())
+    }
+
+    fn tell(&mut self, place: usize, id: &str, kind: &str, content: &str) -> io::Result<()> {
+        let mut frames = Vec::new(self.alloc);
+        self.add(&mut frames, id, kind, content)?;
+        self.stream(place)?.write_all(frames.as_slice())
+    }
+
+    fn burst(&mut self, place: usize, cells: &[(&str, &str)]) -> io::Result<()> {
+        let mut frames = Vec::new(self.alloc);
+        for (id, content) in cells {
+            self.add(&mut frames, id, CELL, content)?;
+        }
+        self.stream(place)?.write_all(frames.as_slice())
     }
 
     /// Reads messages that must be like these. The answer is the first that is not.
@@ -247,7 +265,7 @@ impl Client {
             return Err(ErrorKind::InvalidData.into());
         };
         for _ in 0..count {
-            self.tell(place, id.as_str(), "execute_request", "{\"code\":\"4\"}")?;
+            self.tell(place, id.as_str(), CELL, "{\"code\":\"4\"}")?;
             for _ in 0..10 {
                 let text = message(self.alloc, self.stream(place)?)?;
                 if is_like(text.as_str(), "\"execution_state\":\"idle\"") {
@@ -290,6 +308,7 @@ impl Client {
         match step {
             Step::Notes(mark) => self.note(mark)?,
             Step::Sends(place, id, kind, content) => self.tell(*place, id, kind, content)?,
+            Step::Bursts(place, cells) => self.burst(*place, cells)?,
             Step::Leaves(place) => drop(self.take(*place)?),
             Step::Sees(place, wanted) => return self.see(*place, wanted),
             Step::Ends(place, text, parts) => return self.end(*place, text, parts),
