@@ -12,8 +12,9 @@ use jk_log::Entry;
 use js_shelf::{Bytes, Item, Shelf, ShelfRefusal};
 use js_tables::{Kernel, Recording, Tables, Update, find_kernel};
 use json_form::Text;
-use nb_doc::{Listed, write_notebook};
+use nb_doc::Listed;
 use nb_record::ends_stored;
+use nb_text::write_notebook;
 use std::alloc::{AllocError, Global};
 
 pub(crate) fn place_of(recordings: &[Recording], kernel: &str) -> Option<usize>
