@@ -8,3 +8,4 @@ pub mod Empty
 pub mod PutSteps
 pub mod Parts
 pub mod Aiming
+pub mod Showing
