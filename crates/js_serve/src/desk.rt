@@ -32,6 +32,8 @@ mod ends;
 mod recorders;
 mod stopping;
 
+pub use stopping::{Closes, close_desk};
+
 /// How many jobs may wait with no memory for more: the thread that calls for recorders, and some more.
 const ROOM: usize = 4;
 

@@ -27,7 +27,7 @@ pub use bell::Bell;
 pub use call::{Call, Place, Reply, Upgrade};
 pub use client::{Client, Made};
 pub use crowd::{Guest, Ticket};
-pub use desk::Desk;
+pub use desk::{Closes, Desk, close_desk};
 pub use driving::{NewKernel, Opened, Opening, drive_kernel};
 pub use job::{Job, Parser, parse, work};
 pub use kernels::Kernels;

@@ -3,7 +3,7 @@
 use js_files::FileShelf;
 use js_paced::Selector;
 use js_page::page;
-use js_serve::{Desk, Job, Limits, Parser, drive_kernel, parse, work};
+use js_serve::{Desk, Job, Limits, Parser, close_desk, drive_kernel, parse, work};
 use ob_language::Oberon;
 use std::alloc::Global;
 use std::io::Write;
@@ -150,11 +150,11 @@ where
         None => false,
     };
     if !accepts {
-        drop(desk.close());
+        drop(close_desk(desk));
         return Err(Unserved::Memory);
     }
     if announce(output, port).is_err() {
-        drop(desk.close());
+        drop(close_desk(desk));
         return Err(Unserved::Device);
     }
     for _ in rt.forever() {
@@ -165,7 +165,7 @@ where
             let _ = start(rt, alloc, job);
         }
         if desk.has_stopped() {
-            drop(desk.close());
+            drop(close_desk(desk));
             return Ok(());
         }
     }

@@ -1,6 +1,6 @@
 //! The server over the small language.
 
-use js_serve::{Desk, Job, Limits, Parser, drive_kernel, parse, work};
+use js_serve::{Desk, Job, Limits, Parser, close_desk, drive_kernel, parse, work};
 use js_shelf::MemoryShelf;
 use std::alloc::Global;
 use std::io::ErrorKind;
@@ -88,7 +88,7 @@ where
             break;
         }
     }
-    Some(desk.close())
+    Some(close_desk(desk))
 }
 
 /// A server that runs in a thread of its own.

@@ -45,23 +45,30 @@ fn nothing(alloc: Global) -> Result<Bytes, AllocError> {
     Ok(Bytes::from(content))
 }
 
-impl<L, R, S> Desk<L, R, S>
+/// What ends by value, and leaves something.
+pub trait Closes {
+    /// What it leaves.
+    type Left: Drop;
+
+    /// Answers all who wait still.
+    fn close(self) -> Self::Left;
+}
+
+/// Closes a desk: all who wait still are answered that the server stops. The files are left.
+pub fn close_desk<D: Closes>(desk: D) -> D::Left {
+    desk.close()
+}
+
+impl<L, R, S> Closes for Desk<L, R, S>
 where
     L: Language,
     R: Wait + Clock + RandomSource + Copy + Drop,
     S: Shelf + Drop,
     Kernels<R, L>: Running,
 {
-    /// Whether the server was told to stop, and has: each kernel has ended, or five seconds have passed.
-    pub fn has_stopped(&self) -> bool {
-        match &self.stopping {
-            Some(stopping) => stopping.done,
-            None => false,
-        }
-    }
+    type Left = S;
 
-    /// Answers all who wait still that the server stops. The files are left.
-    pub fn close(self) -> S {
+    fn close(self) -> S {
         let Desk {
             rt,
             alloc,
@@ -80,6 +87,22 @@ where
         } = self;
         clients.close(&rt, alloc);
         shelf
+    }
+}
+
+impl<L, R, S> Desk<L, R, S>
+where
+    L: Language,
+    R: Wait + Clock + RandomSource + Copy + Drop,
+    S: Shelf + Drop,
+    Kernels<R, L>: Running,
+{
+    /// Whether the server was told to stop, and has: each kernel has ended, or five seconds have passed.
+    pub fn has_stopped(&self) -> bool {
+        match &self.stopping {
+            Some(stopping) => stopping.done,
+            None => false,
+        }
     }
 
     /// The server was told to stop. Requests that wait are answered that it is not there for them. Where memory is refused, it
