@@ -12,6 +12,8 @@ mod notebooks;
 #[cfg(test)]
 mod origins;
 #[cfg(test)]
+mod read_books;
+#[cfg(test)]
 mod requests;
 #[cfg(test)]
 mod shelves;

@@ -51,7 +51,7 @@ fn again(rt: &HostRuntime, text: &str) -> Result<String, Fail> {
 }
 
 /// A notebook of a minor version with these cells.
-fn notebook_text(rt: &HostRuntime, minor: u32, cells: &str) -> Result<String, Fail> {
+pub(crate) fn notebook_text(rt: &HostRuntime, minor: u32, cells: &str) -> Result<String, Fail> {
     Ok(format!(in rt.alloc();
         "{{\"cells\":[{cells}],\"metadata\":{{}},\"nbformat\":4,\"nbformat_minor\":{minor}}}"
     )?)
@@ -122,7 +122,7 @@ fn joins_streams_of_one_name(rt: HostRuntime) -> Result<(), Fail> {
     Ok(())
 }
 
-const REFUSED: [(&str, NbFault); 8] = [
+pub(crate) const REFUSED: [(&str, NbFault); 8] = [
     ("{", NbFault::NotJson),
     ("[1.5]", NbFault::NotWhole),
     (
@@ -219,7 +219,7 @@ const FIRST: [(u32, &[&str], Option<NbFault>); 8] = [
 ];
 
 /// Texts with a comma between each two.
-fn joined(rt: &HostRuntime, texts: &[&str]) -> Result<String, Fail> {
+pub(crate) fn joined(rt: &HostRuntime, texts: &[&str]) -> Result<String, Fail> {
     let mut all = String::new(rt.alloc());
     for text in texts {
         if !all.is_empty() {
@@ -259,13 +259,13 @@ fn raises_older_notebooks(rt: HostRuntime) -> Result<(), Fail> {
 
 /// A code cell with metadata, an output that is kept as it is, and an error with a field that has no meaning; and a raw cell
 /// with attachments and such a field.
-const NAMED: [&str; 2] = [
+pub(crate) const NAMED: [&str; 2] = [
     "{\"cell_type\":\"code\",\"id\":\"a\",\"metadata\":{\"k\":-1},\"source\":\"\",\"execution_count\":7,\"outputs\":[{\"data\":{\"text/plain\":\"x\"},\"metadata\":{},\"output_type\":\"display_data\",\"z\":[1,{}]},{\"ename\":\"Trap\",\"evalue\":\"v\",\"output_type\":\"error\",\"traceback\":[\"Trap\",\"v\"],\"more\":1}]}",
     "{\"attachments\":{\"p.png\":{\"image/png\":\"AA==\"}},\"cell_type\":\"raw\",\"id\":\"b\",\"metadata\":{},\"source\":\"x\",\"more\":2}",
 ];
 
 /// The same as it is written: an output of another kind with all its fields, else those that have a name.
-const NAMED_AGAIN: &str = "{
+pub(crate) const NAMED_AGAIN: &str = "{
   \"cells\": [
     {
       \"cell_type\": \"code\",

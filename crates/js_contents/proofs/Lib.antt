@@ -9,3 +9,4 @@ pub mod PutSteps
 pub mod Parts
 pub mod Aiming
 pub mod Showing
+pub mod BookPuts

@@ -13,7 +13,8 @@ use js_http::ErrorStatus;
 use js_shelf::{Bytes, Item, Shelf};
 use js_tables::Refusal;
 use json_form::Json;
-use nb_doc::{NbBad, Notebook, notebook_of_value, read_notebook, write_notebook};
+use nb_doc::{NbBad, Notebook, notebook_of_value, write_notebook};
+use nb_read::read_notebook;
 use std::alloc::{AllocError, Global};
 
 fn read_answer(answer: Result<Notebook, NbBad>) -> Result<Notebook, Refusal>

@@ -2,7 +2,10 @@
 ghost use Rattle.std.specs.Prelude.{◌≡◌, ◌≤◌, filter, Some, IfOk};
 ghost use Rattle.serde_json.specs.Data.{depth};
 ghost use Rattle.serde_json.specs.Read.{max_depth};
+ghost use Rattle.nb_doc.specs.Documents.{IsDocument};
+ghost use Rattle.nb_doc.specs.Writing.{notebook_form};
 ghost use Rattle.js_contents.specs.Puts as spec;
+ghost use Rattle.js_contents.specs.declared.put.Putting.TheVariants.{Notebook as Book};
 ghost use Rattle.js_tables.specs.Plans.{Gives};
 
 use crate::kind::is_notebook_name;
@@ -15,6 +18,7 @@ use js_shelf::Bytes;
 use js_tables::{ReadNotebook, Refusal, given_text_in, read_body, text_in};
 use json_form::{Json, Text};
 use nb_doc::taken_field;
+use nb_read::{BookPut, Unread, read_book_put};
 use std::alloc::{AllocError, Global};
 
 /// What is put.
@@ -138,10 +142,32 @@ fn put_body_in(alloc: Global, body: Json) -> Result<PutBody, Refusal>
     })
 }
 
+/// What a body says that puts a notebook.
+fn book_body(put: BookPut) -> PutBody
+    requires document { IsDocument put.notebook }
+    requires shallow { depth (notebook_form put.notebook) ≤ max_depth }
+    ensures putting { result.putting ≡ Book put.notebook }
+    ensures last_modified { result.last_modified ≡ put.last_modified }
+{
+    let BookPut {
+        notebook,
+        last_modified,
+    } = put;
+    PutBody {
+        putting: Putting::Notebook(ReadNotebook::new(notebook)),
+        last_modified,
+    }
+}
+
+/// What a body says. A notebook of 4.5 is made straight of the body's text, and any other body is read as a value first.
 fn put_body(alloc: Global, content: &[u8]) -> Result<PutBody, Refusal>
     ensures { Gives result (spec.put_body content.now) }
 {
-    put_body_in(alloc, read_body(alloc, content)?)
+    match read_book_put(alloc, content) {
+        Ok(put) => Ok(book_body(put)),
+        Err(Unread::Memory) => Err(Refusal::Failed),
+        Err(Unread::Other) => put_body_in(alloc, read_body(alloc, content)?),
+    }
 }
 
 /// What is put under that name: a file under a notebook's name is read as a notebook, and a notebook goes nowhere else.

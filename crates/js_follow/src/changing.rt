@@ -11,7 +11,8 @@ use crate::joining::joint;
 use js_shelf::{Bytes, Item, ItemKind, Shelf, ShelfRefusal};
 use js_tables::Recording;
 use json_form::Text;
-use nb_doc::{NbBad, Notebook, read_notebook};
+use nb_doc::{NbBad, Notebook};
+use nb_read::read_notebook;
 use std::alloc::{AllocError, Global};
 
 fn are(bytes: &[u8], other: &Option<Bytes>) -> bool

@@ -11,7 +11,8 @@ ghost use Rattle.nb_doc.specs.Writing.{notebook_form};
 
 use crate::status::RunFault;
 use js_shelf::{Item, Shelf, ShelfRefusal};
-use nb_doc::{NbBad, Notebook, read_notebook};
+use nb_doc::{NbBad, Notebook};
+use nb_read::read_notebook;
 use std::alloc::Global;
 
 /// The notebook in a file of a shelf.

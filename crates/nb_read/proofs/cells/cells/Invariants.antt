@@ -1,0 +1,7 @@
+use Rattle.nb_read.proofs.Lists.{Grows}
+use Rattle.nb_read.specs.Own.{IsOwnCell}
+use Rattle.nb_read.proofs.cells.cells.Given as goal
+
+-- what was made of the items so far, with what those that are left are, is all
+abbrev pub invariant-loop-item : goal.invariant-loop-item
+invariant-loop-item l = Grows IsOwnCell l.item-items l.item-index l.found.items

@@ -1,0 +1,4 @@
+pub mod Lent
+pub mod Finds
+pub mod Own
+pub mod Puts
