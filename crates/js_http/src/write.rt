@@ -1,13 +1,18 @@
 //! Responses to a writer.
-ghost use Rattle.std.specs.Prelude.{◌≡◌, ◌+◌, ◌<◌, ◌++◌, ℕ, List, [], Some, None, length, codes};
+ghost use Rattle.std.specs.Prelude.{◌≡◌, ◌+◌, ◌<◌, ◌≤◌, ◌++◌, ℕ, List, [], Some, None, IsOk, OnOk, length, codes};
+ghost use Rattle.std.specs.Io.KnownBytes.{Appends};
 ghost use Rattle.std.specs.List.{flat_map};
 ghost use Rattle.js_http.specs.Writing.{WritesFront};
 ghost use Rattle.js_http.specs.Responses.{location_line, lines_text, content_text, page_text, switch_text, response_text};
 
 use crate::Response;
+use arrayvec::ArrayVec;
 use itoa::Buffer;
 use std::io;
 use std::io::{ErrorKind, Write};
+
+/// How many bytes are gathered for one write.
+const ROOM: usize = 4_096;
 
 /// Writes all the bytes, or stops at the first fault.
 pub(crate) fn write_bytes<W: Write>(writer: &mut W, bytes: &[u8]) -> io::Result<()>
@@ -24,14 +29,38 @@ pub(crate) fn write_bytes<W: Write>(writer: &mut W, bytes: &[u8]) -> io::Result<
     Ok(())
 }
 
-/// Writes the parts one after the other.
+/// Adds a part to what is gathered for one write. Where there is no room for it, what was gathered is written first, and a part
+/// that is longer than the room is written at once.
+fn add_part<W: Write>(
+    writer: &mut W,
+    gathered: &mut ArrayVec<u8, ROOM>,
+    part: &[u8],
+) -> io::Result<()>
+    ensures bytes { (gone : List ℕ) × (rest : List ℕ) × Appends (W.contents writer.old) (W.contents writer.new) gone
+        × (gathered.old.items ++ part.now ≡ gone ++ rest) × OnOk result (rest ≡ gathered.new.items) }
+    ensures fits { length gathered.old.items + length part.now ≤ 4096 →
+        IsOk result × (writer.new ≡ writer.old) × (gathered.new.items ≡ gathered.old.items ++ part.now) }
+{
+    if gathered.try_extend_from_slice(part).is_ok() {
+        return Ok(());
+    }
+    write_bytes(writer, gathered.as_slice())?;
+    gathered.clear();
+    if gathered.try_extend_from_slice(part).is_ok() {
+        return Ok(());
+    }
+    write_bytes(writer, part)
+}
+
+/// Writes the parts one after the other, as many at once as there is room for.
 fn write_parts<W: Write>(writer: &mut W, parts: &[&[u8]]) -> io::Result<()>
     ensures { WritesFront (W.contents writer.old) (W.contents writer.new) (flat_map (λ part. part.now) parts.now) result }
 {
+    let mut gathered = ArrayVec::new();
     for part in parts {
-        write_bytes(writer, part)?;
+        add_part(writer, &mut gathered, part)?;
     }
-    Ok(())
+    write_bytes(writer, gathered.as_slice())
 }
 
 /// Writes a response whose content is of that type and has `len` bytes, in digits.

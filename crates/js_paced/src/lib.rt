@@ -3,9 +3,11 @@
 
 mod calls;
 mod limited;
+mod owner;
 mod paced;
 mod rest;
 
 pub use limited::{Limited, end_of_answer};
-pub use paced::{Owner, Paced};
+pub use owner::Owner;
+pub use paced::Paced;
 pub use rest::{Rest, Selector, Waking};

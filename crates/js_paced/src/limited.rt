@@ -3,6 +3,7 @@ ghost use Rattle.std.specs.Prelude.{◌≡◌, ◌+◌, ◌<◌, ◌≤◌, IfNo
 ghost use Rattle.std.specs.Duration.{as_nanos};
 
 use crate::calls::{limit_writes, read_once, write_once};
+use crate::owner::Owner;
 use std::io;
 use std::io::{ErrorKind, Read, Write};
 use std::net::{Shutdown, TcpStream};
@@ -16,6 +17,21 @@ const ROOM: usize = 16_384;
 
 const READS: u32 = 4_096;
 
+/// Who owns the stream of one request: its writes have their whole time.
+struct Request;
+
+impl Owner for Request {
+    fn is_busy(&self) -> bool {
+        false
+    }
+
+    fn is_over(&self) -> bool {
+        false
+    }
+
+    fn came(&self) {}
+}
+
 /// A stream whose reads all end by one deadline, however many bytes come before it, and each of whose writes is a fault where
 /// the other side takes nothing for a time.
 #[derive(Drop)]
@@ -24,6 +40,8 @@ pub struct Limited<'s, R: Drop> {
     stream: &'s TcpStream,
     begun: Instant,
     limit: Duration,
+    /// For how many milliseconds the other side may take nothing of a write.
+    patience: u64,
 }
 
 impl<'s, R: Clock + Drop> Limited<'s, R> {
@@ -44,6 +62,7 @@ impl<'s, R: Clock + Drop> Limited<'s, R> {
             stream,
             begun,
             limit: Duration::from_millis(reads),
+            patience: writes,
         })
     }
 
@@ -85,7 +104,7 @@ impl<R: Clock + Drop> Read for Limited<'_, R> {
 
 impl<R: Clock + Drop> Write for Limited<'_, R> {
     fn write(&mut self, buf: &[u8]) -> io::Result<usize> {
-        write_once(self.stream, buf)
+        write_once(self.stream, &Request, self.patience, buf)
     }
 
     fn flush(&mut self) -> io::Result<()> {

@@ -4,6 +4,7 @@ ghost use Rattle.std.specs.Prelude.{◌≡◌, ◌<◌, ◌≤◌, ◌/◌, if�
 ghost use Rattle.std.specs.Io.{ReadsAtMost};
 
 use crate::calls::{limit_writes, read_once, write_once};
+use crate::owner::Owner;
 use crate::rest::Rest;
 use std::io::{ErrorKind, Read, Write};
 use std::net::{Shutdown, TcpStream};
@@ -27,15 +28,6 @@ const LONGEST_REST: u64 = 2_000;
 /// How many milliseconds a long read waits where the stream has no rest.
 const LONG_WAIT: u64 = 20;
 
-/// Whose stream it is.
-pub trait Owner {
-    /// Whether something is soon to be written, so that reads are to be short.
-    fn is_busy(&self) -> bool;
-
-    /// Something was read.
-    fn came(&self);
-}
-
 /// A stream whose reads end by a time limit.
 ///
 /// A short read asks for what is there, and sleeps where that is nothing: for 50 microseconds at first, and longer the longer
@@ -45,14 +37,16 @@ pub trait Owner {
 /// short while the owner is busy, and for some 50 milliseconds after something was read or written or the stream was called. A read
 /// that a signal interrupts has come to its time limit.
 ///
-/// A write fails where the other side takes nothing for a time. From then on the stream is shut down, and it drops what is written:
-/// its reads give what had come before, and then its end.
+/// A write fails where the other side takes nothing for a time, which is half a second once the owner is over. From then on the stream
+/// is shut down, and it drops what is written: its reads give what had come before, and then its end.
 #[derive(Drop)]
 pub struct Paced<'s, R: Drop, O> {
     rt: R,
     stream: &'s TcpStream,
     owner: &'s O,
     rest: Option<Rest>,
+    /// For how many milliseconds the other side may take nothing of a write.
+    patience: u64,
     /// Whether calls of the stream answer at once.
     at_once: bool,
     /// How many microseconds reads have waited since something was read or written or the stream was called.
@@ -80,6 +74,7 @@ impl<'s, R: Clock + Drop, O: Owner> Paced<'s, R, O> {
             stream,
             owner,
             rest,
+            patience,
             at_once: false,
             waited: 0,
             gave: false,
@@ -235,7 +230,7 @@ impl<R: Clock + Drop, O: Owner> Write for Paced<'_, R, O> {
         }
         self.answer_at_once(false)?;
         self.waited = 0;
-        match write_once(self.stream, buf) {
+        match write_once(self.stream, self.owner, self.patience, buf) {
             Ok(count) => Ok(count),
             Err(_) => {
                 self.failed = true;

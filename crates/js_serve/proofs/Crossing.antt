@@ -87,7 +87,7 @@ shared_send : IsSend (Arc.the_row (Mutex.the_row (Vec.the_row Neighbour.the_row 
 shared_send = Arc-send _ locked_send locked_sync
 
 neighbours_send : IsSend Neighbours.the_row
-neighbours_send = declared_send Neighbours.the_type (shared_send, (count_send, tt))
+neighbours_send = declared_send Neighbours.the_type (shared_send, (count_send, (flag_send, tt)))
 
 wakes_send : IsSend Wakes.the_row
 wakes_send = declared_send Wakes.the_type (bell_send, (neighbours_send, tt))

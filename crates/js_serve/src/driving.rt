@@ -220,7 +220,8 @@ pub fn drive_kernel<L: Language, R: Wait + Clock>(rt: &R, new: NewKernel<L>, par
     }
 }
 
-/// Hands out the ends of others, and drives the kernel.
+/// Hands out the ends of others, and drives the kernel. Once that has ended, its channels are told so: from then on none waits long for
+/// a screen that takes nothing.
 fn run<L: Language, R: Wait + Clock>(
     rt: &R,
     opening: Opening<L>,
@@ -238,6 +239,7 @@ fn run<L: Language, R: Wait + Clock>(
         slept: Cell::new(0),
     };
     let driver = drive(&driving, driver);
+    bells.wakes.channels.end();
     driving.ring_parsers();
     wait_until(rt, &left);
     finish(rt, driver);

@@ -3,17 +3,19 @@ ghost use Rattle.std.specs.Prelude.{◌≡◌, ◌≢◌, true, false};
 
 use js_paced::Waking;
 use std::alloc::{AllocError, Global};
-use std::sync::atomic::{AtomicU64, Ordering};
+use std::sync::atomic::{AtomicBool, AtomicU64, Ordering};
 use std::sync::{Arc, Mutex, Wait};
 
 /// How many channels a kernel has at most.
 const PLACES: usize = 7;
 
-/// The channels of one kernel: what wakes those that rest, and how many of them have read something that is not submitted yet.
+/// The channels of one kernel: what wakes those that rest, how many of them have read something that is not submitted yet, and
+/// whether the kernel has ended.
 #[derive(Drop)]
 pub struct Neighbours {
     rows: Arc<Mutex<Vec<Neighbour>>, Global>,
     reading: Arc<AtomicU64, Global>,
+    ended: Arc<AtomicBool, Global>,
 }
 
 /// The place of a channel, and what wakes it.
@@ -30,6 +32,7 @@ impl Neighbours {
         Ok(Neighbours {
             rows: Arc::new(alloc, Mutex::new(rows))?,
             reading: Arc::new(alloc, AtomicU64::new(0))?,
+            ended: Arc::new(alloc, AtomicBool::new(false))?,
         })
     }
 
@@ -38,6 +41,7 @@ impl Neighbours {
         Ok(Neighbours {
             rows: Arc::try_clone(&self.rows)?,
             reading: Arc::try_clone(&self.reading)?,
+            ended: Arc::try_clone(&self.ended)?,
         })
     }
 
@@ -76,6 +80,16 @@ impl Neighbours {
     /// Whether a channel has read something that is not submitted yet.
     pub(crate) fn are_reading(&self) -> bool {
         self.reading.load(Ordering::SeqCst) > 0
+    }
+
+    /// The kernel has ended: it shows nothing more.
+    pub(crate) fn end(&self) {
+        self.ended.store(true, Ordering::SeqCst);
+    }
+
+    /// Whether the kernel has ended.
+    pub(crate) fn have_ended(&self) -> bool {
+        self.ended.load(Ordering::SeqCst)
     }
 }
 

@@ -84,6 +84,10 @@ impl Owner for Signals<'_> {
         self.busy.get()
     }
 
+    fn is_over(&self) -> bool {
+        self.wakes.channels.have_ended()
+    }
+
     fn came(&self) {
         if !self.due.replace(true) {
             self.wakes.channels.begin_reading();
