@@ -1,5 +1,6 @@
-/* Preloaded into a program, refuses one of its allocations. REFUSED names a file of three numbers of eight bytes, which both
-   sides map: which allocation is refused (0: none, and none is counted), how many there were, how many were refused. */
+/* Preloaded into a program, refuses one of its allocations, or each one of a period. REFUSED names a file of four numbers of
+   eight bytes, which both sides map: which allocation is refused (0: none), how many there were, how many were refused, and the
+   period (0: none). Where none is to be refused none is counted. */
 #include <errno.h>
 #include <fcntl.h>
 #include <stdint.h>
@@ -11,6 +12,7 @@ struct told {
   uint64_t nth;
   uint64_t count;
   uint64_t refused;
+  uint64_t every;
 };
 
 static struct told none;
@@ -30,8 +32,10 @@ __attribute__((constructor)) static void begin(void) {
 
 static int is_refused(void) {
   uint64_t nth = __atomic_load_n(&told->nth, __ATOMIC_SEQ_CST);
-  if (nth == 0) return 0;
-  if (__atomic_add_fetch(&told->count, 1, __ATOMIC_SEQ_CST) != nth) return 0;
+  uint64_t every = __atomic_load_n(&told->every, __ATOMIC_SEQ_CST);
+  if (nth == 0 && every == 0) return 0;
+  uint64_t number = __atomic_add_fetch(&told->count, 1, __ATOMIC_SEQ_CST);
+  if (number != nth && (every == 0 || number % every != 0)) return 0;
   __atomic_add_fetch(&told->refused, 1, __ATOMIC_SEQ_CST);
   errno = ENOMEM;
   return 1;
