@@ -18,3 +18,7 @@ pub cut : {X : Type 0} (n : ℕ) (xs : List X) → take n xs ++ drop n xs ≡ xs
 cut zero xs = refl
 cut (suc n) [] = refl
 cut (suc n) (x ∷ xs) = ap (λ r. x ∷ r) (cut n xs)
+
+-- what was found at a place is what stands there
+pub same_there : {X : Type 0} (xs : List X) (i : ℕ) (x y : X) → i < length xs → y ≡ get_or xs i y → slice_get xs i ≡ Some x → y ≡ x
+same_there xs i x y lt e h = let found = get_there xs i y lt e in cc

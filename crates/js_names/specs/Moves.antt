@@ -1,6 +1,6 @@
 -- To be believed.
 -- PATCH of contents: a thing goes to another path, and what is known of it goes with it.
-use Rattle.std.specs.Prelude.{ℕ, Bool, true, false, List, [], ◌∷◌, ◌++◌, map, filter, Option, Some, None, is_some, Result, Ok, Err, if◌then◌else◌, codes}
+use Rattle.std.specs.Prelude.{◌≡◌, ℕ, Bool, true, false, List, [], ◌∷◌, ◌++◌, map, Option, Some, None, is_some, IsSome, Result, Ok, Err, if◌then◌else◌, codes}
 use Rattle.js_http.specs.declared.response.ErrorStatus.{ErrorStatus}
 use Rattle.js_http.specs.declared.response.ErrorStatus.TheVariants.{Conflict}
 use Rattle.js_http.specs.declared.response.Response.TheVariants.{Success}
@@ -11,16 +11,15 @@ use Rattle.js_tables.specs.declared.plan.Answer.{Answer}
 use Rattle.js_tables.specs.declared.plan.Answer.TheVariants.{Reply}
 use Rattle.js_tables.specs.declared.plan.Change.TheVariants as change
 use Rattle.js_tables.specs.declared.plan.Plan.{Plan}
-use Rattle.js_tables.specs.declared.plan.Update.TheVariants as update
 use Rattle.js_tables.specs.declared.refusal.Refusal.{Refusal}
-use Rattle.js_tables.specs.declared.tables.Dated.{Dated}
+use Rattle.js_tables.specs.declared.refusal.Refusal.TheVariants.{Failed}
 use Rattle.js_tables.specs.declared.tables.Kernel.{Kernel}
 use Rattle.js_tables.specs.declared.tables.Session.{Session}
 use Rattle.js_tables.specs.Bodies.{body_of, text_in}
 use Rattle.js_tables.specs.Forms.{body_text}
-use Rattle.js_tables.specs.Plans.{◌>>=◌, Gives}
+use Rattle.js_tables.specs.Plans.{◌>>=◌, Gives, updated}
 use Rattle.js_tables.specs.Sessions.{find_by_path}
-use Rattle.js_tables.specs.Tables.{Rows, date_at}
+use Rattle.js_tables.specs.Tables.{Dates, Rows, date_at}
 use Rattle.js_names.specs.declared.moves.Moving.{Moving}
 use Rattle.js_contents.specs.declared.place.Place.{Place}
 use Rattle.js_contents.specs.Forms.{bare_form}
@@ -40,20 +39,14 @@ moved_by to path (Some rest) = to ++ rest
 abbrev pub moved_path : List ℕ → List ℕ → List ℕ → List ℕ
 moved_path from to path = moved_by to path (following from path)
 
-abbrev pub moved_date : List ℕ → List ℕ → Dated → Dated
-moved_date from to d = record d { path = moved_path from to d.path }
-
--- A date at the new path, or below it, is that of something that is gone.
-abbrev pub is_kept_by : Option (List ℕ) → Option (List ℕ) → Bool
-is_kept_by (Some rest) at = true
-is_kept_by None (Some rest) = false
-is_kept_by None None = true
-
-abbrev pub is_kept : List ℕ → List ℕ → Dated → Bool
-is_kept from to d = is_kept_by (following from d.path) (following to d.path)
-
-abbrev pub moved_dates : List ℕ → List ℕ → List Dated → List Dated
-moved_dates from to ds = map (moved_date from to) (filter (is_kept from to) ds)
+-- The dates before and after a move.
+pub record HasMoved (from to : List ℕ) (before after : Dates) : Type 0 where
+  -- At the new path and below it each date is that of the path it came from. What stood there before is gone, and its date too.
+  pub there : (rest : List ℕ) → goes_down rest ≡ true → after (to ++ rest) ≡ before (from ++ rest)
+  -- no other is left at the old path, or below it
+  pub left : (path : List ℕ) → following to path ≡ None → IsSome (following from path) → after path ≡ None
+  -- every other path keeps its own
+  pub others : (path : List ℕ) → following to path ≡ None → following from path ≡ None → after path ≡ before path
 
 abbrev pub moved_session : List ℕ → List ℕ → Option Session → Option Session
 moved_session from to None = None
@@ -98,22 +91,36 @@ moving body segments r =
 abbrev pub shown_moved : Rows → List ℕ → Place → Bool → Answer
 shown_moved r from to is_folder = Reply (Success (body_text (bare_form (about_at to is_folder (date_at from r)))))
 
-abbrev pub renaming : Rows → Moving → Bool → Plan
-renaming r v is_folder = record {
-  change = change.Rename v.from.path v.to.path;
-  update = update.Move (map (moved_kernel v.from.path v.to.path) r.kernels) (moved_dates v.from.path v.to.path r.dates);
-  answer = shown_moved r v.from.path v.to is_folder;
-}
+-- what the rows become: sessions and dates go with their paths
+pub record HaveMoved (v : Moving) (r s : Rows) : Type 0 where
+  pub start : s.start ≡ r.start
+  pub kernels : s.kernels ≡ map (moved_kernel v.from.path v.to.path) r.kernels
+  pub dates : HasMoved v.from.path v.to.path r.dates s.dates
+  pub recordings : s.recordings ≡ r.recordings
 
-abbrev pub rename_at : Contents → Rows → Moving → Result Plan ErrorStatus
-rename_at m r v = Ok (renaming r v (has_folder m v.from.path))
+pub record IsRenamingPlan (r : Rows) (v : Moving) (is_folder : Bool) (plan : Plan) : Type 0 where
+  pub change : plan.change ≡ change.Rename v.from.path v.to.path
+  pub update : HaveMoved v r (updated plan.update r)
+  pub answer : plan.answer ≡ shown_moved r v.from.path v.to is_folder
+
+-- a move that was read has a plan, unless memory or the device fails
+abbrev pub IsRenaming : Rows → Moving → Bool → Result Plan Refusal → Type 0
+IsRenaming r v is_folder (Ok plan) = IsRenamingPlan r v is_folder plan
+IsRenaming r v is_folder (Err e) = e ≡ Failed
+
+abbrev pub IsRenamedAt : Contents → Rows → Moving → Result Plan Refusal → Type 0
+IsRenamedAt m r v found = IsRenaming r v (has_folder m v.from.path) found
+
+abbrev pub IsRenamedOf : Contents → Rows → Result Moving Refusal → Result Plan Refusal → Type 0
+IsRenamedOf m r (Err e) found = found ≡ Err e
+IsRenamedOf m r (Ok v) found = IsRenamedAt m r v found
 
 -- PATCH /api/contents/{path}
-abbrev pub rename_plan : Contents → Rows → List ℕ → List (List ℕ) → Result Plan ErrorStatus
-rename_plan m r body segments = moving body segments r >>= rename_at m r
+abbrev pub IsRenamePlan : Contents → Rows → List ℕ → List (List ℕ) → Result Plan Refusal → Type 0
+IsRenamePlan m r body segments found = (v : Result Moving Refusal) × Gives v (moving body segments r) × IsRenamedOf m r v found
 
 abbrev pub RenamesAt : Rows → Moving → Result Plan Refusal → Contents → Contents → Type 0
-RenamesAt r v result m n = Same m n × Gives result (rename_at m r v)
+RenamesAt r v result m n = Same m n × IsRenamedAt m r v result
 
 abbrev pub Renames : Rows → List ℕ → List (List ℕ) → Result Plan Refusal → Contents → Contents → Type 0
-Renames r body segments result m n = Same m n × Gives result (rename_plan m r body segments)
+Renames r body segments result m n = Same m n × IsRenamePlan m r body segments result

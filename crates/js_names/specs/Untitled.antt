@@ -1,6 +1,6 @@
 -- To be believed.
 -- POST of contents: a new thing under the first free name.
-use Rattle.std.specs.Prelude.{◌≡◌, ℕ, ◌+◌, nat_lt, Bool, false, List, [], ◌∷◌, ◌++◌, decimal, Option, Some, None, Result, Ok, Err, if◌then◌else◌, codes}
+use Rattle.std.specs.Prelude.{◌≡◌, ℕ, zero, suc, ◌+◌, nat_lt, ◌||◌, Bool, List, [], ◌++◌, length, decimal, Option, Some, None, Result, Ok, Err, if◌then◌else◌, codes}
 use Rattle.std.specs.List.{list_any}
 use Rattle.std.specs.Str.{bytes_eq}
 use Rattle.serde_json.specs.Data.{Data}
@@ -15,8 +15,11 @@ use Rattle.js_tables.specs.declared.forms.Kind.TheVariants as kind
 use Rattle.js_tables.specs.declared.given.Given.{Given}
 use Rattle.js_tables.specs.declared.plan.Plan.{Plan}
 use Rattle.js_tables.specs.declared.refusal.Refusal.{Refusal}
+use Rattle.js_tables.specs.declared.tables.Kernel.{Kernel}
 use Rattle.js_tables.specs.Bodies.{body_of, optional_text_in}
 use Rattle.js_tables.specs.Plans.{◌>>=◌, Gives, Found}
+use Rattle.js_tables.specs.Sessions.{is_at}
+use Rattle.js_tables.specs.Tables.{Rows}
 use Rattle.js_contents.specs.declared.put.Putting.{Putting}
 use Rattle.js_contents.specs.declared.put.Putting.TheVariants as put
 use Rattle.js_names.specs.declared.untitled.Making.{Making}
@@ -42,17 +45,28 @@ abbrev pub name_at : Kind → List ℕ → ℕ → List ℕ
 name_at kind ending n =
     (if nat_lt 0 n then (stem kind ++ joint kind) ++ decimal n else stem kind) ++ ending
 
+-- ---- names that are taken: those of what stands in the folder, and of sessions' paths there, whose files may not be there yet
+
 abbrev pub is_among : List (List ℕ) → List ℕ → Bool
 is_among names name = list_any (λ other. bytes_eq other name) names
 
--- from that number on, the first name that is free; as many as there are of the others can be taken
-abbrev pub free_from : Kind → List ℕ → List (List ℕ) → ℕ → List (List ℕ) → List ℕ
-free_from kind ending names n [] = name_at kind ending n
-free_from kind ending names n (other ∷ others) =
-    if is_among names (name_at kind ending n) then free_from kind ending names (n + 1) others else name_at kind ending n
+-- a session has the path of that name in the folder
+abbrev pub has_session : List ℕ → List Kernel → List ℕ → Bool
+has_session folder ks name = list_any (λ k. is_at (child folder name).path k.session) ks
 
-abbrev pub first_free : Kind → List ℕ → List (List ℕ) → List ℕ
-first_free kind ending names = free_from kind ending names 0 names
+abbrev pub is_taken : List ℕ → List (List ℕ) → List Kernel → List ℕ → Bool
+is_taken folder names ks name = is_among names name || has_session folder ks name
+
+-- from that number on, the first name that is free; where so many in a row are taken, the next
+abbrev pub free_from : (ℕ → List ℕ) → (List ℕ → Bool) → ℕ → ℕ → List ℕ
+free_from name_of taken n zero = name_of n
+free_from name_of taken n (suc left) =
+    if taken (name_of n) then free_from name_of taken (n + 1) left else name_of n
+
+-- at most as many are taken as there are names and kernels, each of which has one session or none
+abbrev pub first_free : Kind → List ℕ → List ℕ → List (List ℕ) → List Kernel → List ℕ
+first_free kind ending folder names ks =
+    free_from (name_at kind ending) (is_taken folder names ks) 0 (length names + length ks)
 
 -- ---- the body
 
@@ -99,30 +113,30 @@ empty_putting kind.File = put.File []
 empty_putting kind.Notebook = put.Notebook empty_notebook
 empty_putting kind.Directory = put.Folder
 
-abbrev pub made : Given → Making → List (List ℕ) → Result Plan ErrorStatus
-made given v names =
-    if_path (child v.folder (first_free v.kind v.ending names)) >>= λ place.
+abbrev pub made : Rows → Given → Making → List (List ℕ) → Result Plan ErrorStatus
+made r given v names =
+    if_path (child v.folder (first_free v.kind v.ending v.folder names r.kernels)) >>= λ place.
     (fitted place.name (empty_putting v.kind) >>= λ p. Ok (storing given p place))
 
-abbrev pub IsMadeOf : Given → Making → Result (List (List ℕ)) Refusal → Result Plan Refusal → Type 0
-IsMadeOf given v (Err e) found = found ≡ Err e
-IsMadeOf given v (Ok names) found = Gives found (made given v names)
+abbrev pub IsMadeOf : Rows → Given → Making → Result (List (List ℕ)) Refusal → Result Plan Refusal → Type 0
+IsMadeOf r given v (Err e) found = found ≡ Err e
+IsMadeOf r given v (Ok names) found = Gives found (made r given v names)
 
-abbrev pub IsMade : Contents → Given → Making → Result Plan Refusal → Type 0
-IsMade m given v found =
-    (names : Result (List (List ℕ)) Refusal) × Found (IsListed m v.folder) names × IsMadeOf given v names found
+abbrev pub IsMade : Contents → Rows → Given → Making → Result Plan Refusal → Type 0
+IsMade m r given v found =
+    (names : Result (List (List ℕ)) Refusal) × Found (IsListed m v.folder) names × IsMadeOf r given v names found
 
-abbrev pub IsPlanOf : Contents → Given → Result Making Refusal → Result Plan Refusal → Type 0
-IsPlanOf m given (Err e) found = found ≡ Err e
-IsPlanOf m given (Ok v) found = IsMade m given v found
+abbrev pub IsPlanOf : Contents → Rows → Given → Result Making Refusal → Result Plan Refusal → Type 0
+IsPlanOf m r given (Err e) found = found ≡ Err e
+IsPlanOf m r given (Ok v) found = IsMade m r given v found
 
 -- POST /api/contents/{path}
-abbrev pub IsUntitledPlan : Contents → Given → List ℕ → List (List ℕ) → Result Plan Refusal → Type 0
-IsUntitledPlan m given body segments found =
-    (v : Result Making Refusal) × Gives v (making body segments) × IsPlanOf m given v found
+abbrev pub IsUntitledPlan : Contents → Rows → Given → List ℕ → List (List ℕ) → Result Plan Refusal → Type 0
+IsUntitledPlan m r given body segments found =
+    (v : Result Making Refusal) × Gives v (making body segments) × IsPlanOf m r given v found
 
-abbrev pub Makes : Given → Making → Result Plan Refusal → Contents → Contents → Type 0
-Makes given v result m n = Same m n × IsMade m given v result
+abbrev pub Makes : Rows → Given → Making → Result Plan Refusal → Contents → Contents → Type 0
+Makes r given v result m n = Same m n × IsMade m r given v result
 
-abbrev pub MakesUntitled : Given → List ℕ → List (List ℕ) → Result Plan Refusal → Contents → Contents → Type 0
-MakesUntitled given body segments result m n = Same m n × IsUntitledPlan m given body segments result
+abbrev pub MakesUntitled : Rows → Given → List ℕ → List (List ℕ) → Result Plan Refusal → Contents → Contents → Type 0
+MakesUntitled r given body segments result m n = Same m n × IsUntitledPlan m r given body segments result

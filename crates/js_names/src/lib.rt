@@ -6,4 +6,4 @@ mod moves;
 mod untitled;
 
 pub use moves::{Moving, rename_plan};
-pub use untitled::{Making, untitled_plan};
+pub use untitled::{Making, free_name_law, untitled_plan};

@@ -1,22 +1,24 @@
 //! PATCH of contents: a thing goes to another path, and what is known of it goes with it.
-ghost use Rattle.std.specs.Prelude.{◌≡◌, map, Ok, IfOk};
-ghost use Rattle.std.specs.Option.{option_copied};
-ghost use Rattle.js_shelf.specs.Paths.{behind as behind_of, following as following_of};
+ghost use Rattle.std.specs.Prelude.{◌≡◌, ◌++◌, ℕ, List, map, Some, string_bytes, OnOk, IfOk};
+ghost use Rattle.std.specs.HashMap.{get_by_text};
+ghost use Rattle.std.specs.Option.{option_copied, option_map};
+ghost use Rattle.js_shelf.specs.Paths.{behind as behind_of, following as following_of, goes as goes_of};
 ghost use Rattle.js_shelf.specs.Shelves.{Tells};
 ghost use Rattle.js_tables.specs.Plans.{Gives};
-ghost use Rattle.js_tables.specs.Tables.{rows};
+ghost use Rattle.js_tables.specs.Tables.{rows, with_date};
 ghost use Rattle.js_names.specs.Moves as spec;
 
 use js_contents::{Place, about_at, bare_value, has_folder, named_place, place_of};
 use js_http::{Bytes, ErrorStatus, Response};
 use js_shelf::Shelf;
 use js_tables::{
-    Answer, Change, Dated, Kernel, Plan, Refusal, Session, Tables, Update, find_by_path, json_body,
+    Answer, Change, Kernel, Plan, Refusal, Session, Tables, Update, find_by_path, json_body,
     kernel_copy, read_body, text_in,
 };
 use json_form::Text;
 use nb_doc::Listed;
 use std::alloc::{AllocError, Global};
+use std::collections::HashMap;
 
 /// A thing that is to go to another path.
 #[derive(Drop)]
@@ -38,7 +40,7 @@ fn goes_down(text: &str) -> bool
 }
 
 /// What follows a front of a path.
-fn behind<'p>(top: &str, path: &'p str) -> Option<&'p str>
+pub(crate) fn behind<'p>(top: &str, path: &'p str) -> Option<&'p str>
     ensures { option_copied result ≡ behind_of top.now path.now }
 {
     path.strip_prefix(top)
@@ -54,17 +56,22 @@ fn following<'p>(top: &str, path: &'p str) -> Option<&'p str>
     }
 }
 
+/// A path, and what follows it.
+fn joined(alloc: Global, top: &str, rest: &str) -> Result<String, AllocError>
+    ensures { IfOk result (λ path. string_bytes path ≡ top.now ++ rest.now) }
+{
+    let mut path = String::from_str(alloc, top)?;
+    path.push_str(rest)?;
+    Ok(path)
+}
+
 /// Where a path goes.
 fn moved_path(alloc: Global, from: &str, to: &str, path: &str) -> Result<Text, AllocError>
     ensures { IfOk result (λ moved. moved ≡ spec.moved_path from.now to.now path.now) }
 {
     match following(from, path) {
         None => Text::from_str(alloc, path),
-        Some(rest) => {
-            let mut text = String::from_str(alloc, to)?;
-            text.push_str(rest)?;
-            Ok(Text::from_string(text))
-        }
+        Some(rest) => Ok(Text::from_string(joined(alloc, to, rest)?)),
     }
 }
 
@@ -136,8 +143,7 @@ fn check_session(
         Some(session) => match following(from, session.path.as_str()) {
             None => Ok(()),
             Some(rest) => {
-                let mut path = String::from_str(alloc, to)?;
-                path.push_str(rest)?;
+                let path = joined(alloc, to, rest)?;
                 if stays_at(kernels, from, path.as_str()) {
                     return Err(Refusal::Status(ErrorStatus::Conflict));
                 }
@@ -158,34 +164,37 @@ fn check_sessions(alloc: Global, from: &str, to: &str, kernels: &[Kernel]) -> Re
 
 // ---- dates
 
-/// Whether the date of a path is one of those that go or stay. What stood at the new path is gone.
-fn is_kept(from: &str, to: &str, dated: &Dated) -> bool
-    ensures { result ≡ spec.is_kept from.now to.now dated.now }
+/// Where the date of a path goes. What stood at the new path, or below it, is gone, and its date goes nowhere.
+fn goes(alloc: Global, from: &str, to: &str, path: &str) -> Result<Option<String>, AllocError>
+    ensures { IfOk result (λ place. option_map string_bytes place ≡ goes_of from.now to.now path.now) }
 {
-    match following(from, dated.path.as_str()) {
-        Some(_) => true,
-        None => match following(to, dated.path.as_str()) {
-            Some(_) => false,
-            None => true,
-        },
+    match following(from, path) {
+        Some(rest) => Ok(Some(joined(alloc, to, rest)?)),
+        None if following(to, path).is_some() => Ok(None),
+        None => Ok(Some(String::from_str(alloc, path)?)),
     }
 }
 
+fn add_date(dates: &mut HashMap<String, Text>, path: String, date: Text) -> Result<(), AllocError>
+    ensures { OnOk result ((other : List ℕ) → get_by_text dates.new other ≡ with_date (string_bytes path) (Some date) (get_by_text dates.old) other) }
+{
+    dates.insert(path, date)?;
+    Ok(())
+}
+
+/// The dates after a move, as copies.
 fn moved_dates(
     alloc: Global,
     from: &str,
     to: &str,
-    dates: &[Dated],
-) -> Result<Listed<Dated>, AllocError>
-    ensures { IfOk result (λ moved. moved ≡ spec.moved_dates from.now to.now dates.now) }
+    dates: &HashMap<String, Text>,
+) -> Result<HashMap<String, Text>, AllocError>
+    ensures { IfOk result (λ moved. spec.HasMoved from.now to.now (get_by_text dates.now) (get_by_text moved)) }
 {
-    let mut moved = Listed::empty(alloc);
-    for dated in dates {
-        if is_kept(from, to, dated) {
-            moved.push(Dated {
-                path: moved_path(alloc, from, to, dated.path.as_str())?,
-                date: dated.date.copy()?,
-            })?;
+    let mut moved = HashMap::new(alloc);
+    for (path, date) in dates {
+        if let Some(path) = goes(alloc, from, to, path.as_str())? {
+            add_date(&mut moved, path, date.copy()?)?;
         }
     }
     Ok(moved)
@@ -229,7 +238,7 @@ fn renaming(
     moving: Moving,
     is_folder: bool,
 ) -> Result<Plan, Refusal>
-    ensures { Gives result (Ok (spec.renaming (rows tables.now) moving is_folder)) }
+    ensures { spec.IsRenaming (rows tables.now) moving is_folder result }
 {
     let Moving { from, to } = moving;
     let from = from.path;
@@ -268,6 +277,8 @@ pub fn rename_plan<S: Shelf>(
 ) -> Result<Plan, Refusal>
     ensures { Tells (S.contents shelf.old) (S.contents shelf.new) (spec.Renames (rows tables.now) content.now segments.now result) }
 {
-    let moving = read_moving(alloc, tables, content, segments)?;
-    rename_at(alloc, tables, shelf, moving)
+    match read_moving(alloc, tables, content, segments) {
+        Ok(moving) => rename_at(alloc, tables, shelf, moving),
+        Err(refusal) => Err(refusal),
+    }
 }

@@ -18,7 +18,7 @@ failed_by Get m r given request segments = (Err Failed, tt, refl)
 failed_by Put m r given request segments = tt
 failed_by Delete m r given request segments = tt
 failed_by Post m r given request segments = (Err Failed, tt, refl)
-failed_by Patch m r given request segments = tt
+failed_by Patch m r given request segments = (Err Failed, tt, refl)
 failed_by Other m r given request segments = tt
 
 pub found_failed : (path : Option Route) (m : Contents) (r : Rows) (given : Given) (request : Request) → IsFoundAt path m r given request (Err Failed)

@@ -17,7 +17,7 @@ use Rattle.js_contents.specs.Stores.{put_ready, put_plan, remove_plan}
 use Rattle.js_rest.specs.declared.parts.Prepared.{Prepared}
 use Rattle.js_rest.specs.declared.parts.Prepared.TheVariants as prepared
 use Rattle.js_tables.specs.declared.refusal.Refusal.TheVariants.{Failed}
-use Rattle.js_names.specs.Moves.{rename_plan}
+use Rattle.js_names.specs.Moves.{IsRenamePlan}
 use Rattle.js_names.specs.Untitled.{IsUntitledPlan}
 
 -- what is found by the method: the plan, or the status that refuses the request
@@ -25,8 +25,8 @@ abbrev pub IsFoundBy : Method → Contents → Rows → Given → Request → Li
 IsFoundBy Get m r given request segments found = IsReadPlan m r request segments found
 IsFoundBy Put m r given request segments found = Gives found (put_plan m r given request.body segments)
 IsFoundBy Delete m r given request segments found = Gives found (remove_plan segments)
-IsFoundBy Post m r given request segments found = IsUntitledPlan m given request.body segments found
-IsFoundBy Patch m r given request segments found = Gives found (rename_plan m r request.body segments)
+IsFoundBy Post m r given request segments found = IsUntitledPlan m r given request.body segments found
+IsFoundBy Patch m r given request segments found = IsRenamePlan m r request.body segments found
 IsFoundBy Other m r given request segments found = Gives found (Err MethodNotAllowed)
 
 abbrev pub IsFound : Contents → Rows → Given → Request → List (List ℕ) → Result Plan Refusal → Type 0

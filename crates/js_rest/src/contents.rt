@@ -56,6 +56,7 @@ pub(crate) fn contents_aim<S: Shelf>(
         Method::Delete => planned(remove_plan(alloc, segments)),
         Method::Post => planned(untitled_plan(
             alloc,
+            tables,
             shelf,
             given,
             request.body.as_slice(),

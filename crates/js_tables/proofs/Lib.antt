@@ -4,3 +4,5 @@ pub mod Dates
 pub mod SessionForms
 pub mod Empty
 pub mod Depths
+pub mod Reordered
+pub mod Rows

@@ -1,6 +1,7 @@
 -- To be believed.
 -- Plans: what is to be done for a request, once it has been judged.
 use Rattle.std.specs.Prelude.{◌≡◌, ℕ, Bool, List, [], ◌∷◌, ◌++◌, Result, Ok, Err, Option, Some, None}
+use Rattle.std.specs.HashMap.{get_by_text}
 use Rattle.js_http.specs.declared.response.ErrorStatus.{ErrorStatus}
 use Rattle.js_http.specs.declared.response.ErrorStatus.TheVariants as status
 use Rattle.js_http.specs.declared.response.Response.{Response}
@@ -79,4 +80,4 @@ updated (update.DropKernel id) r = drop_kernel id r
 updated (update.SetKernels ks c) r = set_kernels ks c r
 updated (update.SetDate path date) r = set_date path date r
 updated (update.DropFile path) r = drop_file path r
-updated (update.Move ks ds) r = record r { kernels = ks; dates = ds }
+updated (update.Move ks ds) r = record r { kernels = ks; dates = λ path. get_by_text ds path }

@@ -1,30 +1,39 @@
 -- To be believed.
--- The tables, as lists.
-use Rattle.std.specs.Prelude.{ℕ, ◌<◌, Bool, vec_len, vec_capacity, List, [], ◌∷◌, ◌++◌, filter, not, Option, Some, None}
+-- The tables: lists, and a date for each path.
+use Rattle.std.specs.Prelude.{ℕ, ◌<◌, Bool, vec_len, vec_capacity, List, [], ◌∷◌, ◌++◌, filter, not, if◌then◌else◌, Option, Some, None}
+use Rattle.std.specs.HashMap.{get_by_text, spare}
 use Rattle.std.specs.List.{find, list_any}
 use Rattle.std.specs.Str.{bytes_eq}
 use Rattle.js_tables.specs.declared.tables.Kernel.{Kernel}
-use Rattle.js_tables.specs.declared.tables.Dated.{Dated}
 use Rattle.js_tables.specs.declared.tables.Recording.{Recording}
 use Rattle.js_tables.specs.declared.tables.Tables.{Tables}
 use Rattle.js_tables.specs.Sessions.{find_by_path}
 
+-- the date of the last put of the file at each path, if there was one
+abbrev pub Dates : Type 0
+Dates = List ℕ → Option (List ℕ)
+
 pub record Rows : Type 0 where
   pub start : List ℕ
   pub kernels : List Kernel
-  pub dates : List Dated
+  pub dates : List ℕ → Option (List ℕ)
   pub recordings : List Recording
 
 abbrev pub rows : Tables → Rows
-rows t = record { start = t.start; kernels = t.kernels.items; dates = t.dates.items; recordings = t.recordings.items }
+rows t = record {
+  start = t.start;
+  kernels = t.kernels.items;
+  dates = λ path. get_by_text t.dates path;
+  recordings = t.recordings.items;
+}
 
 abbrev pub no_rows : List ℕ → Rows
-no_rows start = record { start = start; kernels = []; dates = []; recordings = [] }
+no_rows start = record { start = start; kernels = []; dates = λ path. None; recordings = [] }
 
 -- there is room for one more row in each table
 pub record HasRoom (t : Tables) : Type 0 where
   pub kernels : vec_len t.kernels < vec_capacity t.kernels
-  pub dates : vec_len t.dates < vec_capacity t.dates
+  pub dates : 0 < spare t.dates
   pub recordings : vec_len t.recordings < vec_capacity t.recordings
 
 -- ---- kernels
@@ -53,21 +62,24 @@ drop_kernel id r = record r {
 
 -- ---- dates
 
-abbrev pub date_or : List ℕ → Option Dated → List ℕ
+abbrev pub date_or : List ℕ → Option (List ℕ) → List ℕ
 date_or start None = start
-date_or start (Some d) = d.date
+date_or start (Some date) = date
 
 -- the date of the last put of the file at a path, or else of the server's start
 abbrev pub date_at : List ℕ → Rows → List ℕ
-date_at path r = date_or r.start (find (λ d. bytes_eq d.path path) r.dates)
+date_at path r = date_or r.start (r.dates path)
+
+-- the dates with this one, or none, at the path, and what they were at every other
+abbrev pub with_date : List ℕ → Option (List ℕ) → Dates → Dates
+with_date path date dates other = if bytes_eq path other then date else dates other
 
 abbrev pub drop_date : List ℕ → Rows → Rows
-drop_date path r = record r { dates = filter (λ d. not (bytes_eq d.path path)) r.dates }
+drop_date path r = record r { dates = with_date path None r.dates }
 
 -- the rows with that date at the path
 abbrev pub set_date : List ℕ → List ℕ → Rows → Rows
-set_date path date r =
-    record r { dates = (drop_date path r).dates ++ (record { path = path; date = date }) ∷ [] }
+set_date path date r = record r { dates = with_date path (Some date) r.dates }
 
 -- ---- recorders
 

@@ -25,4 +25,4 @@ pub use moment::date_text;
 pub use plan::{Answer, Change, Command, Plan, Update, reply};
 pub use refusal::Refusal;
 pub use sessions::{find_by_path, find_by_session, kernel_copy, session_copy, with_session};
-pub use tables::{Dated, Kernel, Recording, Session, State, Tables, find_kernel};
+pub use tables::{Kernel, Recording, Session, State, Tables, find_kernel};

@@ -3,11 +3,12 @@ ghost use Rattle.std.specs.Prelude.{◌≡◌};
 ghost use Rattle.js_tables.specs.Plans as spec;
 
 use crate::book::ReadNotebook;
-use crate::tables::{Dated, Kernel, Recording};
+use crate::tables::{Kernel, Recording};
 use js_http::Response;
 use js_shelf::Item;
 use json_form::Text;
 use nb_doc::Listed;
+use std::collections::HashMap;
 
 /// A change of the tables, which needs no memory.
 #[derive(Drop)]
@@ -23,8 +24,8 @@ pub enum Update {
     SetDate(Text, Text),
     /// The file at a path goes, with its date and with the recorder of the session there.
     DropFile(Text),
-    /// Paths of sessions and of dates have changed.
-    Move(Listed<Kernel>, Listed<Dated>),
+    /// Paths of sessions and of dates have changed: the kernels, and the date of each path.
+    Move(Listed<Kernel>, HashMap<String, Text>),
 }
 
 /// What a kernel is told on its control channel.

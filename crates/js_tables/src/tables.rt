@@ -1,6 +1,6 @@
 //! What the server knows of its kernels, sessions and files, as plain data.
-ghost use Rattle.std.specs.Prelude.{◌≡◌, ◌<◌, ◌≤◌, vec_len, vec_capacity, filter, not, OnOk};
-ghost use Rattle.std.specs.List.{find};
+ghost use Rattle.std.specs.Prelude.{◌≡◌, ℕ, ◌<◌, List, Some, None, string_bytes, vec_len, vec_capacity, filter, not, OnOk};
+ghost use Rattle.std.specs.HashMap.{get_by_text, spare};
 ghost use Rattle.std.specs.Str.{bytes_eq};
 ghost use Rattle.std.specs.Option.{option_copied};
 ghost use Rattle.js_tables.specs.Tables as spec;
@@ -12,6 +12,7 @@ use js_shelf::Bytes;
 use json_form::Text;
 use nb_record::Recorder;
 use std::alloc::{AllocError, Global};
+use std::collections::HashMap;
 
 /// What the last status that was found says of a kernel.
 #[derive(Clone, Copy, Debug, PartialEq, Eq)]
@@ -62,13 +63,6 @@ impl Drop for Kernel {
     }
 }
 
-/// The date of a file's last put.
-#[derive(Drop)]
-pub struct Dated {
-    pub path: Text,
-    pub date: Text,
-}
-
 /// The recorder of a kernel's session.
 pub struct Recording {
     pub kernel: Text,
@@ -99,7 +93,8 @@ impl Drop for Recording {
 pub struct Tables {
     pub start: Text,
     pub kernels: Vec<Kernel>,
-    pub dates: Vec<Dated>,
+    /// The date of the last put of the file at each path.
+    pub dates: HashMap<String, Text>,
     pub recordings: Vec<Recording>,
 }
 
@@ -110,12 +105,6 @@ pub fn find_kernel<'k>(kernels: &'k [Kernel], id: &[u8]) -> Option<&'k Kernel>
     kernels
         .iter()
         .find(|kernel| kernel.id.as_str().as_bytes() == id)
-}
-
-fn find_date<'d>(dates: &'d [Dated], path: &str) -> Option<&'d Dated>
-    ensures { option_copied result ≡ find (λ d. bytes_eq d.path path.now) dates.now }
-{
-    dates.iter().find(|dated| dated.path.as_str() == path)
 }
 
 fn remove_kernels(kernels: &mut Vec<Kernel>, id: &Text)
@@ -130,12 +119,26 @@ fn remove_recordings(recordings: &mut Vec<Recording>, kernel: &Text)
     recordings.retain(|recording| recording.kernel.as_str() != kernel.as_str());
 }
 
-fn remove_dates(dates: &mut Vec<Dated>, path: &Text)
-    ensures items { dates.new.items ≡ filter (λ d. not (bytes_eq d.path path.now)) dates.old.items }
-    ensures len { vec_len dates.new ≤ vec_len dates.old }
-    ensures capacity { vec_capacity dates.new ≡ vec_capacity dates.old }
+/// Room for one more date.
+fn reserve_date(dates: &mut HashMap<String, Text>) -> Result<(), AllocError>
+    ensures same { (path : List ℕ) → get_by_text dates.new path ≡ get_by_text dates.old path }
+    ensures room { OnOk result (0 < spare dates.new) }
 {
-    dates.retain(|dated| dated.path.as_str() != path.as_str());
+    dates.reserve(1)
+}
+
+fn remove_date(dates: &mut HashMap<String, Text>, path: &str)
+    ensures { (other : List ℕ) → get_by_text dates.new other ≡ spec.with_date path.now None (get_by_text dates.old) other }
+{
+    dates.remove(path);
+}
+
+/// Sets the date of a path. It takes no memory.
+fn put_date(dates: &mut HashMap<String, Text>, path: String, date: Text)
+    requires { 0 < spare dates.old }
+    ensures { (other : List ℕ) → get_by_text dates.new other ≡ spec.with_date (string_bytes path) (Some date) (get_by_text dates.old) other }
+{
+    let _ = dates.insert(path, date);
 }
 
 fn add_recording(recordings: &mut Vec<Recording>, recording: Option<Recording>)
@@ -155,7 +158,7 @@ impl Tables {
         Tables {
             start,
             kernels: Vec::new(alloc),
-            dates: Vec::new(alloc),
+            dates: HashMap::new(alloc),
             recordings: Vec::new(alloc),
         }
     }
@@ -164,8 +167,8 @@ impl Tables {
     pub fn date_of(&self, path: &str) -> &str
         ensures { result.now ≡ spec.date_at path.now (spec.rows self.now) }
     {
-        match find_date(&self.dates, path) {
-            Some(dated) => dated.date.as_str(),
+        match self.dates.get(path) {
+            Some(date) => date.as_str(),
             None => self.start.as_str(),
         }
     }
@@ -183,13 +186,14 @@ impl Tables {
     ///
     /// # Errors
     /// Where there is no memory. The rows are as they were.
+    #[tactic(auto, using(crate::proofs::Rows::rows_same))]
     pub fn make_room(&mut self) -> Result<(), AllocError>
         ensures same { spec.rows self.new ≡ spec.rows self.old }
         ensures room { OnOk result (spec.HasRoom self.new) }
     {
         self.kernels.reserve(1)?;
         self.recordings.reserve(1)?;
-        self.dates.reserve(1)
+        reserve_date(&mut self.dates)
     }
 
     // What follows takes no memory.
@@ -201,28 +205,22 @@ impl Tables {
         remove_recordings(&mut self.recordings, id);
     }
 
-    fn drop_date(&mut self, path: &Text)
-        ensures rows { spec.rows self.new ≡ spec.drop_date path.now (spec.rows self.old) }
-        ensures room { spec.HasRoom self.old → spec.HasRoom self.new }
-    {
-        remove_dates(&mut self.dates, path);
-    }
-
+    #[tactic(auto, using(crate::proofs::Rows::rows_same))]
     fn drop_file(&mut self, path: &Text)
         ensures { spec.rows self.new ≡ spec.drop_file path.now (spec.rows self.old) }
     {
         if let Some(kernel) = find_by_path(&self.kernels, path.as_str()) {
             remove_recordings(&mut self.recordings, &kernel.id);
         }
-        remove_dates(&mut self.dates, path);
+        remove_date(&mut self.dates, path.as_str());
     }
 
+    #[tactic(auto, using(crate::proofs::Rows::rows_same))]
     fn set_date(&mut self, path: Text, date: Text)
         requires { spec.HasRoom self.old }
         ensures { spec.rows self.new ≡ spec.set_date path date (spec.rows self.old) }
     {
-        self.drop_date(&path);
-        self.dates.push_reserved(Dated { path, date });
+        put_date(&mut self.dates, path.into_string(), date);
     }
 
     /// Makes a change, for which there is room. It takes no memory.
@@ -245,7 +243,7 @@ impl Tables {
             Update::DropFile(path) => self.drop_file(&path),
             Update::Move(kernels, dates) => {
                 self.kernels = kernels.into_vec();
-                self.dates = dates.into_vec();
+                self.dates = dates;
             }
         }
     }

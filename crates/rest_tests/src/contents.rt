@@ -359,6 +359,53 @@ fn new_things(rt: HostRuntime) -> Result<(), Fail> {
     assert_play(&rt, NEW_THINGS)
 }
 
+const NEW_THINGS_BESIDE_SESSIONS: &str = r#"-- A session whose file is not there yet, in the root.
+> POST /api/sessions {"path":"Untitled.ipynb","type":"notebook"}
+201 Created {"id":"00000000-0000-4001-8444-444444444444","kernel":{"connections":0,"execution_state":"idle","id":"00000000-0000-4001-a222-222222222222","last_activity":"2001-09-09T01:46:40.123456Z","name":"oberon"},"name":"","path":"Untitled.ipynb","type":"notebook"}
+* begin 00000000-0000-4001-a222-222222222222
+> POST /api/contents {"type":"notebook"}
+201 Created {"content":null,"created":"2001-09-09T01:46:40.123456Z","format":null,"last_modified":"2001-09-09T01:46:40.123456Z","mimetype":null,"name":"Untitled1.ipynb","path":"Untitled1.ipynb","type":"notebook","writable":true}
+? Untitled.ipynb
+no file
+-- In a folder: a session takes a name in its own folder alone, and another below it takes none.
+> PUT /api/contents/d {"type":"directory"}
+201 Created {"content":null,"created":"2001-09-09T01:46:40.123456Z","format":null,"last_modified":"2001-09-09T01:46:40.123456Z","mimetype":null,"name":"d","path":"d","type":"directory","writable":true}
+> POST /api/sessions {"path":"d/untitled.txt","type":"file"}
+201 Created {"id":"00000000-0000-4003-8444-444444444444","kernel":{"connections":0,"execution_state":"idle","id":"00000000-0000-4003-a222-222222222222","last_activity":"2001-09-09T01:46:40.123456Z","name":"oberon"},"name":"","path":"d/untitled.txt","type":"file"}
+* begin 00000000-0000-4003-a222-222222222222
+> POST /api/sessions {"path":"d/Untitled Folder/a","type":"file"}
+201 Created {"id":"00000000-0000-4004-8444-444444444444","kernel":{"connections":0,"execution_state":"idle","id":"00000000-0000-4004-a222-222222222222","last_activity":"2001-09-09T01:46:40.123456Z","name":"oberon"},"name":"","path":"d/Untitled Folder/a","type":"file"}
+* begin 00000000-0000-4004-a222-222222222222
+> POST /api/contents {"ext":".txt"}
+201 Created {"content":null,"created":"2001-09-09T01:46:40.123456Z","format":null,"last_modified":"2001-09-09T01:46:40.123456Z","mimetype":null,"name":"untitled.txt","path":"untitled.txt","type":"file","writable":true}
+> POST /api/contents/d {"ext":".txt"}
+201 Created {"content":null,"created":"2001-09-09T01:46:40.123456Z","format":null,"last_modified":"2001-09-09T01:46:40.123456Z","mimetype":null,"name":"untitled1.txt","path":"d/untitled1.txt","type":"file","writable":true}
+> POST /api/contents/d {"type":"directory"}
+201 Created {"content":null,"created":"2001-09-09T01:46:40.123456Z","format":null,"last_modified":"2001-09-09T01:46:40.123456Z","mimetype":null,"name":"Untitled Folder","path":"d/Untitled Folder","type":"directory","writable":true}
+-- The names of files and of sessions together.
+> POST /api/sessions {"path":"d/untitled2.txt","type":"file"}
+201 Created {"id":"00000000-0000-4008-8444-444444444444","kernel":{"connections":0,"execution_state":"idle","id":"00000000-0000-4008-a222-222222222222","last_activity":"2001-09-09T01:46:40.123456Z","name":"oberon"},"name":"","path":"d/untitled2.txt","type":"file"}
+* begin 00000000-0000-4008-a222-222222222222
+> POST /api/contents/d {"ext":".txt"}
+201 Created {"content":null,"created":"2001-09-09T01:46:40.123456Z","format":null,"last_modified":"2001-09-09T01:46:40.123456Z","mimetype":null,"name":"untitled3.txt","path":"d/untitled3.txt","type":"file","writable":true}
+-- A name is free again once its session has gone, or has gone elsewhere.
+> DELETE /api/sessions/00000000-0000-4003-8444-444444444444
+204 No Content
+* shutdown 00000000-0000-4003-a222-222222222222
+> POST /api/contents/d {"ext":".txt"}
+201 Created {"content":null,"created":"2001-09-09T01:46:40.123456Z","format":null,"last_modified":"2001-09-09T01:46:40.123456Z","mimetype":null,"name":"untitled.txt","path":"d/untitled.txt","type":"file","writable":true}
+> PATCH /api/sessions/00000000-0000-4008-8444-444444444444 {"path":"d/b"}
+200 OK {"id":"00000000-0000-4008-8444-444444444444","kernel":{"connections":0,"execution_state":"idle","id":"00000000-0000-4008-a222-222222222222","last_activity":"2001-09-09T01:46:40.123456Z","name":"oberon"},"name":"","path":"d/b","type":"file"}
+> POST /api/contents/d {"ext":".txt"}
+201 Created {"content":null,"created":"2001-09-09T01:46:40.123456Z","format":null,"last_modified":"2001-09-09T01:46:40.123456Z","mimetype":null,"name":"untitled2.txt","path":"d/untitled2.txt","type":"file","writable":true}
+"#;
+
+/// A new thing takes the path of no session, whose file may not be there yet.
+#[test]
+fn new_things_beside_sessions(rt: HostRuntime) -> Result<(), Fail> {
+    assert_play(&rt, NEW_THINGS_BESIDE_SESSIONS)
+}
+
 const OTHER_PATHS: &str = r#"> PUT /api/contents/d {"type":"directory"}
 201 Created {"content":null,"created":"2001-09-09T01:46:40.123456Z","format":null,"last_modified":"2001-09-09T01:46:40.123456Z","mimetype":null,"name":"d","path":"d","type":"directory","writable":true}
 > PUT /api/contents/d/a {"content":"x","format":"text","type":"file"}
@@ -433,6 +480,63 @@ const OTHER_PATHS: &str = r#"> PUT /api/contents/d {"type":"directory"}
 #[test]
 fn other_paths(rt: HostRuntime) -> Result<(), Fail> {
     assert_play(&rt, OTHER_PATHS)
+}
+
+const DATES_OF_FILES_THAT_MOVE: &str = r#"> PUT /api/contents/d {"type":"directory"}
+201 Created {"content":null,"created":"2001-09-09T01:46:40.123456Z","format":null,"last_modified":"2001-09-09T01:46:40.123456Z","mimetype":null,"name":"d","path":"d","type":"directory","writable":true}
+> PUT /api/contents/d/a {"content":"x","format":"text","type":"file"}
+201 Created {"content":null,"created":"2001-09-09T01:46:40.123456Z","format":null,"last_modified":"2001-09-09T01:46:40.123456Z","mimetype":null,"name":"a","path":"d/a","type":"file","writable":true}
+> PUT /api/contents/d/b {"content":"x","format":"text","type":"file"}
+201 Created {"content":null,"created":"2001-09-09T01:46:40.123456Z","format":null,"last_modified":"2001-09-09T01:46:40.123456Z","mimetype":null,"name":"b","path":"d/b","type":"file","writable":true}
+> PUT /api/contents/da {"content":"x","format":"text","type":"file"}
+201 Created {"content":null,"created":"2001-09-09T01:46:40.123456Z","format":null,"last_modified":"2001-09-09T01:46:40.123456Z","mimetype":null,"name":"da","path":"da","type":"file","writable":true}
+> PUT /api/contents/g {"content":"x","format":"text","type":"file"}
+201 Created {"content":null,"created":"2001-09-09T01:46:40.123456Z","format":null,"last_modified":"2001-09-09T01:46:40.123456Z","mimetype":null,"name":"g","path":"g","type":"file","writable":true}
+-- Of two puts the later one counts.
+! a day goes by
+> PUT /api/contents/d/b {"content":"y","format":"text","type":"file"}
+200 OK {"content":null,"created":"2001-09-10T01:46:40.123456Z","format":null,"last_modified":"2001-09-10T01:46:40.123456Z","mimetype":null,"name":"b","path":"d/b","type":"file","writable":true}
+> GET /api/contents/d/a?content=0
+200 OK {"content":null,"created":"2001-09-09T01:46:40.123456Z","format":null,"last_modified":"2001-09-09T01:46:40.123456Z","mimetype":null,"name":"a","path":"d/a","type":"file","writable":true}
+-- What stands below a folder goes with it, and nothing beside it does.
+> PATCH /api/contents/d {"path":"e"}
+200 OK {"content":null,"created":"2001-09-09T01:46:40.123456Z","format":null,"last_modified":"2001-09-09T01:46:40.123456Z","mimetype":null,"name":"e","path":"e","type":"directory","writable":true}
+> GET /api/contents/e/a?content=0
+200 OK {"content":null,"created":"2001-09-09T01:46:40.123456Z","format":null,"last_modified":"2001-09-09T01:46:40.123456Z","mimetype":null,"name":"a","path":"e/a","type":"file","writable":true}
+> GET /api/contents/e/b?content=0
+200 OK {"content":null,"created":"2001-09-10T01:46:40.123456Z","format":null,"last_modified":"2001-09-10T01:46:40.123456Z","mimetype":null,"name":"b","path":"e/b","type":"file","writable":true}
+> GET /api/contents/da?content=0
+200 OK {"content":null,"created":"2001-09-09T01:46:40.123456Z","format":null,"last_modified":"2001-09-09T01:46:40.123456Z","mimetype":null,"name":"da","path":"da","type":"file","writable":true}
+-- At the old path nothing is left: what comes there has the date of the start.
+! somebody else makes d
+> GET /api/contents/d?content=0
+200 OK {"content":null,"created":"1970-01-01T00:00:00.000000Z","format":null,"last_modified":"1970-01-01T00:00:00.000000Z","mimetype":null,"name":"d","path":"d","type":"directory","writable":true}
+! somebody else writes d/a
+> GET /api/contents/d/a?content=0
+200 OK {"content":null,"created":"1970-01-01T00:00:00.000000Z","format":null,"last_modified":"1970-01-01T00:00:00.000000Z","mimetype":null,"name":"a","path":"d/a","type":"file","writable":true}
+-- It has none that could go with it.
+> PATCH /api/contents/d/a {"path":"d/c"}
+200 OK {"content":null,"created":"1970-01-01T00:00:00.000000Z","format":null,"last_modified":"1970-01-01T00:00:00.000000Z","mimetype":null,"name":"c","path":"d/c","type":"file","writable":true}
+-- The date of what was deleted is gone.
+> DELETE /api/contents/e/b
+204 No Content
+! somebody else writes e/b
+> GET /api/contents/e/b?content=0
+200 OK {"content":null,"created":"1970-01-01T00:00:00.000000Z","format":null,"last_modified":"1970-01-01T00:00:00.000000Z","mimetype":null,"name":"b","path":"e/b","type":"file","writable":true}
+> GET /api/contents/e/a?content=0
+200 OK {"content":null,"created":"2001-09-09T01:46:40.123456Z","format":null,"last_modified":"2001-09-09T01:46:40.123456Z","mimetype":null,"name":"a","path":"e/a","type":"file","writable":true}
+-- So is that of what stood at the new path.
+! somebody else removes g
+> PATCH /api/contents/e/b {"path":"g"}
+200 OK {"content":null,"created":"1970-01-01T00:00:00.000000Z","format":null,"last_modified":"1970-01-01T00:00:00.000000Z","mimetype":null,"name":"g","path":"g","type":"file","writable":true}
+> GET /api/contents/g?content=0
+200 OK {"content":null,"created":"1970-01-01T00:00:00.000000Z","format":null,"last_modified":"1970-01-01T00:00:00.000000Z","mimetype":null,"name":"g","path":"g","type":"file","writable":true}
+"#;
+
+/// A date goes with its file, and goes away with it.
+#[test]
+fn dates_of_files_that_move(rt: HostRuntime) -> Result<(), Fail> {
+    assert_play(&rt, DATES_OF_FILES_THAT_MOVE)
 }
 
 const LARGE_FILES: &str = r#"> PUT /api/contents/b.txt {"content":"x","format":"text","type":"file"}

@@ -11,7 +11,7 @@
 use crate::notes::Notes;
 use js_http::{Response, read_request, write_response};
 use js_rest::Manager;
-use js_shelf::{Item, Shelf};
+use js_shelf::{Bytes, Item, Shelf};
 use js_tables::{Answer, Given, Update, date_text};
 use json_form::Text;
 use std::alloc::Global;
@@ -185,8 +185,33 @@ fn crowd<R: Abort>(rt: &R, alloc: Global, server: &mut Server) -> Result<(), Fai
     Ok(())
 }
 
+/// Somebody else makes a folder, writes an empty file, or removes either.
+fn somebody_else<R: Abort>(
+    rt: &R,
+    alloc: Global,
+    server: &mut Server,
+    deed: &str,
+) -> Result<(), Fail> {
+    let (verb, path) = deed
+        .split_once(' ')
+        .ok_or("somebody does something to a path")?;
+    let done = match verb {
+        "makes" => server.shelf.put(path, Item::Folder),
+        "writes" => server
+            .shelf
+            .put(path, Item::File(Bytes::from(Vec::new(alloc)))),
+        "removes" => server.shelf.delete(path),
+        _ => panic!(rt; "nobody else {verb}"),
+    };
+    assert!(rt; done.is_ok());
+    Ok(())
+}
+
 /// An event of that name.
 fn happen<R: Abort>(rt: &R, alloc: Global, server: &mut Server, event: &str) -> Result<(), Fail> {
+    if let Some(deed) = event.strip_prefix("somebody else ") {
+        return somebody_else(rt, alloc, server, deed);
+    }
     match event {
         "a day goes by" => server.is_tomorrow = true,
         "the files have 67108864 bytes" => server.shelf.say_len(67_108_864),

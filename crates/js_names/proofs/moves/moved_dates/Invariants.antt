@@ -1,6 +1,10 @@
-use Rattle.std.proofs.Common.{◌≡◌, take}
-use Rattle.js_names.specs.Moves.{moved_dates}
+use Rattle.std.proofs.Common.{◌≡◌, ℕ, List}
+use Rattle.std.specs.HashMap.{get_by_text}
+use Rattle.js_names.proofs.Dates.{last_there, or_else}
 use Rattle.js_names.proofs.moves.moved_dates.Given as goal
 
-abbrev pub invariant-loop-dated : goal.invariant-loop-dated
-invariant-loop-dated l = l.moved ≡ moved_dates l.from l.to (take l.dated-index l.dates)
+-- the last of the other dates that goes there, or else what went there so far
+abbrev pub invariant-loop-path : goal.invariant-loop-path
+invariant-loop-path l =
+    (path : List ℕ) → or_else (last_there l.from l.to l.path-iterator path) (get_by_text l.moved path)
+    ≡ last_there l.from l.to l.dates.entries path

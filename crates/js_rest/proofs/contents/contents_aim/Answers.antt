@@ -42,13 +42,14 @@ pub returns-in-Post : goal.returns-in-Post
 returns-in-Post g c =
     let old = g.S.Shelf.contents c.args.shelf.now in
     let new = g.S.Shelf.contents c.untitled_plan.new.shelf in
+    let r = rows c.args.tables.now in
     let given = c.args.given.now in
     let request = c.args.request.now in
     let segments = c.args.segments.now in
     let found = c.untitled_plan.result in
-    found_by old new Post (rows c.args.tables.now) given request segments found c.planned-in-Post.result c.in-Post.is c.planned-in-Post.ensures
-    (MakesUntitled given request.body segments found) (λ m n h. (h.0, h.1))
-    (subst (λ (b : List ℕ). Tells old new (MakesUntitled given b segments found)) c.as_slice.ensures c.untitled_plan.ensures)
+    found_by old new Post r given request segments found c.planned-in-Post.result c.in-Post.is c.planned-in-Post.ensures
+    (MakesUntitled r given request.body segments found) (λ m n h. (h.0, h.1))
+    (subst (λ (b : List ℕ). Tells old new (MakesUntitled r given b segments found)) c.as_slice.ensures c.untitled_plan.ensures)
 
 pub returns-in-Patch : goal.returns-in-Patch
 returns-in-Patch g c =
