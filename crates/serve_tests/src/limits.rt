@@ -3,7 +3,7 @@
 use crate::client::NOTHING;
 use crate::crew::Manner;
 use crate::rows::{ITS_ID, KERNEL, SCREEN};
-use crate::steps::{Step, play_in};
+use crate::steps::{Step, play_in, play_to_a_stop};
 use js_serve::Limits;
 use std::test::Fail;
 
@@ -51,6 +51,17 @@ const STOPPED: &[Step] = &[
     Step::Floods(1, 1),
 ];
 
+/// The first screen reads nothing of what the second one runs. The kernel is deleted, and the server told to stop.
+const DELETED: &[Step] = &[
+    KERNEL,
+    ITS_ID,
+    SCREEN,
+    SCREEN,
+    Step::Floods(1, 30),
+    Step::Asks("DELETE /api/kernels/@", "", "HTTP/1.1 204 No Content\r\n"),
+    Step::Asks("POST /api/shutdown", "", "HTTP/1.1 200 OK\r\n"),
+];
+
 /// What comes of the request takes longer than a third of a second, but no pause of it does.
 const SLOW: &[Step] = &[
     Step::Begins("GET /api HTTP/1.1\r\n"),
@@ -86,6 +97,13 @@ const TOO_LONG: &[Step] = &[Step::Pours(
 #[test]
 fn a_screen_that_takes_nothing(rt: HostRuntime) -> Result<(), Fail> {
     play_in(rt, rt.alloc(), STRICT, STOPPED)
+}
+
+/// A deleted kernel does not wait for a screen that takes nothing: where the places of a kernel do not come back, a server that was
+/// told to stop waits five seconds for them.
+#[test]
+fn a_deleted_kernel(rt: HostRuntime) -> Result<(), Fail> {
+    play_to_a_stop(rt, rt.alloc(), DELETED, 4_000)
 }
 
 /// A request that comes too slowly is dropped, however often a byte of it comes.

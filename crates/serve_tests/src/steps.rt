@@ -11,7 +11,7 @@ use std::random::RandomSource;
 use std::sync::Wait;
 use std::test::Fail;
 use std::thread::Threads;
-use std::time::{Clock, Duration};
+use std::time::{Clock, Duration, Instant};
 use std::{io, thread};
 
 /// How often a step that waits is tried, and how many milliseconds pass between two tries.
@@ -379,7 +379,30 @@ where
     R: Copy + Drop + Send + 'static,
 {
     let server = begin(rt, alloc, manner)?;
-    go(&rt, alloc, server.address, steps)
+    drop(go(&rt, alloc, server.address, steps)?);
+    Ok(())
+}
+
+/// Does the steps of a client of a new server, of which the last has it stop. While the client keeps its connections, the server's
+/// call must return within so many milliseconds.
+pub fn play_to_a_stop<R>(rt: R, alloc: Global, steps: &[Step], limit: u64) -> Result<(), Fail>
+where
+    R: Threads + Wait + Clock + RandomSource + Net<Listener = TcpListener, Stream = TcpStream>,
+    R: Copy + Drop + Send + 'static,
+{
+    let server = begin(rt, alloc, Manner::usual())?;
+    let client = go(&rt, alloc, server.address, steps)?;
+    let begun = Instant::now(&rt)?;
+    let files = server.thread.join(&rt);
+    let passed = begun.elapsed(&rt)?;
+    drop(client);
+    if files.is_none() {
+        return Err(Fail::new("no server"));
+    }
+    if passed > Duration::from_millis(limit) {
+        return Err(Fail::new(format_args!("it took {passed:?}")));
+    }
+    Ok(())
 }
 
 /// Does the steps of a client of a new server, waits until its call returns, and looks at a file that it leaves.
@@ -395,7 +418,7 @@ where
     R: Copy + Drop + Send + 'static,
 {
     let server = begin(rt, alloc, Manner::usual())?;
-    go(&rt, alloc, server.address, steps)?;
+    drop(go(&rt, alloc, server.address, steps)?);
     let Some(mut shelf) = server.thread.join(&rt) else {
         return Err(Fail::new("no server"));
     };
@@ -409,8 +432,8 @@ where
     }
 }
 
-/// Does the steps of a client of the server at an address.
-fn go<R>(rt: &R, alloc: Global, address: SocketAddr, steps: &[Step]) -> Result<(), Fail>
+/// Does the steps of a client of the server at an address. The answer is the client, with the connections that it keeps.
+fn go<R>(rt: &R, alloc: Global, address: SocketAddr, steps: &[Step]) -> Result<Client, Fail>
 where
     R: Net<Stream = TcpStream> + Clock,
 {
@@ -422,5 +445,5 @@ where
             Err(error) => return Err(Fail::new(format_args!("step {place}: {error:?}"))),
         }
     }
-    Ok(())
+    Ok(client)
 }
