@@ -1,26 +1,17 @@
 -- Each who asks is answered once or waits, whatever is done.
-use Rattle.std.proofs.Common.{◌≡◌, List, [], ◌∷◌, ◌++◌, Bool, false, Option, None, Some, sym, refl, ap, ◌∙◌, subst, append_assoc, append-nil}
+use Rattle.std.proofs.Common.{◌≡◌, List, [], ◌∷◌, ◌++◌, false, Option, None, Some, sym, refl, ap, ◌∙◌, subst, append_assoc}
 use Rattle.std.specs.List.Sorted.{IsPermutation}
-use Rattle.std.proofs.lemmas.List.Sorted.{IsPermutation-refl, IsPermutation-sym, IsPermutation-trans, IsPermutation-cons, IsPermutation-append, IsPermutation-append_comm, IsPermutation-append_left, IsPermutation-append_right, IsPermutation-middle}
+use Rattle.std.proofs.lemmas.List.Sorted.{IsPermutation-refl, IsPermutation-sym, IsPermutation-trans, IsPermutation-cons, IsPermutation-append_right, IsPermutation-middle}
 use Rattle.js_desk.specs.Askers.{after, one}
 use Rattle.std.specs.Option.{is_some}
-use Rattle.js_desk.specs.Kept.{asker_in, askers_of}
-use Rattle.js_desk.specs.declared.kept.Kept.{Kept}
 
 pub after_push : {W : Type 0} (ws : List W) (w : W) (answered : List W) → after (ws ++ w ∷ []) answered ≡ w ∷ after ws answered
 after_push [] w answered = refl
 after_push (v ∷ vs) w answered = after_push vs w (v ∷ answered)
 
-pub askers_push : {T W : Type 0} (ks : List (Kept T W)) (k : Kept T W) → askers_of (ks ++ k ∷ []) ≡ askers_of ks ++ k.asker ∷ []
-askers_push [] k = refl
-askers_push (j ∷ js) k = ap (λ l. j.asker ∷ l) (askers_push js k)
-
 pub is_none : {A : Type 0} (t : Option A) → is_some t ≡ false → t ≡ None
 is_none None h = refl
 is_none (Some x) h = cc
-
-pub none_made : {T W : Type 0} (m : Option (Kept T W)) → is_some m ≡ false → asker_in m ≡ None
-none_made m h = ap asker_in (is_none m h)
 
 module _ {W : Type 0} where
   pub are_after : (ws answered : List W) → IsPermutation (after ws answered) (ws ++ answered)

@@ -1,11 +1,11 @@
 -- Each who waits is given back once or waits still.
-use Rattle.std.proofs.Common.{Bool, true, false, Result, Ok, Err, OnOk, OnErr, ◌≡◌, ◌<◌, ◌+◌, ℕ, zero, suc, List, [], ◌∷◌, ◌++◌, length, slice_index_or, slice_set, set, take, drop, sym, refl, ap, ◌∙◌, subst, append_assoc, append-nil, arith}
+use Rattle.std.proofs.Common.{Bool, true, false, Result, Ok, Err, OnOk, OnErr, ◌≡◌, ◌<◌, ℕ, zero, suc, List, [], ◌∷◌, ◌++◌, length, slice_index_or, slice_set, set, take, drop, sym, refl, ap, ◌∙◌, subst, append_assoc, append-nil, arith}
 use Rattle.std.specs.List.{remove}
 use Rattle.std.specs.List.Sorted.{IsPermutation}
 use Rattle.std.proofs.lemmas.List.{take-set, drop-set-lt}
 use Rattle.std.proofs.lemmas.List.Sorted.{IsPermutation-refl, IsPermutation-sym, IsPermutation-trans, IsPermutation-cons, IsPermutation-append_comm, IsPermutation-append_left, IsPermutation-append_right, IsPermutation-middle}
 use Rattle.js_desk.specs.Endings.{Begins, Joins, JoinsAt, LetsGo, Ends, waiting}
-use Rattle.js_desk.specs.Acts.{Act, Does, Run, joined, given_back}
+use Rattle.js_desk.specs.Acts.{Act, Run, joined, given_back}
 use Rattle.js_desk.specs.Rows.{Row}
 
 -- ---- lists

@@ -1,5 +1,4 @@
 pub mod Rows
 pub mod Endings
 pub mod Acts
-pub mod Kept
 pub mod Askers

@@ -1,4 +1,6 @@
 //! Who asks the desk.
+ghost use Rattle.std.specs.Prelude.{◌≡◌};
+ghost use Rattle.js_desk.specs.declared.asker.Cause.TheVariants.{Ended};
 
 use std::sync::Wait;
 
@@ -15,12 +17,32 @@ pub enum Cause {
 
 /// One who asks, and waits for one reply.
 pub trait Asker: Drop {
+    /// What is asked.
+    type Request: Drop;
+
     /// What is replied.
     type Reply: Drop;
 
-    /// Sends the reply.
-    fn reply<R: Wait>(self, rt: &R, reply: Self::Reply);
+    /// What the reply waits for, where a kernel is made first.
+    type Made: Drop;
 
-    /// Sends the reply for a cause.
-    fn dismiss<R: Wait>(self, rt: &R, cause: Cause);
+    /// This is what it asked.
+    ghost asks: { Self → Self.Request → Type 0 };
+
+    /// This is a reply to what it asked.
+    ghost replies: { Self → Self.Reply → Type 0 };
+
+    /// What comes of this is a reply to what it asked.
+    ghost comes: { Self → Self.Made → Type 0 };
+
+    /// It asked that something ends.
+    ghost ends: { Self → Type 0 };
+
+    /// Sends the reply.
+    fn reply<R: Wait>(self, rt: &R, reply: Self::Reply)
+        requires { replies self reply };
+
+    /// Sends the reply for a cause. Only who asked for an end is told of one.
+    fn dismiss<R: Wait>(self, rt: &R, cause: Cause)
+        requires { cause ≡ Ended → ends self };
 }

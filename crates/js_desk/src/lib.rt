@@ -12,3 +12,4 @@ pub use asker::{Asker, Cause};
 pub use askers::Askers;
 pub use ending::{Endings, is_over};
 pub use held::Held;
+pub use kept::Ender;

@@ -31,7 +31,7 @@ use std::alloc::Global;
 
 /// The server's tables, the kernels that run, and the table of routes.
 #[derive(Drop)]
-pub struct Manager<L: Running> {
+pub struct Manager<L: Drop> {
     router: Router<Route>,
     pub tables: Tables,
     pub running: L,

@@ -1,6 +1,6 @@
 -- What a step of one kernel is to those who see of each kernel what it was told.
 use Rattle.std.proofs.Common.{◌≡◌, inl, inr, ◌<◌, ◌+◌, ℕ, Bool, true, false, cond, List, [], ◌∷◌, ◌++◌, map, length, get_or, set, refl, sym, ap, ◌∙◌, subst, Option, Some, None, Result, Ok, Err, arith}
-use Rattle.std.specs.Prelude.{IfOk, IfSome, OnErr, MatchBool, is_ok, not, position, slice_get, nat_lt, option_map}
+use Rattle.std.specs.Prelude.{IfOk, OnErr, MatchBool, is_ok, not, position, slice_get, nat_lt, option_map}
 use Rattle.std.specs.List.{prefix_len, position_or_len}
 use Rattle.std.specs.Str.{bytes_eq}
 use Rattle.std.proofs.Math.Seq.{map-set_same}
@@ -17,7 +17,6 @@ use Rattle.jk_queues.specs.declared.inbox.Full.{Full}
 use Rattle.js_home.specs.Homes.{Tells, told_by, arrival_of}
 use Rattle.js_home.specs.declared.home.Home.{Home}
 use Rattle.jk_queues.specs.Ends.{seat_inbox, sent_by}
-use Rattle.std.specs.declared.alloc.AllocError.{AllocError}
 use Rattle.js_rest.specs.declared.untold.Untold.{Untold}
 use Rattle.js_shelf.specs.Shelves.{Contents}
 use Rattle.js_tables.specs.Tables.{Rows}
@@ -28,6 +27,7 @@ use Rattle.js_serve.specs.Boards.{inbox_in}
 use Rattle.js_serve.specs.Recording.{ReadsAndTells, Records, RecordsAt, Tells as TellsRecorder, inbox_at}
 use Rattle.js_serve.specs.declared.call.Place.{Place}
 use Rattle.js_serve.specs.declared.kernels.Hosted.{Hosted}
+use Rattle.js_serve.specs.declared.kernels.Unlent.{Unlent}
 use Rattle.js_serve.specs.declared.recording.Scribe.{Scribe}
 
 prefix_map : {X Y : Type 0} (f : X → Y) (p : Y → Bool) (xs : List X) → prefix_len p (map f xs) ≡ prefix_len (λ x. p (f x)) xs
@@ -140,10 +140,8 @@ module _ {L S T M : Type 0} where
       untold_stays old (states_of (set ks place now)) r id command (tells_at old ks place was now id command s b r view first at same sort is told)
 
   -- what holds of a place that was lent
-  pub lent_so : (r : Result (Option (Place L S T M)) AllocError) (P Q : Place L S T M → Type 0) → ((p : Place L S T M) → P p → Q p)
-      → IfOk r (λ o. IfSome o P) → IfOk r (λ o. IfSome o Q)
-  lent_so (Ok (Some p)) P Q f h = f p h
-  lent_so (Ok None) P Q f h = tt
+  pub lent_so : (r : Result (Place L S T M) Unlent) (P Q : Place L S T M → Type 0) → ((p : Place L S T M) → P p → Q p) → IfOk r P → IfOk r Q
+  lent_so (Ok p) P Q f h = f p h
   lent_so (Err e) P Q f h = tt
 
   -- ---- recorders

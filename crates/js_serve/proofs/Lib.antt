@@ -2,3 +2,4 @@ pub mod Boards
 pub mod Channels
 pub mod Crossing
 pub mod Hosting
+pub mod Answering

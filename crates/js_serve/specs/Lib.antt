@@ -3,4 +3,5 @@ pub mod Recording
 pub mod Told
 pub mod Hosting
 pub mod Channels
+pub mod Replies
 pub mod Asking

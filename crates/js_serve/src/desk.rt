@@ -1,22 +1,28 @@
 //! The desk: the one thread that has the tables, the kernels and the files, and answers requests one after the other.
-ghost use Rattle.std.specs.Prelude.{◌≡◌, None};
+ghost use Rattle.std.specs.Prelude.{◌≡◌, None, IfSome};
 ghost use Rattle.js_desk.specs.Askers.{AreAnsweredOnce};
+ghost use Rattle.js_http.specs.declared.response.Response.TheVariants.{Refused};
+ghost use Rattle.js_rest.specs.declared.parts.Outcome.TheVariants.{Answered};
+ghost use Rattle.js_tables.specs.declared.plan.Answer.TheVariants.{Channels};
+ghost use Rattle.js_serve.specs.Asking.{asks, Replies, Responds};
+ghost use Rattle.js_serve.specs.Replies.{CameTo, IsReply, IsSwitch, IsUnserved};
 
+use crate::asking::{Matter, admit, refused};
 use crate::call::{Call, Reply, Upgrade};
-use crate::client::{Client, Made, Matter, admit, refused};
+use crate::client::{Client, Made};
 use crate::clock::{date_now, given_now};
 use crate::concern::{Concern, concern_of};
 use crate::driving::Opened;
 use crate::job::Job;
-use crate::kernels::{Kernels, Unopened};
+use crate::kernels::{Kernels, Unlent, Unopened};
 use crate::pulse::{QUICK, Rhythm, Round};
 use crossbeam_channel::{Receiver, Sender, unbounded};
 use ends::Delay;
 use jk_language::Language;
 use js_desk::Askers;
-use js_http::{ErrorStatus, Request, Response};
+use js_http::{ErrorStatus, HttpRefusal, Request, Response};
 use js_paced::Selector;
-use js_rest::{Manager, Outcome, ReadRequest, Running};
+use js_rest::{Manager, Outcome, ReadRequest};
 use js_shelf::Shelf;
 use js_tables::{Answer, Given};
 use js_ws::{Names, handshake, protocol_of};
@@ -38,10 +44,7 @@ pub use stopping::{Closes, close_desk};
 const ROOM: usize = 4;
 
 /// The tables with the kernels, the files, who has asked, and what is still to be done. It can't be dropped, and ends by `close`.
-pub struct Desk<L: Language, R: Wait + Drop, S: Drop>
-where
-    Kernels<R, L>: Running,
-{
+pub struct Desk<L: Language, R: Wait + Drop, S: Shelf + Drop> {
     rt: R,
     alloc: Global,
     manager: Manager<Kernels<R, L>>,
@@ -50,7 +53,7 @@ where
     sender: Sender<Call<L>>,
     calls: Receiver<Call<L>>,
     /// All who have asked, each of whom was answered once or waits.
-    clients: Askers<Client<L>, ReadRequest, Made<L>>,
+    clients: Askers<Client<L, S>>,
     /// What is to be started next, the last one first.
     jobs: Vec<Job<L>>,
     /// Where the thread that calls for recorders is told how long it pauses, in milliseconds. There is none where that thread could
@@ -72,7 +75,6 @@ where
     L: Language,
     R: Wait + Clock + RandomSource + Copy + Drop,
     S: Shelf + Drop,
-    Kernels<R, L>: Running,
 {
     /// A desk for the connections of a listener. There is none where memory is refused.
     pub fn new(rt: R, alloc: Global, listener: TcpListener, shelf: S) -> Option<Desk<L, R, S>> {
@@ -172,22 +174,34 @@ where
         self.manager.running.drop_left();
     }
 
-    /// Answers whoever is to be answered now.
-    fn send(&mut self, answer: Reply<L>) {
+    /// Answers whoever is to be answered now, by a reply to what that one asked.
+    fn send(&mut self, answer: Reply<L>)
+        requires { IfSome self.old.clients.turn (Replies S.contents answer) }
+    {
         self.clients.answer(&self.rt, answer);
+    }
+
+    /// Answers whoever is to be answered now that it failed, or that there is nothing for it.
+    fn refuse(&mut self, status: ErrorStatus)
+        requires { IsUnserved (Refused status) }
+    {
+        self.send(refused(status));
     }
 
     /// Replies to a request, after a look at what the kernels have published. Where it made a kernel, the answer is the job of
     /// its thread, and the reply waits for it. A request that is about a kernel that is ending, its session or its notebook waits for
     /// that end.
-    fn reply_to(&mut self, request: ReadRequest) -> Option<Job<L>> {
+    fn reply_to(&mut self, request: ReadRequest) -> Option<Job<L>>
+        requires { IfSome self.old.clients.turn (asks request) }
+    {
         let Some(given) = given_now(&self.rt, self.alloc) else {
-            self.send(refused(ErrorStatus::InternalServerError));
+            self.refuse(ErrorStatus::InternalServerError);
             return None;
         };
         self.look(&given.date);
-        let concern = concern_of(self.alloc, request.request());
-        match self.turn_of(request.request().method, &concern) {
+        let asked = request.request();
+        let concern = concern_of(self.alloc, asked);
+        match self.turn_of(asked.method, &concern) {
             Delay::No => self.answer(request, &concern, &given),
             Delay::Join(id) => {
                 self.end_later(id.as_str());
@@ -201,17 +215,11 @@ where
     }
 
     /// Replies to a request now. The recorders of the notebooks that it is about have followed what was shown before.
-    fn answer(&mut self, request: ReadRequest, concern: &Concern, given: &Given) -> Option<Job<L>> {
-        match concern {
-            Concern::File(path) => self.catch_up_at(path.as_str(), &given.date),
-            Concern::Paths => self.catch_up_at("", &given.date),
-            _ => {}
-        }
-        let (request, prepared) = request.into_parts();
-        let outcome = self
-            .manager
-            .step(self.alloc, &mut self.shelf, given, &request, prepared);
-        self.start_recorders();
+    fn answer(&mut self, request: ReadRequest, concern: &Concern, given: &Given) -> Option<Job<L>>
+        requires { IfSome self.old.clients.turn (asks request) }
+    {
+        self.catch_up_on(concern, given);
+        let (request, outcome) = self.step(request, given);
         match outcome {
             Outcome::Answered(answer) => self.carry_on(answer, &request, given),
             Outcome::Shown(about, opening) => {
@@ -221,8 +229,36 @@ where
         }
     }
 
-    /// Replies as an answer says.
-    fn carry_on(&mut self, answer: Answer, request: &Request, given: &Given) -> Option<Job<L>> {
+    /// Lets the recorders follow that a request is about.
+    fn catch_up_on(&mut self, concern: &Concern, given: &Given)
+        ensures { self.new.clients ≡ self.old.clients }
+    {
+        match concern {
+            Concern::File(path) => self.catch_up_at(path.as_str(), &given.date),
+            Concern::Paths => self.catch_up_at("", &given.date),
+            _ => {}
+        }
+    }
+
+    /// The request, and what it comes to. The recorders that are new then begin.
+    fn step(&mut self, request: ReadRequest, given: &Given) -> (Request, Outcome)
+        ensures same { self.new.clients ≡ self.old.clients }
+        ensures request { result.0 ≡ request }
+        ensures came { CameTo S.contents request result.1 }
+    {
+        let (request, prepared) = request.into_parts();
+        let outcome = self
+            .manager
+            .step(self.alloc, &mut self.shelf, given, &request, prepared);
+        self.start_recorders();
+        (request, outcome)
+    }
+
+    /// Replies as an answer says, which the step for this request came to.
+    fn carry_on(&mut self, answer: Answer, request: &Request, given: &Given) -> Option<Job<L>>
+        requires asked { IfSome self.old.clients.turn (asks request.now) }
+        requires came { CameTo S.contents request.now (Answered answer) }
+    {
         match answer {
             Answer::Reply(response) => self.respond(response),
             Answer::Channels(id) => {
@@ -246,7 +282,9 @@ where
     }
 
     /// Sends a response, or lets it wait for the kernel that was made.
-    fn respond(&mut self, response: Response) -> Option<Job<L>> {
+    fn respond(&mut self, response: Response) -> Option<Job<L>>
+        requires { IfSome self.old.clients.turn (Responds S.contents response) }
+    {
         match self.manager.running.take_unopened() {
             Some(unopened) => {
                 let Unopened { opening, opened } = unopened;
@@ -268,18 +306,21 @@ where
 
     /// Waits for the ends of a new kernel, and sends the response that waits for them. Where none come the kernel is gone, and
     /// its row goes before the next answer.
-    fn await_ends(&mut self, made: Made<L>) {
+    fn await_ends(&mut self, made: Made<L>)
+        requires { IfSome self.old.clients.turn (Responds S.contents made.response) }
+    {
         let Made { opened, response } = made;
-        let answer = if self.take_opened(&opened) {
+        if self.take_opened(&opened) {
             self.start_recorders();
-            Reply::Response(response)
+            self.send(Reply::Response(response));
         } else {
-            refused(ErrorStatus::InternalServerError)
-        };
-        self.send(answer);
+            self.refuse(ErrorStatus::InternalServerError);
+        }
     }
 
-    fn take_opened(&mut self, opened: &Receiver<Opened<L>>) -> bool {
+    fn take_opened(&mut self, opened: &Receiver<Opened<L>>) -> bool
+        ensures { self.new.clients ≡ self.old.clients }
+    {
         let Ok(opened) = opened.recv(&self.rt) else {
             self.manager.running.drop_last();
             return false;
@@ -290,18 +331,31 @@ where
     }
 
     /// The reply where the channels of a kernel are asked for.
-    fn channel_for(&mut self, request: &Request, id: Text, given: &Given) -> Reply<L> {
-        let response = match handshake(self.alloc, request) {
-            Ok(response) => response,
-            Err(refusal) => {
-                return refused(refusal.status().unwrap_or(ErrorStatus::InternalServerError));
-            }
-        };
+    fn channel_for(&mut self, request: &Request, id: Text, given: &Given) -> Reply<L>
+        requires { CameTo S.contents request.now (Answered (Channels id)) }
+        ensures same { self.new.clients ≡ self.old.clients }
+        ensures reply { IsReply S.contents request.now result }
+    {
+        match handshake(self.alloc, request) {
+            Ok(response) => self.switch(request, id, given, response),
+            Err(HttpRefusal::BadRequest) => refused(ErrorStatus::BadRequest),
+            Err(_) => refused(ErrorStatus::InternalServerError),
+        }
+    }
+
+    /// The switch of protocols with a place at the kernel whose channels are asked for, or a refusal where there is none: 404 where
+    /// the kernel has ended since it was looked up, and 503 where all places are lent.
+    fn switch(&mut self, request: &Request, id: Text, given: &Given, response: Response) -> Reply<L>
+        requires came { CameTo S.contents request.now (Answered (Channels id)) }
+        requires switch { IsSwitch request.now response }
+        ensures same { self.new.clients ≡ self.old.clients }
+        ensures reply { IsReply S.contents request.now result }
+    {
         let Ok(name) = given.second_id(self.alloc) else {
             return refused(ErrorStatus::InternalServerError);
         };
         match self.manager.running.take_place(id.as_str()) {
-            Ok(Some(place)) => {
+            Ok(place) => {
                 let names = Names {
                     session: id,
                     id: name,
@@ -316,8 +370,9 @@ where
                     },
                 )
             }
-            Ok(None) => refused(ErrorStatus::ServiceUnavailable),
-            Err(_) => refused(ErrorStatus::InternalServerError),
+            Err(Unlent::Ended) => refused(ErrorStatus::NotFound),
+            Err(Unlent::Full) => refused(ErrorStatus::ServiceUnavailable),
+            Err(Unlent::Memory) => refused(ErrorStatus::InternalServerError),
         }
     }
 }

@@ -74,6 +74,17 @@ pub(crate) struct Unopened<L: Language> {
     pub(crate) opened: Receiver<Opened<L>>,
 }
 
+/// Why no place at a kernel is lent.
+#[derive(Clone, Copy)]
+pub(crate) enum Unlent {
+    /// The kernel was shut down, or is not there.
+    Ended,
+    /// All places are lent, or the kernel's thread has not handed them out yet.
+    Full,
+    /// Memory is refused.
+    Memory,
+}
+
 /// The kernels that run. Contracts see of each its identifier, and what seat 0 has told it.
 #[derive(Drop)]
 pub struct Kernels<R: Drop, L: Language> {
@@ -292,30 +303,32 @@ impl<L: Language> Ends<L> {
         }
     }
 
-    /// Lends a place. There is none where all are lent, and where the kernel has ended.
+    /// Lends a place.
     ///
     /// # Errors
-    /// Where memory is refused.
-    fn lend<R: Wait>(&mut self, rt: &R, alloc: Global) -> Result<Option<Place<L>>, AllocError>
+    /// Where the kernel has ended, where no place is free, and where memory is refused.
+    fn lend<R: Wait>(&mut self, rt: &R, alloc: Global) -> Result<Place<L>, Unlent>
         ensures same { spec.home_of self.new ≡ spec.home_of self.old }
-        ensures place { IfOk result (λ lent. IfSome lent (spec.IsPlaceOf (spec.home_of self.old))) }
+        ensures place { IfOk result (spec.IsPlaceOf (spec.home_of self.old)) }
     {
         if self.has_ended() {
-            return Ok(None);
+            return Err(Unlent::Ended);
         }
         let Some(wakes) = &self.wakes else {
-            return Ok(None);
+            return Err(Unlent::Full);
         };
-        let wakes = wakes.another()?;
+        let Ok(wakes) = wakes.another() else {
+            return Err(Unlent::Memory);
+        };
         let Some(mut home) = self.home.take() else {
-            return Ok(None);
+            return Err(Unlent::Full);
         };
         let lent = home.lend(rt, alloc);
         self.home = Some(home);
         match lent {
-            Ok(lent) => Ok(Some(Place { lent, wakes })),
-            Err(NoPlace::Lent) => Ok(None),
-            Err(NoPlace::Memory) => Err(AllocError),
+            Ok(lent) => Ok(Place { lent, wakes }),
+            Err(NoPlace::Lent) => Err(Unlent::Full),
+            Err(NoPlace::Memory) => Err(Unlent::Memory),
         }
     }
 
@@ -418,7 +431,10 @@ impl<R: Wait + Drop, L: Language> Running for Kernels<R, L> {
 
 impl<R: Wait + Drop, L: Language> Kernels<R, L> {
     ghost use Rattle.js_serve.specs.Hosting as spec;
+    ghost use Rattle.std.specs.Prelude.{Err};
     ghost use Rattle.js_serve.specs.Recording.{RecordsAt};
+    ghost use Rattle.js_serve.specs.Told.{place_in};
+    ghost use Rattle.js_serve.specs.declared.kernels.Unlent.TheVariants.{Ended};
     ghost use Rattle.js_tables.specs.Tables.{rows};
 
     /// No kernels.
@@ -466,16 +482,17 @@ impl<R: Wait + Drop, L: Language> Kernels<R, L> {
         }
     }
 
-    /// Lends a place at a kernel. There is none where all are lent.
+    /// Lends a place at a kernel.
     ///
     /// # Errors
-    /// Where memory is refused.
-    pub(crate) fn take_place(&mut self, id: &str) -> Result<Option<Place<L>>, AllocError>
+    /// Where the kernel has ended or is not there, where no place is free, and where memory is refused.
+    pub(crate) fn take_place(&mut self, id: &str) -> Result<Place<L>, Unlent>
         ensures same { self.new ≡ self.old }
-        ensures place { IfOk result (λ lent. IfSome lent (spec.IsPlaceAt id.now self.old)) }
+        ensures place { IfOk result (spec.IsPlaceAt id.now self.old) }
+        ensures gone { place_in id.now self.old ≡ None → result ≡ Err Ended }
     {
         let Some(place) = place_of(self.hosted.as_slice(), id) else {
-            return Ok(None);
+            return Err(Unlent::Ended);
         };
         self.hosted[place].ends.lend(&self.rt, self.alloc)
     }

@@ -1,6 +1,7 @@
 //! The running server: a thread for each connection and for each kernel, and the desk that answers for all of them.
 #![tactic(auto)]
 
+mod asking;
 mod bell;
 mod call;
 mod channel;

@@ -1,13 +1,15 @@
 //! Kernels that end: who waits for that, and the rows that go.
+ghost use Rattle.std.specs.Prelude.{◌≡◌, ℕ, List, IfSome};
+ghost use Rattle.js_http.specs.declared.method.Method.TheVariants.{Delete};
+ghost use Rattle.js_serve.specs.Asking.{asks, WantsEnd};
+ghost use Rattle.js_serve.specs.declared.desk.ends.Delay.TheVariants.{Join};
 
 use super::Desk;
-use crate::client::refused;
 use crate::concern::{Concern, id_in, is_within};
-use crate::kernels::Kernels;
 use crate::pulse::QUICK;
 use jk_language::Language;
 use js_http::{ErrorStatus, Method};
-use js_rest::{ReadRequest, Running};
+use js_rest::ReadRequest;
 use js_shelf::Shelf;
 use js_tables::{Kernel, Update, find_by_session, find_kernel};
 use json_form::Text;
@@ -33,7 +35,6 @@ where
     L: Language,
     R: Wait + Clock + RandomSource + Copy + Drop,
     S: Shelf + Drop,
-    Kernels<R, L>: Running,
 {
     /// Ends the kernels whose recorders were told all that they show. Those who have waited long enough for another are answered.
     pub(super) fn end_ended(&mut self, date: &Text) {
@@ -68,17 +69,21 @@ where
     }
 
     /// The kernel of that identifier was told to shut down. The reply waits until its recorder was told all that it shows.
-    pub(super) fn end_later(&mut self, id: &str) {
+    pub(super) fn end_later(&mut self, id: &str)
+        requires { IfSome self.old.clients.turn (WantsEnd S.contents) }
+    {
         let _ = self.clients.begin_end(self.alloc, id);
         let now = Instant::now(&self.rt).ok();
         if !self.clients.join(id, now) {
-            self.send(refused(ErrorStatus::InternalServerError));
+            self.refuse(ErrorStatus::InternalServerError);
         }
         self.ring(QUICK);
     }
 
-    /// Whether a request has to wait for a kernel that is ending.
-    pub(super) fn turn_of(&self, method: Method, concern: &Concern) -> Delay {
+    /// Whether a request has to wait for a kernel that is ending. Only a DELETE waits as one that ends it.
+    pub(super) fn turn_of(&self, method: Method, concern: &Concern) -> Delay
+        ensures { (id : List ℕ) → result ≡ Join id → method ≡ Delete }
+    {
         if self.clients.endings().is_empty() {
             return Delay::No;
         }
@@ -103,20 +108,21 @@ where
         }
     }
 
-    fn turn_at(&self, method: Method, kernel: Option<&Kernel>) -> Delay {
+    fn turn_at(&self, method: Method, kernel: Option<&Kernel>) -> Delay
+        ensures { (id : List ℕ) → result ≡ Join id → method ≡ Delete }
+    {
         let Some(kernel) = kernel else {
             return Delay::No;
         };
         if !self.clients.endings().has(kernel.id.as_str()) {
             return Delay::No;
         }
-        match kernel.id.copy() {
-            Ok(id) => if matches!(method, Method::Delete) {
-                Delay::Join(id)
-            } else {
-                Delay::Hold
-            },
-            Err(_) => Delay::Hold,
+        let Ok(id) = kernel.id.copy() else {
+            return Delay::Hold;
+        };
+        match method {
+            Method::Delete => Delay::Join(id),
+            _ => Delay::Hold,
         }
     }
 
@@ -142,36 +148,55 @@ where
     }
 
     /// Lets a request wait for a kernel that is ending.
-    pub(super) fn hold(&mut self, request: ReadRequest) {
+    pub(super) fn hold(&mut self, request: ReadRequest)
+        requires { IfSome self.old.clients.turn (asks request) }
+    {
         if !self.clients.hold(request) {
-            self.send(refused(ErrorStatus::InternalServerError));
+            self.refuse(ErrorStatus::InternalServerError);
         }
     }
 
     /// Notes in the tables what the kernels have published. A kernel that was shut down is gone.
-    pub(super) fn look(&mut self, date: &Text) {
+    pub(super) fn look(&mut self, date: &Text)
+        ensures { self.new.clients.turn ≡ self.old.clients.turn }
+    {
+        self.note_all(date);
+        self.drop_ended();
+        self.manager.running.drop_left();
+    }
+
+    fn note_all(&mut self, date: &Text)
+        ensures { self.new.clients ≡ self.old.clients }
+    {
         self.manager.running.follow();
         for place in 0..self.manager.tables.kernels.len() {
             if let Some(row) = self.manager.tables.kernels.get_mut(place) {
                 self.manager.running.note(row, date);
             }
         }
-        self.drop_ended();
-        self.manager.running.drop_left();
     }
 
     /// Drops the rows of the kernels that were shut down or are gone. One with a recorder stays until that was told all that it shows.
-    fn drop_ended(&mut self) {
+    fn drop_ended(&mut self)
+        ensures { self.new.clients.turn ≡ self.old.clients.turn }
+    {
         for place in (0..self.manager.tables.kernels.len()).rev() {
             if let Some(id) = self.ended_at(place) {
-                if self.is_recorded(id.as_str()) {
-                    if self.clients.begin_end(self.alloc, id.as_str()).is_ok() {
-                        self.ring(QUICK);
-                    }
-                } else {
-                    let _ = self.drop_row(id);
-                }
+                self.drop_or_end(id);
             }
+        }
+    }
+
+    /// Drops the row of a kernel that was shut down or is gone, or begins to end it where it has a recorder.
+    fn drop_or_end(&mut self, id: Text)
+        ensures { self.new.clients.turn ≡ self.old.clients.turn }
+    {
+        if !self.is_recorded(id.as_str()) {
+            let _ = self.drop_row(id);
+            return;
+        }
+        if self.clients.begin_end(self.alloc, id.as_str()).is_ok() {
+            self.ring(QUICK);
         }
     }
 
@@ -181,7 +206,7 @@ where
     }
 
     /// The identifier of the kernel in a row that was shut down or is gone, and is not ending already.
-    fn ended_at(&mut self, place: usize) -> Option<Text> {
+    fn ended_at(&self, place: usize) -> Option<Text> {
         let id = self.manager.tables.kernels.get(place)?.id.copy().ok()?;
         if self.clients.endings().has(id.as_str()) || !self.manager.running.has_ended(id.as_str()) {
             return None;
@@ -190,7 +215,9 @@ where
     }
 
     /// Drops the row of a kernel. It says whether there was memory for that.
-    pub(super) fn drop_row(&mut self, id: Text) -> bool {
+    pub(super) fn drop_row(&mut self, id: Text) -> bool
+        ensures { self.new.clients ≡ self.old.clients }
+    {
         if self.manager.tables.make_room().is_err() {
             return false;
         }

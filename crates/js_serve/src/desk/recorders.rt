@@ -1,14 +1,13 @@
 //! What kernels show, read for their recorders.
+ghost use Rattle.std.specs.Prelude.{◌≡◌};
 
 use super::Desk;
 use crate::clock::date_now;
 use crate::concern::is_within;
 use crate::job::Job;
-use crate::kernels::Kernels;
 use crate::pulse::{Found, Round};
 use crossbeam_channel::unbounded;
 use jk_language::Language;
-use js_rest::Running;
 use js_shelf::Shelf;
 use json_form::Text;
 use std::alloc::Global;
@@ -27,11 +26,12 @@ where
     L: Language,
     R: Wait + Clock + RandomSource + Copy + Drop,
     S: Shelf + Drop,
-    Kernels<R, L>: Running,
 {
     /// Lets the recorder of a kernel follow what the kernel has shown, by one read, and tries its save where that is due. It says
     /// what was found.
-    fn follow_once(&mut self, kernel: &str, date: &Text, saves: bool) -> Found {
+    fn follow_once(&mut self, kernel: &str, date: &Text, saves: bool) -> Found
+        ensures { self.new.clients ≡ self.old.clients }
+    {
         self.manager.running.record(
             kernel,
             &mut self.manager.tables,
@@ -43,7 +43,9 @@ where
 
     /// Lets the recorder of a kernel follow all that the kernel has shown, by `reads` reads at most, and tries its save where that is
     /// due.
-    pub(super) fn catch_up(&mut self, kernel: &str, date: &Text, reads: u32) {
+    pub(super) fn catch_up(&mut self, kernel: &str, date: &Text, reads: u32)
+        ensures { self.new.clients ≡ self.old.clients }
+    {
         for _ in 0..reads {
             if self.follow_once(kernel, date, true) != Found::More {
                 return;
@@ -52,7 +54,9 @@ where
     }
 
     /// Lets the recorders follow whose notebooks are at a path or below it.
-    pub(super) fn catch_up_at(&mut self, path: &str, date: &Text) {
+    pub(super) fn catch_up_at(&mut self, path: &str, date: &Text)
+        ensures { self.new.clients ≡ self.old.clients }
+    {
         for place in 0..self.manager.tables.kernels.len() {
             if let Some(id) = self.kernel_within(place, path) {
                 self.catch_up(id.as_str(), date, READS);
@@ -142,7 +146,9 @@ where
     }
 
     /// Says how long the thread that calls for recorders pauses. Where it is not there, it is started.
-    pub(super) fn ring(&mut self, pause: u64) {
+    pub(super) fn ring(&mut self, pause: u64)
+        ensures { self.new.clients ≡ self.old.clients }
+    {
         if let Some(pauses) = &self.pauses {
             if pauses.send(&self.rt, pause).is_ok() {
                 return;
@@ -154,7 +160,9 @@ where
     }
 
     /// Adds the job of the thread that calls for recorders.
-    fn add_pulse(&mut self, pause: u64) -> Option<()> {
+    fn add_pulse(&mut self, pause: u64) -> Option<()>
+        ensures { self.new.clients ≡ self.old.clients }
+    {
         let calls = self.sender.clone().ok()?;
         let (sender, receiver) = unbounded::<u64, Global>(self.alloc).ok()?;
         sender.send(&self.rt, pause).ok()?;
@@ -164,7 +172,9 @@ where
     }
 
     /// Begins to read for each recorder that is new, after what was shown before, and ends that for those that are gone.
-    pub(super) fn start_recorders(&mut self) {
+    pub(super) fn start_recorders(&mut self)
+        ensures { self.new.clients ≡ self.old.clients }
+    {
         self.manager.running.end_readings(&self.manager.tables);
         let mut begun = false;
         for place in 0..self.manager.tables.recordings.len() {

@@ -1,12 +1,13 @@
 //! How the server stops: each kernel is ended as its DELETE ends it, and then the desk has nothing to do any more.
-ghost use Rattle.std.specs.Prelude.{◌≡◌, ◌&&◌, ◌||◌};
+ghost use Rattle.std.specs.Prelude.{◌≡◌, ◌&&◌, ◌||◌, IfOk, IfSome, codes};
+ghost use Rattle.js_http.specs.declared.response.Response.TheVariants.{Success};
+ghost use Rattle.js_serve.specs.Asking.{asks, Replies};
+ghost use Rattle.js_serve.specs.declared.call.Reply.TheVariants.{Last};
 
 use super::Desk;
 use crate::call::Reply;
-use crate::client::refused;
 use crate::clock::date_now;
 use crate::job::Job;
-use crate::kernels::Kernels;
 use crate::pulse::QUICK;
 use jk_language::Language;
 use js_desk::is_over;
@@ -39,7 +40,9 @@ fn has_stopped(late: bool, answered: bool, gone: bool) -> bool
 }
 
 /// The content of the response to the request that tells the server to stop.
-fn nothing(alloc: Global) -> Result<Bytes, AllocError> {
+fn nothing(alloc: Global) -> Result<Bytes, AllocError>
+    ensures { IfOk result (λ content. content ≡ codes "{}") }
+{
     let mut content = Vec::new(alloc);
     content.extend_from_slice(b"{}")?;
     Ok(Bytes::from(content))
@@ -64,7 +67,6 @@ where
     L: Language,
     R: Wait + Clock + RandomSource + Copy + Drop,
     S: Shelf + Drop,
-    Kernels<R, L>: Running,
 {
     type Left = S;
 
@@ -95,7 +97,6 @@ where
     L: Language,
     R: Wait + Clock + RandomSource + Copy + Drop,
     S: Shelf + Drop,
-    Kernels<R, L>: Running,
 {
     /// Whether the server was told to stop, and has: each kernel has ended, or five seconds have passed.
     pub fn has_stopped(&self) -> bool {
@@ -107,9 +108,11 @@ where
 
     /// The server was told to stop. Requests that wait are answered that it is not there for them. Where memory is refused, it
     /// goes on as before.
-    pub(super) fn stop(&mut self) {
+    pub(super) fn stop(&mut self)
+        requires { IfSome self.old.clients.turn (Replies S.contents (Last (Success (codes "{}")))) }
+    {
         let Ok(content) = nothing(self.alloc) else {
-            self.send(refused(ErrorStatus::InternalServerError));
+            self.refuse(ErrorStatus::InternalServerError);
             return;
         };
         self.send(Reply::Last(Response::Success(content)));
@@ -122,11 +125,13 @@ where
     }
 
     /// Replies to a request, unless the server stops.
-    pub(super) fn reply_or_refuse(&mut self, request: ReadRequest) -> Option<Job<L>> {
+    pub(super) fn reply_or_refuse(&mut self, request: ReadRequest) -> Option<Job<L>>
+        requires { IfSome self.old.clients.turn (asks request) }
+    {
         if self.stopping.is_none() {
             return self.reply_to(request);
         }
-        self.send(refused(ErrorStatus::ServiceUnavailable));
+        self.refuse(ErrorStatus::ServiceUnavailable);
         None
     }
 

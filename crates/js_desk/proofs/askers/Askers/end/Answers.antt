@@ -1,4 +1,3 @@
-use Rattle.js_desk.specs.Kept.{asker_in, askers_of}
 use Rattle.js_desk.specs.Askers.{one}
 use Rattle.js_desk.specs.Endings.{waiting}
 use Rattle.js_desk.proofs.Waiting.{end_waiting}
@@ -7,6 +6,6 @@ use Rattle.js_desk.proofs.askers.Askers.end.Goals as goal
 
 pub invariant_of-self-2 : goal.invariant_of-self-2
 invariant_of-self-2 g c =
-    ended_keeps c.self.inside.asked.items c.self.inside.answered.items c.dismiss_all.new.answered.items (one c.self.inside.turn) (one (asker_in c.self.inside.made))
-    (askers_of c.self.inside.held) (waiting c.self.inside.endings) (waiting c.end.new.self) c.in-Some.waiters.items c.dismiss_all.ensures
+    ended_keeps c.self.inside.asked.items c.self.inside.answered.items c.tell_ended.new.answered.items (one c.self.inside.turn) (one c.self.inside.made)
+    c.self.inside.held (waiting c.self.inside.endings) (waiting c.end.new.self) c.in-Some.waiters.items c.tell_ended.ensures
     (end_waiting c.args.place c.in-Some.waiters.items c.self.inside.endings c.end.new.self c.in-Some.ensures.some) c.self.invariant

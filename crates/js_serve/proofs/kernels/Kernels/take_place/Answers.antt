@@ -1,8 +1,8 @@
-use Rattle.std.proofs.Common.{◌∙◌, refl, subst}
+use Rattle.std.proofs.Common.{◌∙◌, ap, sym, refl, subst}
 use Rattle.js_serve.specs.Hosting.{IsPlaceAt, IsPlaceOf, home_of}
-use Rattle.js_serve.specs.Told.{KernelState}
+use Rattle.js_serve.specs.Told.{KernelState, place_in}
 use Rattle.std.specs.Prelude.{List}
-use Rattle.js_serve.proofs.Hosting.{found_at, kept_at, lent_so, place_at}
+use Rattle.js_serve.proofs.Hosting.{found_at, id_place, kept_at, lent_so, place_at}
 use Rattle.js_serve.proofs.kernels.Kernels.take_place.Goals as goal
 
 pub returns-clause-same : goal.returns-clause-same
@@ -18,3 +18,11 @@ returns-clause-place g c =
     lent_so c.lend.result (λ p. IsPlaceOf (home_of was.ends) p) (λ p. IsPlaceAt c.args.id.now c.args.self.now p)
     (λ p h. subst (λ (states : List KernelState). IsPlaceAt c.args.id.now states p) c.self.view_is (place_at ks c.in-Some.place was c.args.id.now p first c.index_mut.ensures.value h))
     c.lend.ensures.place
+
+-- a place was found for the identifier
+pub returns-clause-gone : goal.returns-clause-gone
+returns-clause-gone g c none =
+    let ks = c.self.inside.hosted.items in
+    let first = found_at ks c.as_slice.result.now c.args.id.now c.in-Some.place c.as_slice.ensures.value c.in-Some.ensures in
+    let found = ap (place_in c.args.id.now) (sym c.self.view_is) ∙ (id_place c.args.id.now ks ∙ first) in
+    absurd (cc (sym none ∙ found))
