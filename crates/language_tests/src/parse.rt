@@ -227,7 +227,7 @@ fn all_productions(rt: HostRuntime) -> Result<(), Fail> {
     Ok(())
 }
 
-fn columns(module: &Module) -> (usize, usize) {
+fn columns(module: &Module) -> (u32, u32) {
     match module.declarations.get().constants.as_slice() {
         [one, other] => (
             one.value.get().first_token().column,

@@ -8,14 +8,14 @@ use std::test::Fail;
 /// A name, string or number as it is, and a reserved word or sign by its name after '!'.
 fn show(alloc: Global, token: &Token, shown: &mut Vec<u8>) -> Result<(), AllocError> {
     match &token.kind {
-        Kind::Ident(name) => shown.extend_from_slice(name.as_slice())?,
+        Kind::Ident(name) => shown.extend_from_slice(name.get().as_slice())?,
         Kind::Integer(number) => {
             let digits = number.to_string(alloc)?;
             shown.extend_from_slice(digits.as_bytes())?;
         }
         Kind::Text(chars) => {
             shown.push(b'"')?;
-            shown.extend_from_slice(chars.as_slice())?;
+            shown.extend_from_slice(chars.get().as_slice())?;
         }
         Kind::Symbol(symbol) => {
             let name = format!(in alloc; "{symbol:?}")?;
@@ -52,7 +52,12 @@ fn last_span(alloc: Global, text: &str) -> Result<[usize; 4], AllocError> {
         Ok(tokens) => match tokens.as_slice() {
             [.., token] => {
                 let span = token.span;
-                Ok([span.start, span.end, span.line, span.column])
+                Ok([
+                    span.start as usize,
+                    span.end as usize,
+                    span.line as usize,
+                    span.column as usize,
+                ])
             }
             [] => Ok([0; 4]),
         },

@@ -295,13 +295,15 @@ fn expr(site: Site<'_>, e: &Expr) -> Result<Folded, Rejected>
 {
     match &e.right {
         None => simple(site, &e.left),
-        Some(Related::By(relation, span, right)) => {
-            let left = simple(site, &e.left)?;
-            related(site, left, *relation, *span, right)
-        }
-        Some(Related::Is(_, _)) => {
-            Err(Rejected::Rule(broken(RuleCode::NotConstant, e.first_token())))
-        }
+        Some(right) => match right.get() {
+            Related::By(relation, span, right) => {
+                let left = simple(site, &e.left)?;
+                related(site, left, *relation, *span, right)
+            }
+            Related::Is(_, _) => {
+                Err(Rejected::Rule(broken(RuleCode::NotConstant, e.first_token())))
+            }
+        },
     }
 }
 
@@ -404,6 +406,7 @@ fn factor(site: Site<'_>, f: &Factor) -> Result<Folded, Rejected>
         Factor::Truth(truth, _) => Ok(Folded::Boolean(Some(*truth))),
         Factor::Value(d) => value_named(site.alloc, site.imports, site.scope, d),
         Factor::Call(d, actuals) => {
+            let d = d.get();
             let function = function_of(site.imports, site.scope, d)?;
             called(site, function, actuals.as_slice(), d.name.span)
         }

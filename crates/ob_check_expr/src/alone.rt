@@ -143,9 +143,9 @@ fn lone_in<'a>(scope: &Scope, f: Option<&'a Factor>) -> Option<Lone<'a>>
             variable: d,
             guard: None,
         }),
-        Some(Factor::Call(d, actuals)) => match guard_in(scope, d, actuals.as_slice()) {
+        Some(Factor::Call(d, actuals)) => match guard_in(scope, d.get(), actuals.as_slice()) {
             Some(name) => Some(Lone {
-                variable: d,
+                variable: d.get(),
                 guard: Some(name),
             }),
             None => None,

@@ -52,14 +52,16 @@ pub fn expr(
 {
     match &e.right {
         None => simple(site, variables, &e.left),
-        Some(Related::By(by, span, right)) => {
-            let left = simple(site, variables, &e.left)?;
-            relation(site, left, *by, *span, right)
-        }
-        Some(Related::Is(_, name)) => {
-            let tested = lone_sum(site.scope, &e.left);
-            test(site, variables, e, tested, name)
-        }
+        Some(right) => match right.get() {
+            Related::By(by, span, right) => {
+                let left = simple(site, variables, &e.left)?;
+                relation(site, left, *by, *span, right)
+            }
+            Related::Is(_, name) => {
+                let tested = lone_sum(site.scope, &e.left);
+                test(site, variables, e, tested, name)
+            }
+        },
     }
 }
 
@@ -233,6 +235,7 @@ fn factor(
             value_named(site, variables, named)
         }
         Factor::Call(d, actuals) => {
+            let d = d.get();
             let actuals = actuals.as_slice();
             let guard = guard_in(site.scope, d, actuals);
             call_or_guard(site, variables, d, actuals, guard)
@@ -436,7 +439,7 @@ fn element(site: Site<'_>, at: Selected, e: &Expr) -> Result<Selected, Rejected>
     let (operand, variables) = nested(site, span, variables, e)?;
     match number_of(operand) {
         Some(index) => {
-            let part = element_at(site.alloc, place, span.line, index)?;
+            let part = element_at(site.alloc, place, span.line as usize, index)?;
             Ok((of, part, variables, false))
         }
         None => {
@@ -486,7 +489,7 @@ fn function_call(
         Some(basic) => {
             let formals = signature.formals.as_slice();
             let (passed, variables) = all_passed(site, formals, span, variables, actuals)?;
-            let value = TypedExpr::Function(callee, span.line, passed);
+            let value = TypedExpr::Function(callee, span.line as usize, passed);
             Ok((Operand::Value(basic, value), variables))
         }
     }

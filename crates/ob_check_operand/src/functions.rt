@@ -107,7 +107,7 @@ fn unary(
     match value {
         Some(value) => Ok(Operand::Value(
             basic,
-            TypedExpr::Unary(operator, span.line, Boxed::new(alloc, value)?),
+            TypedExpr::Unary(operator, span.line as usize, Boxed::new(alloc, value)?),
         )),
         None => Err(Rejected::Rule(broken(RuleCode::Parameters, span))),
     }
@@ -203,7 +203,7 @@ fn numbers_shifted(
                 drop(left);
                 Err(Rejected::Rule(broken(RuleCode::Parameters, second)))
             }
-            Some(right) => shifted(alloc, operator, span.line, left, right),
+            Some(right) => shifted(alloc, operator, span.line as usize, left, right),
         },
     }
 }

@@ -113,7 +113,7 @@ fn with_number(
 {
     let step = Operation {
         operator,
-        line: span.line,
+        line: span.line as usize,
         operand: right,
     };
     match left {
@@ -238,7 +238,7 @@ fn sign_of(alloc: Global, sign: Sign, span: Span, value: TypedExpr) -> Result<Ty
         Sign::Plus => Ok(value),
         Sign::Minus => Ok(TypedExpr::Unary(
             UnaryOperator::Negative,
-            span.line,
+            span.line as usize,
             Boxed::new(alloc, value)?,
         )),
     }
@@ -271,6 +271,10 @@ pub fn negated(alloc: Global, span: Span, operand: Operand) -> Result<Operand, R
     let value = fitting(truth_of(operand), RuleCode::Types, span)?;
     Ok(Operand::Value(
         Basic::Boolean,
-        TypedExpr::Unary(UnaryOperator::Not, span.line, Boxed::new(alloc, value)?),
+        TypedExpr::Unary(
+            UnaryOperator::Not,
+            span.line as usize,
+            Boxed::new(alloc, value)?,
+        ),
     ))
 }

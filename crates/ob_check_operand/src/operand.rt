@@ -106,7 +106,7 @@ fn byte_for(alloc: Global, operand: Operand, span: Span) -> Result<TypedExpr, Re
         Operand::Value(Basic::Byte, value) => Ok(value),
         Operand::Value(Basic::Integer, value) => Ok(TypedExpr::Unary(
             UnaryOperator::Byte,
-            span.line,
+            span.line as usize,
             Boxed::new(alloc, value)?,
         )),
         Operand::Value(Basic::Boolean, _)

@@ -109,7 +109,7 @@ fn compared(
     let mut steps = Items::new(alloc);
     steps.push(Operation {
         operator: Operator::Compare(relation),
-        line: span.line,
+        line: span.line as usize,
         operand: right,
     })?;
     Ok(Operand::Value(

@@ -185,6 +185,13 @@ pub fn extension_named(
     }
 }
 
+/// The line of a place.
+fn line_of(span: Span) -> usize
+    ensures { result ≡ span.line }
+{
+    span.line as usize
+}
+
 /// What is guarded: a record of the type that the guard names. 12 at the name where no type is told of it, or where that is no
 /// record type that is its type or extends it.
 #[tactic(auto, unfolding(crate::specs::Selecting::guarded))]
@@ -193,14 +200,15 @@ pub fn guarded(site: Site<'_>, at: Selected, name: NameOfType<'_>) -> Result<Sel
 {
     let (of, place, variables, told) = at;
     let span = name.first.span;
+    let line = line_of(span);
     let (to, levels) = extension_named(site.imports, site.scope, &of, name, span)?;
     if !told {
         return Err(Rejected::Rule(broken(RuleCode::Types, span)));
     }
     let mut variables = variables;
-    let kind = variables.kind_of(&to)?;
+    let kind = Boxed::new(site.alloc, variables.kind_of(&to)?)?;
     let inner = Boxed::new(site.alloc, place)?;
-    let place = Designator::Guarded(inner, span.line, kind, levels);
+    let place = Designator::Guarded(inner, line, kind, levels);
     Ok((to, place, variables, true))
 }
 

@@ -71,8 +71,8 @@ pub fn broken(code: RuleCode, span: Span) -> BrokenRule
 {
     BrokenRule {
         code,
-        line: span.line,
-        column: span.column,
+        line: span.line as usize,
+        column: span.column as usize,
     }
 }
 

@@ -68,7 +68,7 @@ fn structured_assigned(
             if !string_assignable(of, chars.as_slice().len()) {
                 return Err(Rejected::Rule(broken(RuleCode::Types, span)));
             }
-            Ok(Action::AssignText(to, span.line, chars))
+            Ok(Action::AssignText(to, span.line as usize, chars))
         }
         Operand::Place(from_type, from) => {
             if is_left_out_copy(of, &from_type) {

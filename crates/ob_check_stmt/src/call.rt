@@ -44,7 +44,7 @@ fn call_with(
                 return Err(Rejected::Rule(broken(RuleCode::Parameters, span)));
             }
             Ok((
-                Action::Call(to, span.line, Items::new(site.alloc)),
+                Action::Call(to, span.line as usize, Items::new(site.alloc)),
                 variables,
             ))
         }
@@ -56,7 +56,7 @@ fn call_with(
                 variables,
                 actuals.as_slice(),
             )?;
-            Ok((Action::Call(to, span.line, passed), variables))
+            Ok((Action::Call(to, span.line as usize, passed), variables))
         }
     }
 }

@@ -2,9 +2,10 @@
 
 ghost use Rattle.std.specs.Prelude.{◌≡◌, IfOk};
 ghost use Rattle.ob_check_scope.specs.Rule.{Judges};
+ghost use Rattle.ob_mean.specs.declared.statement.OutputCall.TheVariants as output;
 ghost use Rattle.ob_check_stmt.specs.StandardCalls as spec;
 
-use ob_base::{Items, Shared};
+use ob_base::{Boxed, Items, Shared};
 use ob_check_expr::{actual, number, truth};
 use ob_check_scope::Site;
 use ob_check_scope::predeclared::{InputName, OutputName, ProperProcedure};
@@ -290,6 +291,15 @@ fn out_string(
     }
 }
 
+/// The call of a number and a width.
+fn int_written(alloc: Global, value: TypedExpr, width: TypedExpr) -> Result<OutputCall, AllocError>
+    ensures { IfOk result (λ call. call ≡ output.Int value width) }
+{
+    let value = Boxed::new(alloc, value)?;
+    let width = Boxed::new(alloc, width)?;
+    Ok(OutputCall::Int(value, width))
+}
+
 /// `Out.Int` after the number.
 #[tactic(auto, unfolding(crate::specs::StandardCalls::out_width))]
 fn out_width(
@@ -305,11 +315,8 @@ fn out_width(
         [] => Err(Rejected::Rule(broken(RuleCode::Parameters, span))),
         [e, behind @ ..] => {
             let (width, variables) = scalar(site, variables, Basic::Integer, e)?;
-            none_left(
-                Action::Output(OutputCall::Int(value, width)),
-                variables,
-                behind,
-            )
+            let call = int_written(site.alloc, value, width)?;
+            none_left(Action::Output(call), variables, behind)
         }
     }
 }
@@ -421,7 +428,11 @@ fn asserted(
         [] => Err(Rejected::Rule(broken(RuleCode::Parameters, span))),
         [e, behind @ ..] => {
             let (condition, variables) = truth_inside(site, variables, e)?;
-            none_left(Action::Assert(span.line, condition), variables, behind)
+            none_left(
+                Action::Assert(span.line as usize, condition),
+                variables,
+                behind,
+            )
         }
     }
 }

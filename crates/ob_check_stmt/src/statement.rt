@@ -3,7 +3,8 @@
 ghost use Rattle.std.specs.Prelude.{◌≡◌, []};
 ghost use Rattle.ob_tree.specs.declared.tree.Branch.{out-Branch};
 ghost use Rattle.ob_tree.specs.declared.tree.Case.{out-Case};
-ghost use Rattle.ob_check_scope.specs.Rule.{Judges, through};
+ghost use Rattle.ob_check_scope.specs.Rule.{Given, Judges, through};
+ghost use Rattle.ob_mean.specs.declared.statement.TypedStatement.TheVariants as typed;
 ghost use Rattle.ob_check_stmt.specs.Statements as spec;
 
 use crate::assignment::assignment;
@@ -11,16 +12,17 @@ use crate::call::call;
 use crate::for_head::for_head;
 use crate::label::{Labelling, is_character, labels};
 use crate::labels::Labels;
-use ob_base::Items;
+use ob_base::{Boxed, Items};
 use ob_check_expr::{basic_value, guard};
 use ob_check_scope::Site;
 use ob_check_scope::rejected::{Rejected, broken, open};
 use ob_check_scope::rule::RuleCode;
 use ob_check_strings::Variables;
-use ob_mean::{Branch as TypedBranch, CaseArm, TypedExpr, TypedStatement};
+use ob_mean::{Branch as TypedBranch, CaseArm, ForHead as TypedHead, TypedExpr, TypedStatement};
 use ob_scan::Span;
 use ob_tree::tree::{Branch, Case, Expr, ForHead, LabelRange, Statement};
 use ob_types::Basic;
+use std::alloc::Global;
 
 /// All labels of a CASE so far, its arms, and the variables of the module.
 type Arms = (Labels, Items<CaseArm>, Variables);
@@ -228,7 +230,10 @@ fn arms_of(
     match is_character(basic) {
         Some(character) => {
             let (_, arms, variables) = all_cases(site, character, variables, cases, span)?;
-            Ok((TypedStatement::Case(span.line, value, arms), variables))
+            Ok((
+                TypedStatement::Case(span.line as usize, value, arms),
+                variables,
+            ))
         }
         None => Err(Rejected::Rule(broken(RuleCode::Types, span))),
     }
@@ -264,6 +269,19 @@ fn repeat_statement(
     Ok((TypedStatement::Repeat(body, condition), variables))
 }
 
+/// The statement of these parts.
+fn for_of(
+    alloc: Global,
+    head: TypedHead,
+    body: Items<TypedStatement>,
+    variables: Variables,
+) -> Result<(TypedStatement, Variables), Rejected>
+    ensures { Judges (Given (typed.For head body, variables)) result }
+{
+    let head = Boxed::new(alloc, head)?;
+    Ok((TypedStatement::For(head, body), variables))
+}
+
 #[cycle(statement)]
 #[tactic(auto, unfolding(crate::specs::Statements::for_rule))]
 fn for_statement(
@@ -276,7 +294,7 @@ fn for_statement(
 {
     let (head, variables) = for_head(site, variables, h)?;
     match statements(site, variables, body, h.variable.span) {
-        Ok((body, variables)) => Ok((TypedStatement::For(head, body), variables)),
+        Ok((body, variables)) => for_of(site.alloc, head, body, variables),
         Err(e) => {
             // By a call, since it has many parts to be let go.
             drop(head);

@@ -1,6 +1,6 @@
 //! The instructions of the machine, and what they name.
 
-use ob_base::{Items, SharedItems, Text};
+use ob_base::{Boxed, Items, SharedItems, Text};
 use ob_mean::{Adjustment, Callee, Operator, Relation, TrapKind, TypeName, UnaryOperator};
 
 /// Cells of a module or of a call: so many from this one on.
@@ -50,6 +50,8 @@ pub enum Target {
 /// One instruction. Operands are numbers of 32 bits. A place is an operand too: the number of its cell in an object that the
 /// instruction names. In valid code the cells lie in that object, so a machine need not test a place. A jump says how many
 /// instructions it passes. Only `EnterBack` and `TakeLine` lead back, after a turn.
+///
+/// What few instructions have stands apart, so that the others take little room.
 #[derive(Drop)]
 pub enum Instr {
     Push(i32),
@@ -77,11 +79,11 @@ pub enum Instr {
     /// In place of an array's first cell, its length.
     TakeLength(Length),
     /// Takes the first cell of the source, and then of the target, of so many cells.
-    Copy(Root, Root, usize),
+    Copy(Boxed<Root>, Boxed<Root>, usize),
     /// Takes the first cell of an array of characters, which gets this text; the line that the trap names.
-    StoreText(Span, Text, usize),
+    StoreText(Boxed<Span>, Boxed<Text>, usize),
     /// Takes the first cells of the second and of the first array.
-    RelateTexts(Relation, Span, Span),
+    RelateTexts(Relation, Boxed<Span>, Boxed<Span>),
 
     /// A name for so many cells from this cell of an object on.
     NamePlace(Root, usize),

@@ -10,6 +10,7 @@ use crate::emit::{Found, emit_arguments, emit_expr, emit_offset, span_of};
 use crate::jumps::put;
 use crate::known::{Known, object_cells, root_of};
 use ob_code::instr::{Instr, Line, Target};
+use ob_code::made;
 use ob_mean::{Action, Designator, InputCall, OutputCall, Reader, TypedExpr};
 use std::alloc::{AllocError, Global};
 
@@ -30,17 +31,14 @@ pub fn emit_action<'a>(
             let target = emit_offset(alloc, code, known, 0, 0, d)?;
             let source = emit_offset(alloc, code, known, 1, 0, e)?;
             let cells = object_cells(target.object)?;
-            put(code, 2, 0, Instr::Copy(target.root, source.root, cells))
+            let instr = made::copy(alloc, target.root, source.root, cells)?;
+            put(code, 2, 0, instr)
         }
         Action::AssignText(d, line, text) => {
             let found = emit_offset(alloc, code, known, 0, 0, d)?;
             let characters = text.copy(alloc)?;
-            put(
-                code,
-                1,
-                0,
-                Instr::StoreText(span_of(found), characters, *line),
-            )
+            let instr = made::store_text(alloc, span_of(found), characters, *line)?;
+            put(code, 1, 0, instr)
         }
         Action::Adjust(adjustment, d, e) => {
             let found = emit_offset(alloc, code, known, 0, 0, d)?;
@@ -155,8 +153,8 @@ fn emit_output<'a>(
             put(code, 1, 0, Instr::PutText(span_of(found)))
         }
         OutputCall::Int(e, width) => {
-            emit_expr(alloc, code, known, 0, 0, e)?;
-            emit_expr(alloc, code, known, 1, 0, width)?;
+            emit_expr(alloc, code, known, 0, 0, e.get())?;
+            emit_expr(alloc, code, known, 1, 0, width.get())?;
             put(code, 2, 0, Instr::PutInt)
         }
         OutputCall::Ln => put(code, 0, 0, Instr::PutLine),

@@ -12,6 +12,7 @@ use crate::known::{
     object_cells, part_before, root_of, variable_object,
 };
 use ob_code::instr::{Instr, Line, Root, Span};
+use ob_code::made;
 use ob_mean::{Argument, Designator, Operation, TrapKind, TypedExpr};
 use std::alloc::{AllocError, Global};
 
@@ -76,7 +77,7 @@ pub fn emit_expr<'a>(
         TypedExpr::Texts(relation, first, second) => {
             let one = emit_offset(alloc, code, known, operands, names, first)?;
             let other = emit_offset(alloc, code, known, operands + 1, names, second)?;
-            let instr = Instr::RelateTexts(*relation, span_of(one), span_of(other));
+            let instr = made::relate_texts(alloc, *relation, span_of(one), span_of(other))?;
             put(code, operands + 2, names, instr)
         }
         TypedExpr::Length(d) => {
@@ -194,6 +195,7 @@ pub fn emit_offset<'a>(
             })
         }
         Designator::Guarded(record, line, kind, _) => {
+            let kind = kind.get();
             let found = emit_offset(alloc, code, known, operands, names, record.get())?;
             let types = kind.names.another()?;
             let name = name_number(found.root);

@@ -61,7 +61,9 @@ fn emit_statement<'a>(
         TypedStatement::Repeat(body, until) => {
             emit_repeat(alloc, code, known, body.as_slice(), until)
         }
-        TypedStatement::For(head, body) => { emit_for(alloc, code, known, head, body.as_slice()) }
+        TypedStatement::For(head, body) => {
+            emit_for(alloc, code, known, head.get(), body.as_slice())
+        }
     }
 }
 

@@ -76,7 +76,7 @@ pub enum Designator {
     Field(Boxed<Designator>, usize),
     /// A guard: what a VAR parameter names, taken as a record of this type, which has the type that it is declared with after
     /// so many bases. The line is the one that the trap names.
-    Guarded(Boxed<Designator>, usize, RecordKind, usize),
+    Guarded(Boxed<Designator>, usize, Boxed<RecordKind>, usize),
 }
 
 /// What is passed to a parameter.

@@ -1,7 +1,7 @@
 //! Typed statements.
 
 use crate::expression::{Argument, Callee, Designator, TypedExpr, Variable};
-use ob_base::{Items, Text};
+use ob_base::{Boxed, Items, Text};
 
 /// INC or DEC.
 #[derive(Clone, Copy, PartialEq, Eq, Debug)]
@@ -34,7 +34,7 @@ pub enum OutputCall {
     Char(TypedExpr),
     String(Designator),
     /// A number and a width.
-    Int(TypedExpr, TypedExpr),
+    Int(Boxed<TypedExpr>, Boxed<TypedExpr>),
     Ln,
 }
 
@@ -72,7 +72,7 @@ pub struct ForHead {
     pub step: i32,
 }
 
-/// A typed statement.
+/// A typed statement. What few statements have stands apart, so that the others take little room.
 #[cycle(statements)]
 #[derive(Drop)]
 pub enum TypedStatement {
@@ -84,7 +84,7 @@ pub enum TypedStatement {
     While(Items<Branch>),
     /// The body, and what ends the loop.
     Repeat(Items<TypedStatement>, TypedExpr),
-    For(ForHead, Items<TypedStatement>),
+    For(Boxed<ForHead>, Items<TypedStatement>),
 }
 
 /// Statements under a guard.

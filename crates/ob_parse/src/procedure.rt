@@ -29,7 +29,7 @@ pub fn name_again(parser: &mut Parser<'_>, name: &Ident) -> Result<(), Refused>
             },
             rest @ ..,
         ] => {
-            if !found.same(&name.name) {
+            if !found.get().same(&name.name) {
                 return Err(parser.fault(Code::EndName));
             }
             parser.rest = rest;

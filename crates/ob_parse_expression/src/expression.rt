@@ -38,7 +38,7 @@ impl Parser<'_> {
 
     #[cycle(expression)]
     #[tactic(auto, unfolding(crate::specs::ExpressionReading::related))]
-    fn related(&mut self, levels: u32) -> Result<Option<Related>, Refused>
+    fn related(&mut self, levels: u32) -> Result<Option<Boxed<Related>>, Refused>
         ensures read { Reads (spec.related levels (inner levels) (inner_factor levels) self.old.rest.now) result self.new.rest.now }
         ensures shorter { length self.new.rest.now ≤ length self.old.rest.now }
     {
@@ -46,12 +46,13 @@ impl Parser<'_> {
             return self.asked();
         };
         let simple = self.simple(levels)?;
-        Ok(Some(Related::By(relation, span, simple)))
+        let related = Related::By(relation, span, simple);
+        Ok(Some(Boxed::new(self.alloc, related)?))
     }
 
     /// IS and the name of a type, if IS comes next.
     #[tactic(auto, unfolding(crate::specs::ExpressionReading::asked))]
-    fn asked(&mut self) -> Result<Option<Related>, Refused>
+    fn asked(&mut self) -> Result<Option<Boxed<Related>>, Refused>
         ensures read { Reads (spec.asked self.old.rest.now) result self.new.rest.now }
         ensures shorter { length self.new.rest.now ≤ length self.old.rest.now }
     {
@@ -59,7 +60,8 @@ impl Parser<'_> {
             return Ok(None);
         };
         let of = self.qualident()?;
-        Ok(Some(Related::Is(span, of)))
+        let asked = Related::Is(span, of);
+        Ok(Some(Boxed::new(self.alloc, asked)?))
     }
 
     #[cycle(expression)]
@@ -166,7 +168,7 @@ impl Parser<'_> {
                 Ok(Factor::Integer(*number, span))
             }
             Kind::Text(text) => {
-                let text = text.copy(self.alloc)?;
+                let text = text.get().copy(self.alloc)?;
                 self.rest = rest;
                 Ok(Factor::Text(text, span))
             }
@@ -225,6 +227,7 @@ impl Parser<'_> {
         let Some(span) = self.eat(Symbol::LeftParen) else {
             return Ok(Factor::Value(designator));
         };
+        let designator = Boxed::new(self.alloc, designator)?;
         Ok(Factor::Call(designator, self.actuals(levels, span)?))
     }
 

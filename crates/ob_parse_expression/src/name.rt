@@ -113,7 +113,7 @@ impl Parser<'_> {
                 Ok(Label::Integer(*number, *span))
             }
             Kind::Text(text) => {
-                let text = text.copy(self.alloc)?;
+                let text = text.get().copy(self.alloc)?;
                 self.rest = rest;
                 Ok(Label::Text(text, *span))
             }

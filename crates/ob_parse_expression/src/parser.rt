@@ -29,8 +29,8 @@ impl<'a> Parser<'a> {
         };
         Refused::Fault(Fault {
             code,
-            line: at.line,
-            column: at.column,
+            line: at.line as usize,
+            column: at.column as usize,
             at_end,
         })
     }
@@ -94,7 +94,7 @@ impl<'a> Parser<'a> {
                 },
                 rest @ ..,
             ] => {
-                let name = name.copy(self.alloc)?;
+                let name = name.get().copy(self.alloc)?;
                 self.rest = rest;
                 Ok(Ident { name, span: *span })
             }
@@ -127,8 +127,8 @@ impl<'a> Parser<'a> {
         if levels == 0 {
             return Err(Refused::Fault(Fault {
                 code: Code::Nesting,
-                line: at.line,
-                column: at.column,
+                line: at.line as usize,
+                column: at.column as usize,
                 at_end: false,
             }));
         }

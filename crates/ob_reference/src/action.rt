@@ -136,8 +136,8 @@ fn output(site: Site<'_>, room: u32, state: &mut State, call: &OutputCall) -> Re
             write_text(site.alloc, state, &path)
         }
         OutputCall::Int(e, width) => {
-            let number = value(site, room - 1, state, e)?;
-            let width = value(site, room - 1, state, width)?;
+            let number = value(site, room - 1, state, e.get())?;
+            let width = value(site, room - 1, state, width.get())?;
             write_int(state, number, width)
         }
         OutputCall::Ln => write_end(state),

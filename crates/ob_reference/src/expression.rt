@@ -285,7 +285,12 @@ pub(crate) fn place(
         }
         Designator::Guarded(record, line, kind, levels) => {
             let base = place(site, room - 1, state, record.get())?;
-            let holds = is_told(site, &state.store, record.get(), kind.names.as_slice());
+            let holds = is_told(
+                site,
+                &state.store,
+                record.get(),
+                kind.get().names.as_slice(),
+            );
             extension(site, state, holds, *levels, base, *line)
         }
     }

@@ -126,7 +126,7 @@ fn statement(site: Site<'_>, room: u32, state: &mut State, s: &TypedStatement) -
             repeat_loop(site, room - 1, state, body.as_slice(), until)
         }
         TypedStatement::For(head, body) => {
-            for_loop(site, room - 1, state, head, body.as_slice())
+            for_loop(site, room - 1, state, head.get(), body.as_slice())
         }
     }
 }

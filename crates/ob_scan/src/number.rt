@@ -9,12 +9,12 @@ ghost use Rattle.ob_scan.specs.Tokens.{Number, NumberEnds, value_of, base_of};
 ghost use Rattle.ob_scan.specs.declared.class.Suffix.TheVariants as suffixes;
 
 use crate::class::{Alphabet, Suffix, run_length, suffix_of};
-use crate::found::Found;
+use crate::found::{Found, text_apart};
 use crate::gap::{behind, front};
 use crate::place::Place;
 use crate::token::Kind;
 use crate::word::refused;
-use ob_base::{Code, Refused, Text};
+use ob_base::{Code, Refused};
 use std::alloc::Global;
 
 fn digit_of(c: u8) -> u64
@@ -145,7 +145,7 @@ fn character<'a>(
     if number > 255 {
         return Err(refused(Code::Number, place));
     }
-    let chars = Text::from_slice(alloc, &[number as u8])?;
+    let chars = text_apart(alloc, &[number as u8])?;
     Ok(Found {
         kind: Kind::Text(chars),
         rest,

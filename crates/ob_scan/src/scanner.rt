@@ -59,12 +59,15 @@ fn next_token<'a>(alloc: Global, place: Place, text: &'a [u8]) -> Result<Option<
     }))
 }
 
-/// The tokens of a text, each with its span.
+/// The tokens of a text, each with its span. There is no room for those of 2^32 bytes.
 pub fn scan(alloc: Global, text: &str) -> Result<Items<Token>, Refused>
     ensures found { IfOk result (λ tokens. Tokens text.now tokens) }
     ensures only { (tokens : List Token) → Tokens text.now tokens → AnswersTokens tokens result }
     ensures faults { FaultsOnly text.now result }
 {
+    if text.len() >= u32::MAX as usize {
+        return Err(Refused::Memory);
+    }
     let mut place = Place::start();
     let mut rest = text.as_bytes();
     let mut tokens = Items::new(alloc);

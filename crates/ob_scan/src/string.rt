@@ -5,12 +5,12 @@ ghost use Rattle.ob_scan.specs.Exactly.{Exactly};
 ghost use Rattle.ob_scan.specs.Tokens as tokens;
 ghost use Rattle.ob_scan.specs.Tokens.{StringOf};
 
-use crate::found::Found;
+use crate::found::{Found, shared_apart};
 use crate::number::behind_one;
 use crate::place::Place;
 use crate::token::Kind;
 use crate::word::refused;
-use ob_base::{Code, Refused, Text};
+use ob_base::{Code, Refused};
 use std::alloc::Global;
 
 fn is_plain(c: u8) -> bool
@@ -76,7 +76,7 @@ pub(crate) fn string<'a>(alloc: Global, place: Place, text: &'a [u8]) -> Result<
         rest = after;
     }
     if begins_quote(rest) {
-        let chars = Text::shared(alloc, chars)?;
+        let chars = shared_apart(alloc, chars)?;
         let behind = behind_one(rest);
         return Ok(Found {
             kind: Kind::Text(chars),

@@ -3,7 +3,7 @@
 ghost use Rattle.std.specs.Prelude.{◌≡◌, ◌≢◌, true, false};
 ghost use Rattle.ob_scan.specs.Symbols.{same_symbol};
 
-use ob_base::Text;
+use ob_base::{Boxed, Text};
 
 /// A reserved word or a sign.
 #[derive(Clone, Copy, Debug, PartialEq, Eq)]
@@ -69,12 +69,12 @@ pub enum Symbol {
     Colon,
 }
 
-/// What a token is, with its value.
+/// What a token is, with its value. Texts stand apart, so that a sign takes little room.
 #[derive(Debug, Drop)]
 pub enum Kind {
-    Ident(Text),
+    Ident(Boxed<Text>),
     Integer(i32),
-    Text(Text),
+    Text(Boxed<Text>),
     Symbol(Symbol),
 }
 
@@ -82,10 +82,10 @@ pub enum Kind {
 /// character, from 1.
 #[derive(Clone, Copy, Debug, PartialEq, Eq)]
 pub struct Span {
-    pub start: usize,
-    pub end: usize,
-    pub line: usize,
-    pub column: usize,
+    pub start: u32,
+    pub end: u32,
+    pub line: u32,
+    pub column: u32,
 }
 
 /// A token, and where it stands.

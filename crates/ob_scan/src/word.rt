@@ -5,12 +5,12 @@ ghost use Rattle.ob_scan.specs.Exactly.{Exactly, IsFault};
 ghost use Rattle.ob_scan.specs.Tokens.{Word};
 
 use crate::class::{Alphabet, run_length};
-use crate::found::Found;
+use crate::found::{Found, text_apart};
 use crate::gap::{behind, front};
 use crate::place::Place;
 use crate::spelling::symbol_of;
 use crate::token::Kind;
-use ob_base::{Code, Fault, Refused, Text};
+use ob_base::{Code, Fault, Refused};
 use std::alloc::Global;
 
 /// A fault of the token at this place.
@@ -19,8 +19,8 @@ pub(crate) fn refused(code: Code, place: Place) -> Refused
 {
     Refused::Fault(Fault {
         code,
-        line: place.line,
-        column: place.column,
+        line: place.line as usize,
+        column: place.column as usize,
         at_end: code == Code::Comment,
     })
 }
@@ -40,7 +40,7 @@ pub(crate) fn word<'a>(alloc: Global, place: Place, text: &'a [u8]) -> Result<Fo
     if length > 64 {
         return Err(refused(Code::Number, place));
     }
-    let name = Text::from_slice(alloc, run)?;
+    let name = text_apart(alloc, run)?;
     Ok(Found {
         kind: Kind::Ident(name),
         rest,

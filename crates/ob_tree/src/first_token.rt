@@ -33,7 +33,8 @@ impl Factor {
             | Factor::Truth(_, span)
             | Factor::Parens(span, _)
             | Factor::Not(span, _) => *span,
-            Factor::Value(designator) | Factor::Call(designator, _) => designator.name.span,
+            Factor::Value(designator) => designator.name.span,
+            Factor::Call(designator, _) => designator.get().name.span,
         }
     }
 }

@@ -68,7 +68,8 @@ pub struct Qualident {
 #[derive(Drop)]
 pub struct Expr {
     pub left: Simple,
-    pub right: Option<Related>,
+    /// Apart, since few expressions have it.
+    pub right: Option<Boxed<Related>>,
 }
 
 /// What stands to the right of the first sum.
@@ -127,7 +128,7 @@ pub enum Factor {
     Truth(bool, Span),
     Value(Designator),
     /// A call, with its actual parameters.
-    Call(Designator, Items<Expr>),
+    Call(Boxed<Designator>, Items<Expr>),
     /// The opening parenthesis, and what stands in the pair.
     Parens(Span, Boxed<Expr>),
     /// The sign `~`, and what it negates.

@@ -416,15 +416,15 @@ fn object_keeps(
         Instr::StoreAt(root) | Instr::AdjustAt(_, root) => lie(own, *root, under, 1)
             && leads(procedure, rows, known, next, 2, None),
         Instr::Copy(target, source, cells) => {
-            lie(own, *target, under, *cells)
-                && lie(own, *source, top, *cells)
+            lie(own, *target.get(), under, *cells)
+                && lie(own, *source.get(), top, *cells)
                 && leads(procedure, rows, known, next, 2, None)
         }
-        Instr::StoreText(span, _, _) => text_lies(own, *span, top)
+        Instr::StoreText(span, _, _) => text_lies(own, *span.get(), top)
             && leads(procedure, rows, known, next, 1, None),
         Instr::RelateTexts(_, one, other) => {
-            text_lies(own, *one, under)
-                && text_lies(own, *other, top)
+            text_lies(own, *one.get(), under)
+                && text_lies(own, *other.get(), top)
                 && leads(procedure, rows, known, next, 2, Some(Kind::Number))
         }
         Instr::NamePlace(root, cells) => {

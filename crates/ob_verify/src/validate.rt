@@ -373,19 +373,19 @@ fn object_fits(code: &CodeModule, procedure: &Procedure, place: usize, line: &Li
                 && leads(procedure, next, operands - 2, names)
         }
         Instr::Copy(target, source, _) => {
-            root_fits(code, procedure, *target)
-                && root_fits(code, procedure, *source)
+            root_fits(code, procedure, *target.get())
+                && root_fits(code, procedure, *source.get())
                 && operands >= 2
                 && leads(procedure, next, operands - 2, names)
         }
         Instr::StoreText(span, _, _) => {
-            span_fits(code, procedure, *span)
+            span_fits(code, procedure, *span.get())
                 && operands >= 1
                 && leads(procedure, next, operands - 1, names)
         }
         Instr::RelateTexts(_, first, second) => {
-            span_fits(code, procedure, *first)
-                && span_fits(code, procedure, *second)
+            span_fits(code, procedure, *first.get())
+                && span_fits(code, procedure, *second.get())
                 && operands >= 2
                 && leads(procedure, next, operands - 1, names)
         }

@@ -48,7 +48,7 @@ fn aliased(alloc: Global) -> Result<Loaded, AllocError> {
         assign(global(0), constant(5)),
         call(Callee::OfModule(0), 1, passed),
     );
-    let body = with(start, out_int(read(global(0)), 0));
+    let body = with(start, out_int(alloc, read(global(0)), 0));
     unit(alloc, one(alloc, basic()), one(alloc, adding(alloc)), body)
 }
 
@@ -70,7 +70,7 @@ fn two_parameters_name_one_variable(rt: HostRuntime) {
 fn writing(alloc: Global) -> Result<TypedProcedure, AllocError> {
     let body = two(
         alloc,
-        out_int(length(by_parameter(0)), 0),
+        out_int(alloc, length(by_parameter(0)), 0),
         out_text(by_parameter(0)),
     );
     procedure(alloc, one(alloc, Ok(Parameter::Open(Shape::Basic))), body)
@@ -143,7 +143,7 @@ fn multiplied(alloc: Global) -> Result<Loaded, AllocError> {
         alloc,
         none(alloc),
         one(alloc, factorial(alloc)),
-        one(alloc, out_int(three, 0)),
+        one(alloc, out_int(alloc, three, 0)),
     )
 }
 
@@ -170,7 +170,7 @@ fn bottomless(alloc: Global) -> Result<Loaded, AllocError> {
         increase(global(0), constant(1)),
         call(Callee::OfModule(0), 7, none(alloc)),
     );
-    let showing = one(alloc, out_int(read(global(0)), 0));
+    let showing = one(alloc, out_int(alloc, read(global(0)), 0));
     let procedures = two(
         alloc,
         procedure(alloc, none(alloc), again),
@@ -263,7 +263,7 @@ fn client(alloc: Global) -> Result<Loaded, AllocError> {
     let body = two(
         alloc,
         call(Callee::OfImport(0, 0), 1, none(alloc)),
-        out_int(read(imported(0, 0)), 0),
+        out_int(alloc, read(imported(0, 0)), 0),
     );
     importing(alloc, one(alloc, Ok(0)), none(alloc), none(alloc), body)
 }

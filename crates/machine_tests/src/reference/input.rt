@@ -16,7 +16,7 @@ fn adding(alloc: Global) -> Result<Loaded, AllocError> {
         input(Reader::Int, global(1)),
     );
     let sum = binary(alloc, read(global(0)), Operator::Plus, 1, read(global(1)));
-    let body = with(with(readers, out_int(sum, 0)), out_end());
+    let body = with(with(readers, out_int(alloc, sum, 0)), out_end());
     unit(alloc, two(alloc, basic(), basic()), none(alloc), body)
 }
 
@@ -54,7 +54,7 @@ fn a_reader_stands_where_no_line_was_given_yet(rt: HostRuntime) {
 /// x := 7; In.Int(x); IF ~In.Done THEN Out.Int(x, 0) END
 fn kept(alloc: Global) -> Result<Loaded, AllocError> {
     let failed = unary(alloc, UnaryOperator::Not, 1, done());
-    let shown = branch(failed, one(alloc, out_int(read(global(0)), 0)));
+    let shown = branch(failed, one(alloc, out_int(alloc, read(global(0)), 0)));
     let start = two(
         alloc,
         assign(global(0), constant(7)),

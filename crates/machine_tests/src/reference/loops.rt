@@ -10,8 +10,12 @@ use std::alloc::{AllocError, Global};
 
 /// FOR x := 3 TO 1 BY -1 DO Out.Int(x, 2) END; Out.Int(x, 3); Out.Ln
 fn counting_down(alloc: Global) -> Result<Loaded, AllocError> {
-    let body = one(alloc, out_int(read(global(0)), 2));
-    let all = two(alloc, count(0, 3, 1, -1, body), out_int(read(global(0)), 3));
+    let body = one(alloc, out_int(alloc, read(global(0)), 2));
+    let all = two(
+        alloc,
+        count(alloc, 0, 3, 1, -1, body),
+        out_int(alloc, read(global(0)), 3),
+    );
     unit(
         alloc,
         one(alloc, basic()),
@@ -80,7 +84,7 @@ fn divisor(alloc: Global) -> Result<Loaded, AllocError> {
     );
     let body = with(
         with(start, repetition(branches)),
-        out_int(read(global(0)), 0),
+        out_int(alloc, read(global(0)), 0),
     );
     unit(alloc, two(alloc, basic(), basic()), none(alloc), body)
 }
@@ -104,8 +108,8 @@ fn a_while_takes_the_first_branch_that_holds(rt: HostRuntime) {
 fn looked_up(alloc: Global) -> Result<TypedStatement, AllocError> {
     let arms = two(
         alloc,
-        arm(alloc, 1, 1, one(alloc, out_int(constant(10), 0))),
-        arm(alloc, 2, 4, one(alloc, out_int(constant(20), 0))),
+        arm(alloc, 1, 1, one(alloc, out_int(alloc, constant(10), 0))),
+        arm(alloc, 2, 4, one(alloc, out_int(alloc, constant(20), 0))),
     );
     case(1, read(global(0)), arms)
 }

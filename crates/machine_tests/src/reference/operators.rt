@@ -15,7 +15,7 @@ fn saying(alloc: Global, number: Result<TypedExpr, AllocError>) -> Result<Loaded
         alloc,
         none(alloc),
         none(alloc),
-        one(alloc, out_int(number, 0)),
+        one(alloc, out_int(alloc, number, 0)),
     )
 }
 
@@ -130,7 +130,7 @@ fn relating(
         alloc,
         two(alloc, array(alloc, 4), array(alloc, 9)),
         none(alloc),
-        with(texts, out_int(number, 0)),
+        with(texts, out_int(alloc, number, 0)),
     )
 }
 
@@ -177,7 +177,7 @@ fn filled(alloc: Global) -> Result<Loaded, AllocError> {
         alloc,
         two(alloc, array(alloc, 2), array(alloc, 3)),
         none(alloc),
-        with(texts, out_int(number, 0)),
+        with(texts, out_int(alloc, number, 0)),
     )
 }
 

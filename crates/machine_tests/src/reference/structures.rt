@@ -33,8 +33,8 @@ fn copied(alloc: Global) -> Result<Loaded, AllocError> {
         read(second(alloc, 1)),
     );
     let shown = with(
-        with(behind, out_int(sum, 0)),
-        out_int(read(field(alloc, global(0), 0)), 2),
+        with(behind, out_int(alloc, sum, 0)),
+        out_int(alloc, read(field(alloc, global(0), 0)), 2),
     );
     unit(
         alloc,

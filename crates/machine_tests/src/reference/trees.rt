@@ -254,10 +254,13 @@ pub(crate) fn input(
 
 /// Out.Int(e, width).
 pub(crate) fn out_int(
+    alloc: Global,
     e: Result<TypedExpr, AllocError>,
     width: i32,
 ) -> Result<TypedStatement, AllocError> {
-    simple(Ok(Action::Output(OutputCall::Int(e?, TypedExpr::Constant(width)))))
+    let value = Boxed::new(alloc, e?)?;
+    let width = Boxed::new(alloc, TypedExpr::Constant(width))?;
+    simple(Ok(Action::Output(OutputCall::Int(value, width))))
 }
 
 /// Out.Char of a constant.
@@ -312,6 +315,7 @@ pub(crate) fn until(
 
 /// FOR over a variable of the module.
 pub(crate) fn count(
+    alloc: Global,
     x: usize,
     first: i32,
     last: i32,
@@ -324,6 +328,7 @@ pub(crate) fn count(
         last: TypedExpr::Constant(last),
         step,
     };
+    let head = Boxed::new(alloc, head)?;
     Ok(TypedStatement::For(head, body?))
 }
 

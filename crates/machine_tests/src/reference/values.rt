@@ -12,15 +12,17 @@ use std::alloc::{AllocError, Global};
 fn floors(alloc: Global) -> Result<Loaded, AllocError> {
     let start = one(alloc, assign(global(0), constant(-7)));
     let quotient = out_int(
+        alloc,
         binary(alloc, read(global(0)), Operator::Quotient, 1, constant(2)),
         0,
     );
     let rest = out_int(
+        alloc,
         binary(alloc, read(global(0)), Operator::Remainder, 1, constant(2)),
         0,
     );
     let seven = binary(alloc, constant(7), Operator::Quotient, 1, constant(2));
-    let negative = out_int(unary(alloc, UnaryOperator::Negative, 1, seven), 0);
+    let negative = out_int(alloc, unary(alloc, UnaryOperator::Negative, 1, seven), 0);
     let first = with(with(with(start, quotient), out_char(32)), rest);
     let body = with(with(with(first, out_char(32)), negative), out_end());
     unit(alloc, one(alloc, basic()), none(alloc), body)

@@ -182,7 +182,8 @@ statement::statement-returns-in-For t c =
     let w = world_in c.args.state.now in
     carry _ c.for_loop.result c.for_loop.new.state _ _
     (ap (λ s. stat_meaning scope s n w) c.in-For.is ∙ for_is scope c.in-For.head c.in-For.body n w
-    ∙ ap (λ l. for_loop scope c.in-For.head (variable_place scope c.in-For.head.variable w.store) (list_meaning scope l) n w) (sym c.as_slice-in-For.ensures))
+    ∙ ap (λ l. for_loop scope c.in-For.head (variable_place scope c.in-For.head.variable w.store) (list_meaning scope l) n w) (sym c.as_slice-in-For.ensures)
+    ∙ ap (λ h. for_loop scope h (variable_place scope h.variable w.store) (list_meaning scope c.as_slice-in-For.result.now) n w) (sym c.get.ensures))
     c.for_loop.ensures
 
 pub expression::value-returns-in-Function : goal.expression::value-returns-in-Function

@@ -1,6 +1,7 @@
 use Rattle.std.proofs.Common.{◌≡◌, ◌+◌, ◌∙◌, pos, [], ◌∷◌, ◌++◌, ap, sym, subst, refl, append_assoc}
-use Rattle.std.specs.Prelude.{OnOk}
-use Rattle.ob_mean.specs.WellFormed.{object_of, shape_object, elements_in, field_in}
+use Rattle.std.specs.Prelude.{OnOk, Some}
+use Rattle.ob_mean.specs.declared.kind.RecordKind.{RecordKind}
+use Rattle.ob_mean.specs.WellFormed.{Of, object_of, shape_object, elements_in, field_in}
 use Rattle.ob_code.specs.declared.instr.Instr.TheVariants as instr
 use Rattle.ob_gen.specs.Code.{line, expr_code, read_code, offset_code, passed_code, list_values, list_names, root_in}
 use Rattle.ob_gen.specs.Emitted.{operations_list, every_list, either_list, holed, sides, side}
@@ -120,7 +121,7 @@ emit_offset-returns-in_ok-put-in-Field-clause-object t c =
 pub emit_offset-returns-in_ok-put-in-Guarded-clause-code : goal.emit_offset-returns-in_ok-put-in-Guarded-clause-code
 emit_offset-returns-in_ok-put-in-Guarded-clause-code t c =
     guarded_emitted (names_in c.args.known.now) c.args.operands c.args.names c.args.code.now.items _ _ c.in-Guarded.record _ c.in-Guarded.line c.in-Guarded.kind _ _ _ _
-    c.in_ok-found-in-Guarded.ensures.code c.in_ok-put-in-Guarded.ensures.code c.in_ok-found-in-Guarded.ensures.root c.name_number-name.ensures c.in_ok-types-in-Guarded.ensures c.get-in-Guarded.ensures
+    c.in_ok-found-in-Guarded.ensures.code c.in_ok-put-in-Guarded.ensures.code c.in_ok-found-in-Guarded.ensures.root c.name_number-name.ensures (c.in_ok-types-in-Guarded.ensures ∙ ap (λ (kind : RecordKind). kind.names) c.get-kind.ensures) c.get-in-Guarded.ensures
     ∙ ap (λ d. c.args.code.now.items ++ offset_code (names_in c.args.known.now) c.args.operands c.args.names d) (sym c.in-Guarded.is)
 
 pub emit_offset-returns-in_ok-put-in-Guarded-clause-root : goal.emit_offset-returns-in_ok-put-in-Guarded-clause-root
@@ -131,7 +132,7 @@ emit_offset-returns-in_ok-put-in-Guarded-clause-root t c =
 pub emit_offset-returns-in_ok-put-in-Guarded-clause-object : goal.emit_offset-returns-in_ok-put-in-Guarded-clause-object
 emit_offset-returns-in_ok-put-in-Guarded-clause-object t c =
     let N = names_in c.args.known.now in
-    sym (guarded_object N c.in-Guarded.record c.in-Guarded.line c.in-Guarded.kind c.in-Guarded.field-3) ∙ ap (object_of N) (sym c.in-Guarded.is)
+    ap (λ (kind : RecordKind). Some (Of kind.shape)) c.get-kind.ensures ∙ sym (guarded_object N c.in-Guarded.record c.in-Guarded.line c.in-Guarded.kind c.in-Guarded.field-3) ∙ ap (object_of N) (sym c.in-Guarded.is)
 
 pub emit_read-returns-in_ok-found-in-Element-clause-code : goal.emit_read-returns-in_ok-found-in-Element-clause-code
 emit_read-returns-in_ok-found-in-Element-clause-code t c =

@@ -152,7 +152,8 @@ emit_statement-returns-in-For-clause-code t c =
     let N = names_in c.args.known.now in
     let base = c.args.code.now.items in
     subst (λ l. OnOk c.emit_for.result (c.emit_for.new.code.items ≡ l))
-    (ap (λ b. base ++ for_code N c.in-For.head (list_code N b)) c.as_slice-in-For.ensures
+    (ap (λ h. base ++ for_code N h (list_code N c.as_slice-in-For.result.now)) c.get.ensures
+    ∙ ap (λ b. base ++ for_code N c.in-For.head (list_code N b)) c.as_slice-in-For.ensures
     ∙ ap (λ l. base ++ l) (sym (for_tree_code N c.in-For.head c.in-For.body))
     ∙ ap (λ s. base ++ stat_code N s) (sym c.in-For.is))
     c.emit_for.ensures.code
