@@ -173,15 +173,15 @@ module _ {L S T M : Type 0} (spoken : Spoken S T) where
       (second.0, second.1, leads_on spoken _ _ _ first.2 second.2)
 
 module _ {L S T M : Type 0} (spoken : Spoken S T) where
-  worked_on : (a b c : Driver L S T M) (answer : Work) → HasDriven spoken a b → HasWorked spoken answer b c → HasWorked spoken answer a c
-  worked_on a b c answer one two k pends =
+  worked_on : (a b c : Driver L S T M) (turns : ℕ) (answer : Work) → HasDriven spoken a b → HasWorked spoken turns answer b c → HasWorked spoken turns answer a c
+  worked_on a b c turns answer one two k pends =
       let first = one k pends in
       let second = two first.0 first.1 in
       (second.0, second.1, leads_on spoken (state_of k a) (state_of first.0 b) second.0 first.2 second.2, second.3, second.4)
 
   -- a round of a driver is one of the driver that it was before
-  pub round_on : (a b c : Driver L S T M) (answer : Work) → HasDriven spoken a b → IsRound spoken answer b c → IsRound spoken answer a c
-  round_on a b c answer one two ran =
+  pub round_on : (a b c : Driver L S T M) (turns : ℕ) (answer : Work) → HasDriven spoken a b → IsRound spoken turns answer b c → IsRound spoken turns answer a c
+  round_on a b c turns answer one two ran =
       let done = two ran in
       record {
         arrival = done.arrival;
@@ -190,10 +190,13 @@ module _ {L S T M : Type 0} (spoken : Spoken S T) where
         results = done.results;
         entries = done.entries;
         pending = done.pending;
-        worked = worked_on a b c answer one done.worked;
+        worked = worked_on a b c turns answer one done.worked;
       }
 
 module _ {L S T M : Type 0} where
+  pub ends_none : (a : Driver L S T M) → AreSameEnds a a
+  ends_none a = record { inbox = refl; pool = (refl, refl, refl) }
+
   pub ends_on : (a b c : Driver L S T M) → AreSameEnds a b → AreSameEnds b c → AreSameEnds a c
   ends_on a b c one two = record {
     inbox = two.inbox ∙ one.inbox;

@@ -59,33 +59,33 @@ module _ {L S T M : Type 0} where
     pub inbox : taker_inbox new.taker ≡ taker_inbox old.taker
     pub pool : IsSamePool old.pool new.pool
 
-  -- The last slice answered this. It was one of this driver's own kernel, where that stood after acts of the driver; and
-  -- all that was pending after it was published.
-  abbrev pub HasWorked : Spoken S T → Work → Driver L S T M → Driver L S T M → Type 0
-  HasWorked spoken answer old new =
+  -- The last slice had so many turns, and answered this. It was one of this driver's own kernel, where that stood after acts of
+  -- the driver; and all that was pending after it was published.
+  abbrev pub HasWorked : Spoken S T → ℕ → Work → Driver L S T M → Driver L S T M → Type 0
+  HasWorked spoken turns answer old new =
       (k : KernelState T) → Pends old.entries k old.kernel
       → (d : DriverState T) × (after : KernelState T)
-      × Leads spoken (state_of k old) d × Works spoken 1000 d.kernel answer after × (new.kernel ≡ without (length after.pending) after)
+      × Leads spoken (state_of k old) d × Works spoken turns d.kernel answer after × (new.kernel ≡ without (length after.pending) after)
 
   -- All that there was to do was done: nothing is in hand but perhaps a job, the inbox was empty at a moment or the
   -- kernel was shut down, each request that waits was given or the pool was full for its job, no result stood in the
-  -- pool at a moment, nothing is pending, and the last slice answered this.
-  pub record HasDone (spoken : Spoken S T) (answer : Work) (old d : Driver L S T M) : Type 0 where
+  -- pool at a moment, nothing is pending, and the last slice, of so many turns, answered this.
+  pub record HasDone (spoken : Spoken S T) (turns : ℕ) (answer : Work) (old d : Driver L S T M) : Type 0 where
     pub arrival : d.arrival ≡ None
     pub inbox : IsEmptied d.kernel.log (taker_view d.taker)
     pub given : HasGiven d.job (jobs_view d.pool) d.kernel
     pub results : Held 0 (StandsTaken (results_view d.pool))
     pub entries : d.entries ≡ None
     pub pending : d.kernel.pending ≡ []
-    pub worked : HasWorked spoken answer old d
+    pub worked : HasWorked spoken turns answer old d
 
   -- unless a call was refused for memory
-  abbrev pub IsRound : Spoken S T → Work → Driver L S T M → Driver L S T M → Type 0
-  IsRound spoken answer old d = answer ≢ NoMemory → HasDone spoken answer old d
+  abbrev pub IsRound : Spoken S T → ℕ → Work → Driver L S T M → Driver L S T M → Type 0
+  IsRound spoken turns answer old d = answer ≢ NoMemory → HasDone spoken turns answer old d
 
-  -- so many rounds, one after the other, the last of which answered this
+  -- so many rounds with slices of 1,000 turns, one after the other, the last of which answered this
   abbrev pub Rounds : Spoken S T → ℕ → Driver L S T M → Work → Driver L S T M → Type 0
   Rounds spoken zero old answer new = new ≡ old
   Rounds spoken (suc n) old answer new =
       (mid : Driver L S T M) × (before : Work)
-      × Rounds spoken n old before mid × HasDriven spoken mid new × AreSameEnds mid new × IsRound spoken answer mid new
+      × Rounds spoken n old before mid × HasDriven spoken mid new × AreSameEnds mid new × IsRound spoken 1000 answer mid new

@@ -28,7 +28,7 @@ pub fn drive_some<L: Language, R: Wait>(rt: &R, rounds: u64, driver: Driver<L>) 
     ensures rounds { Rounds L.spoken rounds driver result.1 result.0 }
     ensures acts { HasDriven L.spoken driver result.0 }
     ensures same { AreSameEnds driver result.0 }
-    ensures done { IsRound L.spoken result.1 driver result.0 }
+    ensures done { IsRound L.spoken 1000 result.1 driver result.0 }
     ensures legal { IsLegal L.spoken result.0.kernel.log }
 {
     let (mut driver, mut work, _) = round(rt, SLICE, driver);
@@ -52,7 +52,7 @@ pub(crate) fn round<L: Language, R: Wait>(
     ensures acts { HasDriven L.spoken driver result.0 }
     ensures same { AreSameEnds driver result.0 }
     ensures shown { result.1 ≢ NoMemory → (result.0.entries ≡ None) × (result.0.kernel.pending ≡ []) }
-    ensures done { turns ≡ 1000 → IsRound L.spoken result.1 driver result.0 }
+    ensures done { IsRound L.spoken turns result.1 driver result.0 }
 {
     let driver = show_hand(rt, driver);
     if driver.entries.is_some() {
@@ -97,7 +97,7 @@ fn go_round<L: Language, R: Wait>(rt: &R, turns: u64, driver: Driver<L>) -> (Dri
     ensures acts { HasDriven L.spoken driver result.0 }
     ensures same { AreSameEnds driver result.0 }
     ensures shown { result.1 ≢ NoMemory → (result.0.entries ≡ None) × (result.0.kernel.pending ≡ []) }
-    ensures done { turns ≡ 1000 → IsRound L.spoken result.1 driver result.0 }
+    ensures done { IsRound L.spoken turns result.1 driver result.0 }
 {
     let Driver {
         alloc,

@@ -1,9 +1,10 @@
 //! A driver until its kernel was shut down.
-ghost use Rattle.std.specs.Prelude.{◌≡◌, ◌≢◌, [], None, true, false};
+ghost use Rattle.std.specs.Prelude.{◌≡◌, ◌≢◌, ℕ, [], None, true, false};
+ghost use Rattle.jk_core.specs.declared.kernel.Work.{Work as Worked};
 ghost use Rattle.jk_core.specs.declared.kernel.Work.TheVariants.{NoMemory};
 ghost use Rattle.jk_log.specs.Log.{ended};
 ghost use Rattle.jk_queues.specs.Pool.{has_stopped};
-ghost use Rattle.jk_run.specs.Driver.{HasDriven};
+ghost use Rattle.jk_run.specs.Driver.{AreSameEnds, HasDone, HasDriven};
 
 use crate::driver::Driver;
 use crate::pace::{Pace, micros_since};
@@ -19,6 +20,8 @@ use std::time::{Clock, Instant};
 /// longer the longer that has been so. How many turns the slice of a round has follows from how long the last round took.
 pub fn drive<L: Language, R: Wait + Clock>(rt: &R, driver: Driver<L>) -> Driver<L>
     ensures acts { HasDriven L.spoken driver result }
+    ensures same { AreSameEnds driver result }
+    ensures last { (turns : ℕ) × (answer : Worked) × HasDone L.spoken turns answer driver result }
     ensures ended { ended result.kernel.log ≡ true }
     ensures shown { (result.entries ≡ None) × (result.kernel.pending ≡ []) }
     ensures stopped { has_stopped result.pool ≡ true }

@@ -12,8 +12,8 @@ loop-init g c =
     record {
       acts = first.acts;
       same = first.same;
-      rounds = (c.args.driver, c.round-driver.result.1, refl, first.acts, first.same, first.done refl);
-      done = first.done refl;
+      rounds = (c.args.driver, c.round-driver.result.1, refl, first.acts, first.same, first.done);
+      done = first.done;
     }
 
 pub loop-preserved : goal.loop-preserved
@@ -22,8 +22,8 @@ loop-preserved g c = record {
   same = ends_on c.args.driver c.loop.driver c.round-next.result.0 c.loop.invariant.same c.round-next.ensures.same;
   rounds =
       subst (λ (n : ℕ). Rounds g.L.Language.spoken n c.args.driver c.round-next.result.1 c.round-next.result.0) (one_more c.loop.counter)
-      (c.loop.driver, c.loop.work, c.loop.invariant.rounds, c.round-next.ensures.acts, c.round-next.ensures.same, (c.round-next.ensures.done refl));
-  done = round_on g.L.Language.spoken c.args.driver c.loop.driver c.round-next.result.0 c.round-next.result.1 c.loop.invariant.acts (c.round-next.ensures.done refl);
+      (c.loop.driver, c.loop.work, c.loop.invariant.rounds, c.round-next.ensures.acts, c.round-next.ensures.same, c.round-next.ensures.done);
+  done = round_on g.L.Language.spoken c.args.driver c.loop.driver c.round-next.result.0 1000 c.round-next.result.1 c.loop.invariant.acts c.round-next.ensures.done;
 }
 
 pub returns-clause-rounds : goal.returns-clause-rounds

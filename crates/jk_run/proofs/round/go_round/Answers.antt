@@ -1,4 +1,4 @@
-use Rattle.std.proofs.Common.{ℕ, List, Option, ◌++◌, ◌∙◌, ap, sym, subst}
+use Rattle.std.proofs.Common.{List, Option, ◌++◌, ◌∙◌, ap, sym, subst}
 use Rattle.std.specs.Prelude.{IfNone}
 use Rattle.jk_log.specs.declared.arrival.Arrival.{Arrival}
 use Rattle.jk_log.specs.declared.job.Job.{Job}
@@ -50,7 +50,7 @@ returns-clause-shown g c ran =
     (shown.0, none_left c.work_slice-work.new.kernel c.publish_pending-publisher.new.kernel shown.1)
 
 pub returns-clause-done : goal.returns-clause-done
-returns-clause-done g c is ran =
+returns-clause-done g c ran =
     let driver = c.args.driver in
     let given = offered_by driver.pool ++ hand driver.job in
     let jobs = offered_by c.give_jobs-job.new.pool ++ hand c.give_jobs-job.result.0 in
@@ -75,8 +75,7 @@ returns-clause-done g c is ran =
         subst (λ k. Leads g.L.Language.spoken (driven k board given (collected_by driver.pool)) (driven c.hand_results.new.kernel board jobs results)) (none_pends driver.entries k driver.kernel c.requires pends)
             (round_handed g.L.Language.spoken board driver.kernel c.take_arrivals-taker.new.kernel c.give_jobs-job.new.kernel c.hand_results.new.kernel given jobs (collected_by driver.pool) (collected_by c.give_jobs-job.new.pool) results
             c.take_arrivals-taker.ensures.acts c.give_jobs-job.ensures.acts c.give_jobs-job.ensures.pool.1 c.hand_results.ensures.acts),
-        subst (λ (turns : ℕ). Works g.L.Language.spoken turns c.hand_results.new.kernel c.answer_of.result c.work_slice-work.new.kernel) is
-            (subst (λ (answer : Work). Works g.L.Language.spoken c.args.turns c.hand_results.new.kernel answer c.work_slice-work.new.kernel) (sym all.3) worked),
+        subst (λ (answer : Work). Works g.L.Language.spoken c.args.turns c.hand_results.new.kernel answer c.work_slice-work.new.kernel) (sym all.3) worked,
         shown.1,
       );
     }

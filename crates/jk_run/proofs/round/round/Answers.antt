@@ -5,4 +5,4 @@ pub returns-clause-acts : goal.returns-clause-acts
 returns-clause-acts g c = driven_on g.L.Language.spoken c.args.driver c.show_hand-driver.result c.go_round.result.0 c.show_hand-driver.ensures.acts c.go_round.ensures.acts
 
 pub returns-clause-done : goal.returns-clause-done
-returns-clause-done g c is = round_on g.L.Language.spoken c.args.driver c.show_hand-driver.result c.go_round.result.0 c.go_round.result.1 c.show_hand-driver.ensures.acts (c.go_round.ensures.done is)
+returns-clause-done g c = round_on g.L.Language.spoken c.args.driver c.show_hand-driver.result c.go_round.result.0 c.args.turns c.go_round.result.1 c.show_hand-driver.ensures.acts c.go_round.ensures.done
