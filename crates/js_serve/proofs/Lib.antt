@@ -1,5 +1,9 @@
+pub mod Full
+pub mod Threads
+pub mod Watching
 pub mod Boards
 pub mod Channels
 pub mod Crossing
 pub mod Hosting
+pub mod Readings
 pub mod Answering

@@ -1,6 +1,6 @@
 -- To be believed.
 -- What is read for a recorder, and what it is told: nothing is left out, and nothing comes twice.
-use Rattle.std.specs.Prelude.{◌≡◌, ◌⊎◌, ◌++◌, ◌||◌, ℕ, List, [], Option, Some, None, slice_get}
+use Rattle.std.specs.Prelude.{◌≡◌, ◌⊎◌, ◌++◌, ◌||◌, ℕ, List, [], Option, Some, None, slice_get, slice_set}
 use Rattle.std.specs.List.{list_any}
 use Rattle.jk_log.specs.declared.entry.Entry.{Entry}
 use Rattle.atomic_table.specs.Seated.{TableId}
@@ -9,7 +9,8 @@ use Rattle.js_shelf.specs.Shelves.{Contents}
 use Rattle.js_tables.specs.Tables.{Rows}
 use Rattle.js_follow.specs.Following.{Follows, Stays}
 use Rattle.js_ws.specs.Shutdowns.{is_last}
-use Rattle.js_serve.specs.Told.{HomeState, KernelState, place_in}
+use Rattle.js_serve.specs.Told.{HomeState, KernelState, Reading, place_in}
+use Rattle.js_serve.specs.Readings.{with_reading}
 use Rattle.js_serve.specs.declared.recording.Scribe.{Scribe}
 
 -- what was not told
@@ -23,6 +24,14 @@ inbox_at None = None
 inbox_at (Some h) = Some h.inbox
 
 module _ {L S T M : Type 0} where
+  -- what a clause sees of what is read for a recorder
+  abbrev pub reading_by : Scribe L S T M → Reading
+  reading_by s = record { read = read_by s.follower; held = s.held.items; over = s.over }
+
+  abbrev pub reading_in : Option (Scribe L S T M) → Option Reading
+  reading_in None = None
+  reading_in (Some s) = Some (reading_by s)
+
   -- these entries were read after those before, and are held after those that were held
   abbrev pub Reads : Scribe L S T M → Scribe L S T M → Type 0
   Reads old new =
@@ -46,10 +55,12 @@ module _ {L S T M : Type 0} where
   Records c d f g kernel date None new r s = (new ≡ None) × (s ≡ r) × Stays c d f g
   Records c d f g kernel date (Some old) new r s = (last : Scribe L S T M) × (new ≡ Some last) × ReadsAndTells c d f g kernel date old last r s
 
--- Nothing is told; or it was read from the board of the first kernel of this identifier, and the recorder of this identifier is told.
--- L is the language, and S, T, M are its sessions, trees and machines.
-abbrev pub RecordsAt : (L S T M : Type 0) → Option Contents → Option Contents → ℕ → ℕ → List ℕ → List ℕ → List KernelState → Rows → Rows → Type 0
-RecordsAt L S T M c d f g id date kernels r s =
-    ((s ≡ r) × Stays c d f g)
+-- Nothing is told, and no kernel has changed. Or it was read from the board of the first kernel of this identifier, after what had been read for its recorder and was
+-- held; that recorder is told, and what it was not told is held. `after` are the kernels then. L is the language, and S, T, M are its sessions, trees and machines.
+abbrev pub RecordsAt : (L S T M : Type 0) → Option Contents → Option Contents → ℕ → ℕ → List ℕ → List ℕ → List KernelState → List KernelState → Rows → Rows → Type 0
+RecordsAt L S T M c d f g id date kernels after r s =
+    ((after ≡ kernels) × (s ≡ r) × Stays c d f g)
     ⊎ ((place : ℕ) × (k : KernelState) × (place_in id kernels ≡ Some place) × (slice_get kernels place ≡ Some k)
-    × (old : Scribe L S T M) × (new : Scribe L S T M) × (inbox_at k.home ≡ Some (board_of old.follower)) × ReadsAndTells c d f g id date old new r s)
+    × (old : Scribe L S T M) × (new : Scribe L S T M) × (k.reading ≡ Some (reading_by old))
+    × (after ≡ slice_set kernels place (with_reading (Some (reading_by new)) k))
+    × (inbox_at k.home ≡ Some (board_of old.follower)) × ReadsAndTells c d f g id date old new r s)

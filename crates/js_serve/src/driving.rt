@@ -1,8 +1,12 @@
 //! The thread of a kernel: it makes the kernel with all its ends, hands out those of others, and drives it to its end.
-ghost use Rattle.std.specs.Prelude.{◌≡◌, [], IfOk};
+ghost use Rattle.std.specs.Prelude.{◌≡◌, [], IfOk, IfSome, map, true};
+ghost use Rattle.std.specs.Coded.{Coded-set, codes};
+ghost use Rattle.json_form.specs.contracts.kept.Json as json;
 ghost use Rattle.jk_board.specs.Ends.{AreFollowersOf, board_of};
 ghost use Rattle.jk_core.specs.State.{fresh};
 ghost use Rattle.jk_queues.specs.Ends.{AreAllOf, seat_inbox, taken_by, taker_inbox};
+ghost use Rattle.jk_queues.specs.Pool.{offered_by, collected_by};
+ghost use Rattle.js_serve.specs.Threads.{AreNewEndsOf, IsKernelsEnd, IsNewDriver};
 
 use crate::bell::{Bell, Driving};
 use crate::job::Parser;
@@ -83,6 +87,8 @@ fn make<L: Language>(
     ensures taker { IfOk result (λ made. taken_by made.taker ≡ []) }
     ensures own { IfOk result (λ made. taker_inbox made.taker ≡ taker_inbox inbox.taker) }
     ensures inbox { IfOk result (λ made. seat_inbox made.opened.home.zero ≡ taker_inbox made.taker) }
+    ensures pool { IfOk result (λ made. (offered_by made.pool ≡ []) × (collected_by made.pool ≡ [])) }
+    ensures parsers { IfOk result (λ made. AreNewEndsOf made.pool (map (λ p. p.end) made.parsers.items)) }
 {
     let Inbox { taker, seats } = inbox;
     let (pool, workers) = Pool::<ParsedCell<L>>::new(alloc, WORKERS)?;
@@ -109,7 +115,9 @@ fn parsers_of<L: Language>(
     alloc: Global,
     workers: Vec<WorkerEnd<ParsedCell<L>>>,
     driver: &Bell,
-) -> Result<(Vec<Parser<L>>, Vec<Bell>), AllocError> {
+) -> Result<(Vec<Parser<L>>, Vec<Bell>), AllocError>
+    ensures { IfOk result (λ made. map (λ p. p.end) made.0.items ≡ workers.items) }
+{
     let mut parsers = Vec::with_capacity(alloc, WORKERS)?;
     let mut bells = Vec::with_capacity(alloc, WORKERS)?;
     for end in workers {
@@ -153,22 +161,26 @@ fn ends_of<L: Language>(
     })
 }
 
-/// A kernel that was made, and whose parsers have no threads yet. The desk's ends are of the inbox from which its driver takes. It ends
-/// by `drive_kernel`.
+/// A kernel that was made, and whose parsers have no threads yet. The desk's ends are of the inbox from which its driver takes. The
+/// driver has done nothing. It ends by `drive_kernel`.
 pub struct NewKernel<L: Language> {
     driver: Driver<L>,
     opening: Opening<L>,
     opened: Opened<L>,
     bells: Bells,
     ghost own: { seat_inbox opened.home.zero ≡ taker_inbox driver.taker },
+    ghost untouched: { IsNewDriver driver } by { Prim.hlevel (Coded-set, codes, json.the_row.coded, L.Tree.code) },
 }
 
-/// Makes a kernel and its parsers. Where memory is refused there is none, and nothing is handed out.
+/// Makes a kernel and its parsers, which are all of its driver's pool. Where memory is refused there is none, and nothing is handed
+/// out.
 pub(crate) fn make_kernel<L: Language, R: Wait>(
     rt: &R,
     alloc: Global,
     opening: Opening<L>,
-) -> Option<(Vec<Parser<L>>, NewKernel<L>)> {
+) -> Option<(Vec<Parser<L>>, NewKernel<L>)>
+    ensures { IfSome result (λ made. AreNewEndsOf made.1.driver.pool (map (λ p. p.end) made.0.items)) }
+{
     let Ok(inbox) = Inbox::new(alloc) else {
         return None;
     };
@@ -206,6 +218,13 @@ pub(crate) fn make_kernel<L: Language, R: Wait>(
 /// Hands out the ends of others, and drives the kernel until it was shut down and nobody follows it any more. Where not all of
 /// its parsers have threads nothing is handed out.
 pub fn drive_kernel<L: Language, R: Wait + Clock>(rt: &R, new: NewKernel<L>, parses: bool) {
+    finish(rt, drive_new(rt, new, parses));
+}
+
+/// Does the same, and hands back the driver, whose publisher may be ended now.
+fn drive_new<L: Language, R: Wait + Clock>(rt: &R, new: NewKernel<L>, parses: bool) -> Driver<L>
+    ensures { IsKernelsEnd L.spoken parses new.driver result }
+{
     let NewKernel {
         driver,
         opening,
@@ -213,10 +232,10 @@ pub fn drive_kernel<L: Language, R: Wait + Clock>(rt: &R, new: NewKernel<L>, par
         bells,
     } = new;
     if parses {
-        run(rt, opening, opened, driver, &bells);
+        run(rt, opening, opened, driver, &bells)
     } else {
         drop((opening, opened));
-        finish(rt, driver);
+        driver
     }
 }
 
@@ -228,7 +247,10 @@ fn run<L: Language, R: Wait + Clock>(
     ends: Opened<L>,
     driver: Driver<L>,
     bells: &Bells,
-) {
+) -> Driver<L>
+    requires { IsNewDriver driver }
+    ensures { IsKernelsEnd L.spoken true driver result }
+{
     let Opening { opened, left } = opening;
     let _ = opened.send(rt, ends);
     drop(opened);
@@ -242,7 +264,7 @@ fn run<L: Language, R: Wait + Clock>(
     bells.wakes.channels.end();
     driving.ring_parsers();
     wait_until(rt, &left);
-    finish(rt, driver);
+    driver
 }
 
 /// Waits until the word is set.

@@ -1,4 +1,7 @@
 //! What the threads of the server do.
+ghost use Rattle.std.specs.Prelude.{IfSome, map};
+ghost use Rattle.jk_queues.specs.Work.{HasWorked};
+ghost use Rattle.js_serve.specs.Threads.{AreNewEndsOf};
 
 use crate::bell::{Bell, Belled};
 use crate::call::Call;
@@ -53,21 +56,36 @@ impl Gate for Rings {
 
 /// Parses the cells of one kernel until its driver stops.
 pub fn parse<L: Language, R: Wait + Clock>(rt: &R, alloc: Global, parser: Parser<L>) {
+    drop(parse_all(rt, alloc, parser));
+}
+
+/// Does the same, and hands back the parser's end. The results of the jobs that it took are handed in, in order, but for one that
+/// was perhaps in hand where the pool was found stopped.
+fn parse_all<L: Language, R: Wait + Clock>(
+    rt: &R,
+    alloc: Global,
+    parser: Parser<L>,
+) -> WorkerEnd<ParsedCell<L>>
+    ensures { HasWorked parser.end result }
+{
     let Parser { end, bell, driver } = parser;
     let belled = Belled { rt, bell: &bell };
     let rings = Rings { driver };
-    drop(worker::<L, Belled<'_, R>, Rings>(&belled, alloc, &rings, end));
+    worker::<L, Belled<'_, R>, Rings>(&belled, alloc, &rings, end)
 }
 
 /// Does a job. A browser that asks for the page is sent that one. A kernel that is to be driven is made and comes back: first each
-/// of its parsers gets a thread, by `parse`, and then `drive_kernel` is told whether all have one.
+/// of its parsers gets a thread, by `parse`, and then `drive_kernel` is told whether all have one. The parsers are those of its driver's
+/// pool.
 pub fn work<L: Language, R: Wait + Clock + Copy + Drop>(
     rt: &R,
     alloc: Global,
     limits: Limits,
     job: Job<L>,
     page: &str,
-) -> Option<(Vec<Parser<L>>, NewKernel<L>)> {
+) -> Option<(Vec<Parser<L>>, NewKernel<L>)>
+    ensures { IfSome result (λ made. AreNewEndsOf made.1.driver.pool (map (λ p. p.end) made.0.items)) }
+{
     match job {
         Job::Accept(listener, calls) => {
             accept_all(rt, alloc, limits, &listener, &calls);

@@ -85,7 +85,7 @@ pub(crate) enum Unlent {
     Memory,
 }
 
-/// The kernels that run. Contracts see of each its identifier, and what seat 0 has told it.
+/// The kernels that run. Contracts see of each its identifier, what seat 0 has told it, and what is read for its recorder.
 #[derive(Drop)]
 pub struct Kernels<R: Drop, L: Language> {
     rt: R,
@@ -99,6 +99,11 @@ impl<R: Drop, L: Language> Model for Kernels<R, L> {
     ghost use Rattle.js_serve.specs.Told.{KernelState};
 
     ghost Value = { List KernelState };
+
+    ghost use Rattle.std.specs.Coded.{codes};
+    ghost use Rattle.json_form.specs.contracts.kept.Json as json;
+
+    ghost coded = { Prim.hlevel (codes, json.the_row.coded) };
 
     ghost use Rattle.js_serve.specs.Hosting.{states_of};
 
@@ -171,11 +176,13 @@ fn take_all_back<L: Language, R: Wait>(rt: &R, home: Home<L>) -> Home<L>
 }
 
 impl<L: Language> Ends<L> {
+    ghost use Rattle.std.specs.Prelude.{IsTrue, ◌↔◌};
     ghost use Rattle.js_serve.specs.Hosting as spec;
+    ghost use Rattle.js_serve.specs.Readings.{BeginsReading, IsDone};
 
     /// Nothing came of the kernel yet.
     fn new(alloc: Global, left: Arc<AtomicBool, Global>) -> Ends<L>
-        ensures { result.home ≡ None }
+        ensures { (result.home ≡ None) × (result.scribe ≡ None) }
     {
         Ends {
             home: None,
@@ -190,7 +197,7 @@ impl<L: Language> Ends<L> {
 
     /// Takes the ends that the kernel's thread handed out.
     fn take(&mut self, opened: Opened<L>)
-        ensures { self.new.home ≡ Some opened.home }
+        ensures { (self.new.home ≡ Some opened.home) × (self.new.scribe ≡ None) }
     {
         let Opened {
             home,
@@ -213,22 +220,26 @@ impl<L: Language> Ends<L> {
         }
     }
 
-    /// Sends a message from seat 0. It says whether it did: the inbox had room.
-    fn tell<R: Wait>(&mut self, rt: &R, what: What) -> bool
-        ensures { MatchBool result (spec.HasTold (sort_as what) (spec.home_of self.old) (spec.home_of self.new)) (spec.home_of self.new ≡ spec.home_of self.old) }
+    /// Sends a message from seat 0.
+    ///
+    /// # Errors
+    /// Where the inbox was full at one moment of the call, and where there is no home yet. Nothing was sent.
+    fn tell<R: Wait>(&mut self, rt: &R, what: What) -> Result<(), Untold>
+        ensures told { spec.TellsHome (sort_as what) result (spec.home_of self.old) (spec.home_of self.new) }
+        ensures scribe { self.new.scribe ≡ self.old.scribe }
     {
         let Some(home) = self.home.take() else {
-            return false;
+            return Err(Untold::Memory);
         };
         let (home, sent) = home.tell(rt, what);
         self.home = Some(home);
         self.wake(rt);
-        sent.is_ok()
+        outcome(sent.is_ok())
     }
 
     /// Reads what the kernel has published.
     fn read_on(&mut self, alloc: Global)
-        ensures { self.new.home ≡ self.old.home }
+        ensures { (self.new.home ≡ self.old.home) × (self.new.scribe ≡ self.old.scribe) }
     {
         let Some(watch) = self.watch.take() else {
             return;
@@ -240,7 +251,8 @@ impl<L: Language> Ends<L> {
 
     /// Takes back the places that have come back.
     fn collect<R: Wait>(&mut self, rt: &R)
-        ensures { spec.home_of self.new ≡ spec.home_of self.old }
+        ensures home { spec.home_of self.new ≡ spec.home_of self.old }
+        ensures scribe { self.new.scribe ≡ self.old.scribe }
     {
         let Some(home) = self.home.take() else {
             return;
@@ -250,7 +262,8 @@ impl<L: Language> Ends<L> {
 
     /// Reads what the kernel has published, and takes back the places that have come back.
     fn follow<R: Wait>(&mut self, rt: &R, alloc: Global)
-        ensures { spec.home_of self.new ≡ spec.home_of self.old }
+        ensures home { spec.home_of self.new ≡ spec.home_of self.old }
+        ensures scribe { self.new.scribe ≡ self.old.scribe }
     {
         self.read_on(alloc);
         self.collect(rt);
@@ -273,15 +286,31 @@ impl<L: Language> Ends<L> {
     }
 
     /// Whether the kernel was shut down, no place of it is lent, and nothing is read for a recorder.
-    fn is_left(&self) -> bool {
+    fn is_left(&self) -> bool
+        ensures { result ≡ true → self.now.scribe ≡ None }
+    {
         self.has_ended() && self.lent() == 0 && self.scribe.is_none()
     }
 
-    /// Begins to read for a recorder, after what was shown before it was there. It says whether it began now; where there is no
-    /// memory, it begins later.
-    fn begin_reading(&mut self, alloc: Global) -> bool
-        ensures { self.new.home ≡ self.old.home }
+    /// Whether nothing is read for a recorder, or that was told all that the kernel will ever show.
+    fn is_read(&self) -> bool
+        ensures { IsTrue result ↔ IsDone (spec.reading_of self.now) }
     {
+        match &self.scribe {
+            Some(scribe) => scribe.is_over(),
+            None => true,
+        }
+    }
+
+    /// Begins to read for a recorder, after what was shown before it was there. It says whether it began now; where there is no
+    /// memory, it begins later. A reading that is under way stays.
+    fn begin_reading(&mut self, alloc: Global) -> bool
+        ensures home { self.new.home ≡ self.old.home }
+        ensures reading { MatchBool result (BeginsReading (spec.reading_of self.old) (spec.reading_of self.new)) (self.new.scribe ≡ self.old.scribe) }
+    {
+        if self.scribe.is_some() {
+            return false;
+        }
         let Some(follower) = self.recorder.take() else {
             return false;
         };
@@ -296,7 +325,7 @@ impl<L: Language> Ends<L> {
 
     /// Reads for a recorder no more. The follower rests, so that the kernel does not wait for it.
     fn end_reading(&mut self)
-        ensures { self.new.home ≡ self.old.home }
+        ensures { (self.new.home ≡ self.old.home) × (self.new.scribe ≡ None) }
     {
         if let Some(scribe) = self.scribe.take() {
             scribe.follower.rest();
@@ -309,6 +338,7 @@ impl<L: Language> Ends<L> {
     /// Where the kernel has ended, where no place is free, and where memory is refused.
     fn lend<R: Wait>(&mut self, rt: &R, alloc: Global) -> Result<Place<L>, Unlent>
         ensures same { spec.home_of self.new ≡ spec.home_of self.old }
+        ensures scribe { self.new.scribe ≡ self.old.scribe }
         ensures place { IfOk result (spec.IsPlaceOf (spec.home_of self.old)) }
     {
         if self.has_ended() {
@@ -334,7 +364,7 @@ impl<L: Language> Ends<L> {
 
     /// Tells the kernel's row in the table what was found.
     fn note(&mut self, row: &mut Row, date: &Text)
-        ensures { self.new.home ≡ self.old.home }
+        ensures { (self.new.home ≡ self.old.home) × (self.new.scribe ≡ self.old.scribe) }
     {
         row.connections = self.lent() as u64;
         if let Some(watch) = &self.watch {
@@ -350,6 +380,8 @@ impl<L: Language> Ends<L> {
 }
 
 impl<L: Language> Hosted<L> {
+    ghost use Rattle.js_serve.specs.Hosting.{kernel_of};
+    ghost use Rattle.js_serve.specs.Readings.{if_recorded};
     ghost use Rattle.js_serve.specs.Recording.{Records};
     ghost use Rattle.js_tables.specs.Tables.{rows};
 
@@ -383,7 +415,7 @@ impl<L: Language> Hosted<L> {
 
     /// Reads no more for the recorder where that is gone.
     fn end_unrecorded(&mut self, tables: &Tables)
-        ensures { (self.new.id ≡ self.old.id) × (self.new.ends.home ≡ self.old.ends.home) }
+        ensures { kernel_of self.new ≡ if_recorded (rows tables.now) (kernel_of self.old) }
     {
         if tables.has_recorder(self.id.as_str()) {
             return;
@@ -424,14 +456,14 @@ impl<R: Wait + Drop, L: Language> Running for Kernels<R, L> {
         let Some(place) = place_of(self.hosted.as_slice(), id) else {
             return Err(Untold::Memory);
         };
-        let sent = self.hosted[place].ends.tell(&self.rt, what);
-        outcome(sent)
+        self.hosted[place].ends.tell(&self.rt, what)
     }
 }
 
 impl<R: Wait + Drop, L: Language> Kernels<R, L> {
     ghost use Rattle.js_serve.specs.Hosting as spec;
-    ghost use Rattle.std.specs.Prelude.{Err};
+    ghost use Rattle.std.specs.Prelude.{◌⊎◌, ◌↔◌, ℕ, Err, IsTrue, map};
+    ghost use Rattle.js_serve.specs.Readings.{BeginsReading, ChangesReading, EndsHaveCome, EndsReading, HaveGone, IsRead, LastHasGone, ReadsOn, if_recorded};
     ghost use Rattle.js_serve.specs.Recording.{RecordsAt};
     ghost use Rattle.js_serve.specs.Told.{place_in};
     ghost use Rattle.js_serve.specs.declared.kernels.Unlent.TheVariants.{Ended};
@@ -461,15 +493,31 @@ impl<R: Wait + Drop, L: Language> Kernels<R, L> {
         self.unopened.take()
     }
 
-    /// Takes the ends of the kernel that was made last.
-    pub(crate) fn take_ends(&mut self, opened: Opened<L>) {
-        if let Some(last) = self.hosted.last_mut() {
-            last.ends.take(opened);
+    /// Takes the ends of the kernel that was made last, where none of it have come yet.
+    pub(crate) fn take_ends(&mut self, opened: Opened<L>)
+        ensures { EndsHaveCome (spec.state_of opened.home) self.old self.new }
+    {
+        let count = self.hosted.len();
+        if count == 0 {
+            return;
         }
+        if self.hosted[count - 1].ends.home.is_some() {
+            return;
+        }
+        self.hosted[count - 1].ends.take(opened);
     }
 
-    /// Lets go of the kernel that was made last.
-    pub(crate) fn drop_last(&mut self) {
+    /// Lets go of the kernel that was made last, where its ends have not come yet.
+    pub(crate) fn drop_last(&mut self)
+        ensures { LastHasGone self.old self.new }
+    {
+        let count = self.hosted.len();
+        if count == 0 {
+            return;
+        }
+        if self.hosted[count - 1].ends.home.is_some() {
+            return;
+        }
         let _ = self.hosted.pop();
     }
 
@@ -499,7 +547,7 @@ impl<R: Wait + Drop, L: Language> Kernels<R, L> {
 
     /// Begins to read for the recorder of a kernel, after what was shown before it was there. It says whether it began now.
     pub(crate) fn begin_reading(&mut self, id: &str) -> bool
-        ensures { self.new ≡ self.old }
+        ensures { MatchBool result (ChangesReading BeginsReading id.now self.old self.new) (self.new ≡ self.old) }
     {
         match place_of(self.hosted.as_slice(), id) {
             Some(place) => self.hosted[place].ends.begin_reading(self.alloc),
@@ -517,8 +565,8 @@ impl<R: Wait + Drop, L: Language> Kernels<R, L> {
         date: &Text,
         saves: bool,
     ) -> Found
-        ensures same { self.new ≡ self.old }
-        ensures records { RecordsAt L L.Session L.Tree L.Machine (S.contents shelf.old) (S.contents shelf.new) (S.faults shelf.old) (S.faults shelf.new) id.now date.now self.old (rows tables.old) (rows tables.new) }
+        ensures reads { (self.new ≡ self.old) ⊎ ChangesReading ReadsOn id.now self.old self.new }
+        ensures records { RecordsAt L L.Session L.Tree L.Machine (S.contents shelf.old) (S.contents shelf.new) (S.faults shelf.old) (S.faults shelf.new) id.now date.now self.old self.new (rows tables.old) (rows tables.new) }
     {
         let Some(place) = place_of(self.hosted.as_slice(), id) else {
             return Found::Nothing;
@@ -527,12 +575,11 @@ impl<R: Wait + Drop, L: Language> Kernels<R, L> {
     }
 
     /// Whether the recorder of a kernel was told all that the kernel will ever show, or nothing is read for it.
-    pub(crate) fn is_read(&self, id: &str) -> bool {
+    pub(crate) fn is_read(&self, id: &str) -> bool
+        ensures { IsTrue result ↔ IsRead id.now self.now }
+    {
         match place_of(self.hosted.as_slice(), id) {
-            Some(place) => match &self.hosted[place].ends.scribe {
-                Some(scribe) => scribe.is_over(),
-                None => true,
-            },
+            Some(place) => self.hosted[place].ends.is_read(),
             None => true,
         }
     }
@@ -544,7 +591,8 @@ impl<R: Wait + Drop, L: Language> Kernels<R, L> {
 
     /// Reads for the recorder of a kernel no more.
     pub(crate) fn end_reading(&mut self, id: &str)
-        ensures { self.new ≡ self.old }
+        ensures there { (place : ℕ) → place_in id.now self.old ≡ Some place → ChangesReading EndsReading id.now self.old self.new }
+        ensures gone { place_in id.now self.old ≡ None → self.new ≡ self.old }
     {
         if let Some(place) = place_of(self.hosted.as_slice(), id) {
             self.hosted[place].ends.end_reading();
@@ -553,7 +601,7 @@ impl<R: Wait + Drop, L: Language> Kernels<R, L> {
 
     /// Reads no more for the recorders that are gone.
     pub(crate) fn end_readings(&mut self, tables: &Tables)
-        ensures { self.new ≡ self.old }
+        ensures { self.new ≡ map (if_recorded (rows tables.now)) self.old }
     {
         for place in 0..self.hosted.len() {
             self.hosted[place].end_unrecorded(tables);
@@ -578,18 +626,19 @@ impl<R: Wait + Drop, L: Language> Kernels<R, L> {
     }
 
     /// Lets go of each kernel that was shut down and that nobody follows any more.
-    pub(crate) fn drop_left(&mut self) {
-        for _ in 0..self.hosted.len() {
-            let left = self.hosted.iter().position(|known| known.ends.is_left());
-            let Some(place) = left else {
-                return;
-            };
+    pub(crate) fn drop_left(&mut self)
+        ensures { HaveGone self.old self.new }
+    {
+        for place in (0..self.hosted.len()).rev() {
             self.drop_one(place);
         }
     }
 
-    fn drop_one(&mut self, place: usize) {
-        if place < self.hosted.len() {
+    /// Lets go of a kernel where it was shut down and nobody follows it any more.
+    fn drop_one(&mut self, place: usize)
+        ensures { HaveGone self.old self.new }
+    {
+        if place < self.hosted.len() && self.hosted[place].ends.is_left() {
             let known = self.hosted.remove(place);
             known.ends.left.store(true, Ordering::SeqCst);
         }

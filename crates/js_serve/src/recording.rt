@@ -1,5 +1,5 @@
 //! What is read for the recorder of a kernel's session.
-ghost use Rattle.std.specs.Prelude.{◌≡◌, ◌++◌, ◌||◌, []};
+ghost use Rattle.std.specs.Prelude.{◌≡◌, ◌++◌, ◌||◌, ◌↔◌, [], IsTrue, false, true};
 ghost use Rattle.std.specs.List.{list_any};
 ghost use Rattle.jk_board.specs.Ends.{board_of, read_by};
 ghost use Rattle.js_serve.specs.Recording as spec;
@@ -73,7 +73,7 @@ fn has_last(entries: &[Entry]) -> bool
 impl<L: Language> Scribe<L> {
     /// Nothing was read yet.
     pub(crate) fn new(alloc: Global, follower: Follower<L>) -> Scribe<L>
-        ensures { (result.follower ≡ follower) × (result.held.items ≡ []) }
+        ensures { (result.follower ≡ follower) × (result.held.items ≡ []) × (result.over ≡ false) }
     {
         Scribe {
             follower,
@@ -136,7 +136,9 @@ impl<L: Language> Scribe<L> {
     }
 
     /// Whether the recorder was told all that the kernel will ever show.
-    pub(crate) fn is_over(&self) -> bool {
+    pub(crate) fn is_over(&self) -> bool
+        ensures { IsTrue result ↔ ((self.now.held.items ≡ []) × (self.now.over ≡ true)) }
+    {
         self.over && self.held.is_empty()
     }
 

@@ -1,6 +1,8 @@
 //! What the server itself sees of a kernel.
-ghost use Rattle.std.specs.Prelude.{◌≡◌};
+ghost use Rattle.std.specs.Prelude.{◌≡◌, false};
 ghost use Rattle.jk_board.specs.Ends.{board_of};
+ghost use Rattle.js_tables.specs.declared.tables.State.TheVariants.{Idle};
+ghost use Rattle.js_serve.specs.Watching as spec;
 
 use jk_board::Follower;
 use jk_language::Language;
@@ -22,17 +24,58 @@ pub(crate) struct Watch<L: Language> {
     pub(crate) ended: bool,
 }
 
-fn state_of(said: Said) -> State {
+fn state_of(said: Said) -> State
+    ensures { result ≡ spec.state_of said }
+{
     match said {
         Said::Busy => State::Busy,
         Said::Idle => State::Idle,
     }
 }
 
+/// The state that an entry tells, or the one before it.
+fn state_by(before: State, told: &Told) -> State
+    ensures { result ≡ spec.state_by before told.now }
+{
+    match told {
+        Told::Output(Output::Status(said)) => state_of(*said),
+        _ => before,
+    }
+}
+
+/// The state after these entries.
+fn state_after(before: State, entries: &[Entry]) -> State
+    ensures { result ≡ spec.state_after before entries.now }
+{
+    let mut state = before;
+    for entry in entries {
+        state = state_by(state, &entry.content);
+    }
+    state
+}
+
+/// Whether an entry is the reply to a shutdown without restart.
+fn tells_end(told: &Told) -> bool
+    ensures { result ≡ spec.tells_end told.now }
+{
+    match told {
+        Told::Output(Output::ShutdownReply { restart }) => !*restart,
+        _ => false,
+    }
+}
+
+/// Whether such a reply is among these entries.
+fn has_end(entries: &[Entry]) -> bool
+    ensures { result ≡ spec.has_end entries.now }
+{
+    entries.iter().any(|entry| tells_end(&entry.content))
+}
+
 impl<L: Language> Watch<L> {
     /// Nothing was found yet.
     pub(crate) fn new(follower: Follower<L>) -> Watch<L>
-        ensures { result.follower ≡ follower }
+        ensures follower { result.follower ≡ follower }
+        ensures nothing { (result.state ≡ Idle) × (result.ended ≡ false) }
     {
         Watch {
             follower,
@@ -41,19 +84,10 @@ impl<L: Language> Watch<L> {
         }
     }
 
-    fn see(&mut self, entry: &Entry)
-        ensures { self.new.follower ≡ self.old.follower }
-    {
-        match &entry.content {
-            Told::Output(Output::Status(said)) => self.state = state_of(*said),
-            Told::Output(Output::ShutdownReply { restart: false }) => self.ended = true,
-            _ => {}
-        }
-    }
-
     /// Reads on, and says how many entries were found.
     fn read_some(self, alloc: Global) -> (Watch<L>, usize)
-        ensures { board_of result.0.follower ≡ board_of self.follower }
+        ensures reads { spec.ReadsOn self result.0 }
+        ensures board { board_of result.0.follower ≡ board_of self.follower }
     {
         let Watch {
             follower,
@@ -61,23 +95,30 @@ impl<L: Language> Watch<L> {
             ended,
         } = self;
         let (follower, found) = follower.read(alloc, ENTRIES);
-        let mut watch = Watch {
-            follower,
-            state,
-            ended,
-        };
-        let Ok(entries) = found else {
-            return (watch, 0);
-        };
-        for entry in &entries {
-            watch.see(entry);
+        match found {
+            Ok(entries) => (
+                Watch {
+                    follower,
+                    state: state_after(state, entries.as_slice()),
+                    ended: ended || has_end(entries.as_slice()),
+                },
+                entries.len(),
+            ),
+            Err(_) => (
+                Watch {
+                    follower,
+                    state,
+                    ended,
+                },
+                0,
+            ),
         }
-        (watch, entries.len())
     }
 
     /// Reads all that is there, and says whether anything was found.
     pub(crate) fn read(self, alloc: Global) -> (Watch<L>, bool)
-        ensures { board_of result.0.follower ≡ board_of self.follower }
+        ensures reads { spec.ReadsOn self result.0 }
+        ensures board { board_of result.0.follower ≡ board_of self.follower }
     {
         let (mut watch, first) = self.read_some(alloc);
         let mut last = first;

@@ -2,6 +2,7 @@
 ghost use Rattle.std.specs.Prelude.{◌≡◌, ℕ, List, IfSome};
 ghost use Rattle.js_http.specs.declared.method.Method.TheVariants.{Delete};
 ghost use Rattle.js_serve.specs.Asking.{asks, WantsEnd};
+ghost use Rattle.js_serve.specs.Readings.{IsRead};
 ghost use Rattle.js_serve.specs.declared.desk.ends.Delay.TheVariants.{Join};
 
 use super::Desk;
@@ -56,8 +57,11 @@ where
         self.clients.endings().kernel(place)?.copy().ok()
     }
 
-    /// The kernel that is ending in a row goes, with its recorder, and those who wait for that are answered.
-    fn end_at(&mut self, place: usize, kernel: Text) {
+    /// The kernel that is ending in a row goes, with its recorder, and those who wait for that are answered. All that it shows was
+    /// told to that recorder, or nothing is read for it.
+    fn end_at(&mut self, place: usize, kernel: Text)
+        requires { IsRead kernel self.old.manager.running }
+    {
         self.manager.running.end_reading(kernel.as_str());
         if !self.drop_row(kernel) {
             return;

@@ -1,9 +1,30 @@
-use Rattle.std.proofs.Common.{◌∙◌, ap, refl}
+use Rattle.std.proofs.Common.{◌∙◌, ap, refl, sym}
+use Rattle.std.proofs.lemmas.Option.{none-some}
 use Rattle.js_serve.specs.Hosting.{state_in}
-use Rattle.js_serve.proofs.Hosting.{kept_at}
+use Rattle.js_serve.specs.Readings.{EndsReading}
+use Rattle.js_serve.specs.Recording.{reading_in}
+use Rattle.js_serve.proofs.Hosting.{found_at}
+use Rattle.js_serve.proofs.Readings.{changed_at, nowhere, somewhere}
 use Rattle.js_serve.proofs.kernels.Kernels.end_reading.Goals as goal
 
-pub returns-in-Some : goal.returns-in-Some
-returns-in-Some g c =
+pub returns-in-Some-clause-there : goal.returns-in-Some-clause-there
+returns-in-Some-clause-there g c place found =
     let was = c.index_mut.result.now in
-    kept_at c.self.inside.hosted.items c.in-Some.place was (record { id = was.id; ends = c.end_reading.new.self }) c.index_mut.ensures.value refl (ap state_in c.end_reading.ensures) ∙ c.self.view_is
+    let ks = c.self.inside.hosted.items in
+    let first = found_at ks c.as_slice.result.now c.args.id.now c.in-Some.place c.as_slice.ensures.value c.in-Some.ensures in
+    let kept = c.end_reading.ensures in
+    changed_at EndsReading c.args.self.now ks c.in-Some.place was (record { id = was.id; ends = c.end_reading.new.self }) c.args.id.now c.self.view_is first
+    c.index_mut.ensures.value refl (ap state_in kept.0) (ap reading_in kept.1)
+
+-- a kernel was found
+pub returns-in-Some-clause-gone : goal.returns-in-Some-clause-gone
+returns-in-Some-clause-gone g c none =
+    let ks = c.self.inside.hosted.items in
+    let first = found_at ks c.as_slice.result.now c.args.id.now c.in-Some.place c.as_slice.ensures.value c.in-Some.ensures in
+    absurd (none-some c.in-Some.place (sym none ∙ somewhere c.args.self.now ks c.in-Some.place c.args.id.now c.self.view_is first))
+
+-- none was found
+pub returns-in_default-clause-there : goal.returns-in_default-clause-there
+returns-in_default-clause-there g c place found =
+    absurd (none-some place (sym (nowhere c.args.self.now c.self.inside.hosted.items c.as_slice.result.now c.args.id.now c.self.view_is c.as_slice.ensures.value
+    (sym c.in_default.is ∙ c.place_of.ensures)) ∙ found))

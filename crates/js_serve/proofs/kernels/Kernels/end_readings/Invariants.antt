@@ -1,9 +1,12 @@
-use Rattle.std.proofs.Common.{◌≡◌, length}
+use Rattle.std.proofs.Common.{◌≡◌, ◌++◌, length, map, take, drop}
+use Rattle.js_tables.specs.Tables.{rows}
 use Rattle.js_serve.specs.Hosting.{states_of}
+use Rattle.js_serve.specs.Readings.{if_recorded}
 use Rattle.js_serve.proofs.kernels.Kernels.end_readings.Given as goal
 
 abbrev pub invariant-loop-place : goal.invariant-loop-place
 invariant-loop-place g l = record {
-  same : states_of l.self-inside.hosted.items ≡ l.fn.self;
+  so : states_of l.self-inside.hosted.items ≡ map (if_recorded (rows l.fn.tables)) (take l.place l.fn.self) ++ drop l.place l.fn.self;
   count : length l.self-inside.hosted.items ≡ l.place-end;
+  all : length l.fn.self ≡ l.place-end;
 }

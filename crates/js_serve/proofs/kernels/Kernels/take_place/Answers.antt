@@ -8,7 +8,7 @@ use Rattle.js_serve.proofs.kernels.Kernels.take_place.Goals as goal
 pub returns-clause-same : goal.returns-clause-same
 returns-clause-same g c =
     let was = c.index_mut.result.now in
-    kept_at c.self.inside.hosted.items c.in-Some.place was (record { id = was.id; ends = c.lend.new.self }) c.index_mut.ensures.value refl c.lend.ensures.same ∙ c.self.view_is
+    kept_at c.self.inside.hosted.items c.in-Some.place was (record { id = was.id; ends = c.lend.new.self }) c.index_mut.ensures.value (refl, c.lend.ensures.scribe) c.lend.ensures.same ∙ c.self.view_is
 
 pub returns-clause-place : goal.returns-clause-place
 returns-clause-place g c =

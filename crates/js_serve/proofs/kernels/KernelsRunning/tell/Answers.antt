@@ -9,8 +9,8 @@ returns-clause-told g c =
     let ks = c.self.inside.hosted.items in
     let place = c.in-Some-place_of.place in
     let first = found_at ks c.as_slice.result.now c.args.id.now place c.as_slice.ensures.value c.in-Some-place_of.ensures in
-    tells_at c.args.self.now ks place was (record { id = was.id; ends = c.tell-sent.new.self }) c.args.id.now c.args.command (sort_as c.in-Some.what) c.tell-sent.result c.outcome.result
-    c.self.view_is first c.index_mut.ensures.value refl c.in-Some.ensures c.outcome.ensures c.tell-sent.ensures
+    tells_at c.args.self.now ks place was (record { id = was.id; ends = c.tell.new.self }) c.args.id.now c.args.command (sort_as c.in-Some.what) c.tell.result
+    c.self.view_is first c.index_mut.ensures.value (refl, c.tell.ensures.scribe) c.in-Some.ensures c.tell.ensures.told
 
 pub returns-clause-err : goal.returns-clause-err
 returns-clause-err g c =
@@ -18,5 +18,5 @@ returns-clause-err g c =
     let ks = c.self.inside.hosted.items in
     let place = c.in-Some-place_of.place in
     let first = found_at ks c.as_slice.result.now c.args.id.now place c.as_slice.ensures.value c.in-Some-place_of.ensures in
-    untold_at c.args.self.now ks place was (record { id = was.id; ends = c.tell-sent.new.self }) c.args.id.now c.args.command (sort_as c.in-Some.what) c.tell-sent.result c.outcome.result
-    c.self.view_is first c.index_mut.ensures.value refl c.in-Some.ensures c.outcome.ensures c.tell-sent.ensures
+    untold_at c.args.self.now ks place was (record { id = was.id; ends = c.tell.new.self }) c.args.id.now c.args.command (sort_as c.in-Some.what) c.tell.result
+    c.self.view_is first c.index_mut.ensures.value (refl, c.tell.ensures.scribe) c.in-Some.ensures c.tell.ensures.told
