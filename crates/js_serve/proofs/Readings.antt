@@ -227,7 +227,7 @@ module _ {L S T M : Type 0} where
     was.id,
     last_unopened old ks place was view long at none,
     ap states_of (set_last ks place now long) ∙ (map-append kernel_of (take place ks) (now ∷ [])
-    ∙ (λ i. states_of (take place ks) ++ record { id = same i; home = here i; reading = reading_in (unread i) } ∷ [])),
+        ∙ (λ i. states_of (take place ks) ++ record { id = same i; home = here i; reading = reading_in (unread i) } ∷ [])),
   )
 
   pub last_goes : (old : List KernelState) (ks rest : List (Hosted L S T M)) (place : ℕ) (was : Hosted L S T M) → states_of ks ≡ old → length ks ≡ place + 1
