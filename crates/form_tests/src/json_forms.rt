@@ -71,18 +71,6 @@ fn reads_bytes(rt: HostRuntime) -> Result<(), Fail> {
 }
 
 #[test]
-fn writes_on_lines(rt: HostRuntime) -> Result<(), Fail> {
-    let read = Json::read(rt.alloc(), "{\"b\":[1,{}],\"a\":\"x\"}")?;
-    let bytes = read.copy()?.write_pretty(rt.alloc())?;
-    let text = std::str::from_utf8(bytes.as_slice())?;
-    assert_eq!(rt;
-        text,
-        "{\n  \"a\": \"x\",\n  \"b\": [\n    1,\n    {}\n  ]\n}"
-    );
-    Ok(())
-}
-
-#[test]
 fn finds_fields(rt: HostRuntime) -> Result<(), Fail> {
     let alloc = rt.alloc();
     let json = Json::read(

@@ -11,6 +11,5 @@ pub mod spare;
 pub mod stop;
 
 pub use inbox::{Full, Inbox, Left, Seat, Seats, Taker, close};
-pub use jk_log::{Job, ParsedCell};
 pub use pool::{Gate, Pool, WorkerEnd, worker};
 pub use spare::Spare;

@@ -23,12 +23,12 @@ impl<L: Language> Comes for Free<L> {
 }
 
 impl<L: Language> Free<L> {
-    ghost use Rattle.js_home.specs.Served.{HasServed};
+    ghost use Rattle.js_home.specs.Served.{HasPassed};
 
     /// It has passed all that was shown before, and says whether that was possible: it is not where the kernel's board has ended.
     pub fn pass(self) -> (Free<L>, bool)
         ensures seat { result.0.seat ≡ self.seat }
-        ensures served { HasServed self result.0 }
+        ensures passed { HasPassed self result.0 }
     {
         let Free { seat, follower } = self;
         let (follower, passed) = follower.pass();

@@ -3,7 +3,7 @@ ghost use Rattle.std.specs.Prelude.{◌≡◌};
 ghost use Rattle.jk_board.specs.Ends.{read_by};
 ghost use Rattle.jk_queues.specs.Ends.{seat_inbox, sent_by};
 ghost use Rattle.js_lend.specs.Ends.{lent_by};
-ghost use Rattle.js_home.specs.Served.{HasServed};
+ghost use Rattle.js_home.specs.Served.{HasPassed};
 ghost use Rattle.js_home.specs.Sets.{same_arrivals, same_entries};
 
 use crate::free::Free;
@@ -31,7 +31,7 @@ impl<L: Language> Place<L> {
     /// The seat and the follower, and the end by which they go back. They are what was lent.
     pub fn into_lease(self) -> Lease<Free<L>>
         ensures same { result ≡ self.lease }
-        ensures lent { HasServed (lent_by result.back) result.value }
+        ensures lent { HasPassed (lent_by result.back) result.value }
     {
         self.lease
     }

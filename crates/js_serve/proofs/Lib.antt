@@ -1,9 +1,4 @@
-pub mod Full
-pub mod Threads
-pub mod Watching
-pub mod Boards
+pub mod Visits
 pub mod Channels
 pub mod Crossing
-pub mod Hosting
-pub mod Readings
 pub mod Answering

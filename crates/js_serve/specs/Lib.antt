@@ -1,10 +1,3 @@
-pub mod Boards
-pub mod Recording
-pub mod Told
-pub mod Readings
-pub mod Hosting
 pub mod Channels
 pub mod Replies
 pub mod Asking
-pub mod Watching
-pub mod Threads

@@ -17,9 +17,9 @@ use Rattle.js_tables.specs.Tables.{Rows}
 use Rattle.js_tables.specs.declared.given.Given.{Given}
 use Rattle.js_tables.specs.declared.plan.Answer.TheVariants as answer
 use Rattle.js_ws.specs.Handshakes.{IsHandshake, protocol_of, switch_for}
-use Rattle.js_serve.specs.Hosting.{IsPlaceAt}
-use Rattle.js_serve.specs.Told as kernels
-use Rattle.js_serve.specs.Told.{KernelState}
+use Rattle.js_kernels.specs.Hosting.{IsPlaceAt}
+use Rattle.js_kernels.specs.Told as kernels
+use Rattle.js_kernels.specs.Told.{KernelState}
 use Rattle.js_serve.specs.declared.call.Reply.{Reply}
 use Rattle.js_serve.specs.declared.call.Reply.TheVariants.{Response, Shown, Last, Channel, Page}
 use Rattle.js_serve.specs.declared.call.Upgrade.{Upgrade}

@@ -1,24 +1,15 @@
 //! What threads tell the desk, and what it answers.
 
 use crate::crowd::Guest;
-use crate::wakes::Wakes;
 use crossbeam_channel::Sender;
 use jk_language::Language;
-use js_home::Place as Lent;
 use js_http::Response;
+use js_kernels::Place;
 use js_paced::Selector;
 use js_rest::ReadRequest;
 use js_shelf::Opening;
 use js_tables::About;
 use js_ws::Names;
-
-/// A place at a kernel, which is lent to one connection at a time.
-#[derive(Drop)]
-pub struct Place<L: Language> {
-    pub lent: Lent<L>,
-    /// What wakes the kernel and its channels.
-    pub wakes: Wakes,
-}
 
 /// What a connection is given that switches to a WebSocket.
 #[derive(Drop)]

@@ -1,16 +1,18 @@
 //! The channel of a connection, from its handshake on.
-ghost use Rattle.std.specs.Prelude.{◌≡◌};
+ghost use Rattle.std.specs.Prelude.{◌≡◌, ◌⊎◌, true, false};
+ghost use Rattle.jk_queues.specs.Ends.{sent_by};
 ghost use Rattle.js_home.specs.Served.{HasServed};
-ghost use Rattle.js_serve.specs.Channels.{GoesOn};
+ghost use Rattle.js_ws.specs.Turns.{over};
+ghost use Rattle.js_serve.specs.Channels.{GoesOn, HasLeft};
 
-use crate::call::{Call, Place};
+use crate::call::Call;
 use crate::clock::date_now;
 use crate::signals::Signals;
 use crate::telling::tell;
-use crate::wakes::Wakes;
 use crossbeam_channel::Sender;
 use jk_language::Language;
 use js_home::Free;
+use js_kernels::{Place, Wakes};
 use js_lend::Lease;
 use js_paced::{Paced, Rest, Selector};
 use js_ws::{Channel, Names, Turn, channel_turn};
@@ -60,7 +62,8 @@ fn serve_at<L: Language, R: Wait + Clock + Copy + Drop>(
     place: Free<L>,
     names: Names,
 ) -> Free<L>
-    ensures { HasServed place result }
+    ensures served { HasServed place result }
+    ensures left { (sent_by result.seat ≡ sent_by place.seat) ⊎ HasLeft place result }
 {
     let (passed, there) = place.pass();
     if !there {
@@ -78,7 +81,7 @@ fn make_turns<L: Language, R: Wait + Clock + Copy + Drop>(
     place: Free<L>,
     names: Names,
 ) -> Free<L>
-    ensures { HasServed place result }
+    ensures { HasLeft place result }
 {
     let Free { seat, follower } = place;
     let Line {
@@ -128,14 +131,15 @@ fn take_leave<L: Language, S: Read + Write + Drop>(channel: Channel<S, L>) -> Ch
     channel
 }
 
-/// Makes turns until the channel is closed.
+/// Makes turns until the channel is closed, and nothing is left to do.
 fn run<L: Language, S: Read + Write + Drop, R: Wait + Clock>(
     rt: &R,
     alloc: Global,
     signals: &Signals<'_>,
     channel: Channel<S, L>,
 ) -> Channel<S, L>
-    ensures { GoesOn channel result }
+    ensures goes { GoesOn channel result }
+    ensures over { over result ≡ true }
 {
     let mut channel = channel;
     for _ in rt.forever() {
@@ -156,7 +160,8 @@ fn make_turn<L: Language, S: Read + Write + Drop, R: Wait + Clock>(
     signals: &Signals<'_>,
     channel: Channel<S, L>,
 ) -> (Channel<S, L>, bool)
-    ensures { GoesOn channel result.0 }
+    ensures goes { GoesOn channel result.0 }
+    ensures closed { result.1 ≡ false → over result.0 ≡ true }
 {
     let Some(date) = date_now(rt, alloc) else {
         thread::sleep(rt, Duration::from_millis(PAUSE));

@@ -2,10 +2,10 @@
 ghost use Rattle.std.specs.Prelude.{◌≡◌, [], ◌∷◌, length};
 
 use crate::call::Reply;
-use crate::driving::Opened;
 use crossbeam_channel::{Receiver, Sender};
 use jk_language::Language;
 use js_http::{Request, Response};
+use js_kernels::Opened;
 use past::Past;
 use std::marker::PhantomData;
 

@@ -3,6 +3,7 @@
 use crate::call::Call;
 use crossbeam_channel::{Receiver, RecvTimeoutError, SendError, Sender};
 use jk_language::Language;
+use js_kernels::Found;
 use std::sync::Wait;
 use std::thread;
 use std::time::{Clock, Duration};
@@ -27,40 +28,6 @@ const SAVE_PAUSE: u64 = 1_000;
 
 /// How many milliseconds pass where there is no kernel.
 const IDLE: u64 = 3_600_000;
-
-/// What a look at all recorders found.
-#[derive(Clone, Copy, Debug, PartialEq, Eq)]
-pub(crate) enum Found {
-    /// There is no kernel.
-    NoKernel,
-    Nothing,
-    Entries,
-    /// There may be more to read now.
-    More,
-    /// A kernel is ending.
-    Ending,
-}
-
-impl Found {
-    /// The more urgent of two.
-    pub(crate) fn or(self, other: Found) -> Found {
-        if self.urgency() < other.urgency() {
-            other
-        } else {
-            self
-        }
-    }
-
-    fn urgency(self) -> u8 {
-        match self {
-            Found::NoKernel => 0,
-            Found::Nothing => 1,
-            Found::Entries => 2,
-            Found::Ending => 3,
-            Found::More => 4,
-        }
-    }
-}
 
 /// A look at all recorders that is under way, one after the other. Between two of them calls are taken.
 #[derive(Clone, Copy, Debug)]

@@ -4,4 +4,5 @@ pub mod Said
 pub mod Sending
 pub mod Frames
 pub mod Turns
+pub mod Messages
 pub mod Utf8

@@ -51,8 +51,8 @@ fn ends_kernel(message: &Message) -> bool
     }
 }
 
-/// Whether the entry is the idle of a shutdown without restart.
-pub(crate) fn is_last(entry: &Entry) -> bool
+/// Whether the entry is the last that a kernel shows: the idle of a shutdown without restart.
+pub fn is_last(entry: &Entry) -> bool
     ensures { result ≡ last.is_last entry.now }
 {
     tells_idle(&entry.content)

@@ -3,7 +3,7 @@
 ghost use Rattle.std.specs.Prelude.{◌≡◌, false, Err, IfOk, string_bytes};
 ghost use Rattle.std.specs.Str.{IsUtf8};
 ghost use Rattle.json_form.specs.declared.fault.Fault.TheVariants.{NotJson};
-ghost use Rattle.json_form.specs.Forms.{Gives, whole_json, empty_object, pretty_text};
+ghost use Rattle.json_form.specs.Forms.{Gives, whole_json, empty_object};
 ghost use Rattle.serde_json.specs.Written.{has_float, compact_text};
 ghost use Rattle.serde_json.specs.View.{view as data_of};
 
@@ -125,15 +125,6 @@ impl Json {
         Ok(Json {
             value: self.value.clone()?,
         })
-    }
-
-    /// The text on lines, two blanks for each level.
-    #[tactic(auto, unfolding(crate::specs::Forms::pretty_text))]
-    pub fn write_pretty(&self, alloc: Global) -> Result<Vec<u8>, AllocError>
-        ensures { IfOk result (λ b. b.items ≡ pretty_text self.now) }
-    {
-        let bytes = self.value.to_vec_pretty(alloc)?;
-        Ok(bytes)
     }
 
     /// The text with no space and sorted keys.

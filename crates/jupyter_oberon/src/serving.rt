@@ -3,7 +3,8 @@
 use js_files::FileShelf;
 use js_paced::Selector;
 use js_page::page;
-use js_serve::{Desk, Job, Limits, Parser, close_desk, drive_kernel, parse, work};
+use js_kernels::{Parser, drive_kernel, parse};
+use js_serve::{Desk, Job, Limits, close_desk, work};
 use ob_language::Oberon;
 use std::alloc::Global;
 use std::io::Write;

@@ -1,6 +1,7 @@
 //! The server over the small language.
 
-use js_serve::{Desk, Job, Limits, Parser, close_desk, drive_kernel, parse, work};
+use js_kernels::{Parser, drive_kernel, parse};
+use js_serve::{Desk, Job, Limits, close_desk, work};
 use js_shelf::MemoryShelf;
 use std::alloc::Global;
 use std::io::ErrorKind;

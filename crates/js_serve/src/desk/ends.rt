@@ -2,7 +2,7 @@
 ghost use Rattle.std.specs.Prelude.{◌≡◌, ℕ, List, IfSome};
 ghost use Rattle.js_http.specs.declared.method.Method.TheVariants.{Delete};
 ghost use Rattle.js_serve.specs.Asking.{asks, WantsEnd};
-ghost use Rattle.js_serve.specs.Readings.{IsRead};
+ghost use Rattle.js_kernels.specs.Readings.{IsRead};
 ghost use Rattle.js_serve.specs.declared.desk.ends.Delay.TheVariants.{Join};
 
 use super::Desk;

@@ -1,0 +1,10 @@
+pub mod Full
+pub mod Threads
+pub mod Watching
+pub mod Boards
+pub mod Crossing
+pub mod Hosting
+pub mod Readings
+pub mod Recorded
+pub mod Lives
+pub mod Reached

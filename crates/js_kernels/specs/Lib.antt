@@ -1,0 +1,10 @@
+pub mod Boards
+pub mod Recording
+pub mod Told
+pub mod Readings
+pub mod Hosting
+pub mod Watching
+pub mod Threads
+pub mod Parsers
+pub mod Events
+pub mod Lives
