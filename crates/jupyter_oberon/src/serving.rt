@@ -1,9 +1,9 @@
 //! The program as a server.
 
 use js_files::FileShelf;
+use js_kernels::{Parser, drive_kernel, parse};
 use js_paced::Selector;
 use js_page::page;
-use js_kernels::{Parser, drive_kernel, parse};
 use js_serve::{Desk, Job, Limits, close_desk, work};
 use ob_language::Oberon;
 use std::alloc::Global;
