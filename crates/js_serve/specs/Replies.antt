@@ -24,17 +24,17 @@ use Rattle.js_serve.specs.declared.call.Reply.{Reply}
 use Rattle.js_serve.specs.declared.call.Reply.TheVariants.{Response, Shown, Last, Channel, Page}
 use Rattle.js_serve.specs.declared.call.Upgrade.{Upgrade}
 
--- The step for this request came to this, over some tables, kernels and files, as they were before it and after it. F are the shelves, and `contents` is what one
--- tells. What concerns neither contents nor a new session is so whatever the shelf tells.
-pub record CameTo {F : Type 0} (contents : F → Option Contents) (request : Request) (what : Outcome) : Type 0 where
+-- The step for this request came to this, over some tables, kernels and files, as they were before it and after it, as far as a shelf tells these. What concerns
+-- neither contents nor a new session is so whatever it tells.
+pub record CameTo (request : Request) (what : Outcome) : Type 0 where
   pub given : Given
   pub before : Rows
   pub after : Rows
   pub ran : List KernelState
   pub run : List KernelState
-  pub old : F
-  pub new : F
-  pub shelf : shelves.Tells (contents old) (contents new) (Steps kernels.Begins kernels.Tells given request before after ran run what)
+  pub old : Option Contents
+  pub new : Option Contents
+  pub shelf : shelves.Tells old new (Steps kernels.Begins kernels.Tells given request before after ran run what)
   pub alone : StepsAlone kernels.Begins kernels.Tells (route_of (path_of request)) given request before after ran run what
 
 -- memory or a thread was refused; or all places are lent, or the server stops
@@ -45,44 +45,43 @@ IsUnserved r = (r ≡ response.Refused status.InternalServerError) ⊎ (r ≡ re
 abbrev pub IsSwitch : Request → HttpResponse → Type 0
 IsSwitch request r = (key : List ℕ) × IsHandshake request key × (r ≡ switch_for key (protocol_of request))
 
-module _ {F : Type 0} (contents : F → Option Contents) where
-  -- an end was asked for: it is a DELETE, or the step came to this that a kernel ends
-  abbrev pub AsksEnd : Request → Type 0
-  AsksEnd request = (request.method ≡ Delete) ⊎ ((id : List ℕ) × CameTo contents request (outcome.Answered (answer.Ends id)))
+-- an end was asked for: it is a DELETE, or the step came to this that a kernel ends
+abbrev pub AsksEnd : Request → Type 0
+AsksEnd request = (request.method ≡ Delete) ⊎ ((id : List ℕ) × CameTo request (outcome.Answered (answer.Ends id)))
 
-  -- the channels of a kernel were asked for; and that by a handshake, or by none
-  abbrev pub AsksChannels : Request → Type 0
-  AsksChannels request = (id : List ℕ) × CameTo contents request (outcome.Answered (answer.Channels id))
+-- the channels of a kernel were asked for; and that by a handshake, or by none
+abbrev pub AsksChannels : Request → Type 0
+AsksChannels request = (id : List ℕ) × CameTo request (outcome.Answered (answer.Channels id))
 
-  abbrev pub HasHandshake : Request → Type 0
-  HasHandshake request = AsksChannels request × ((key : List ℕ) × IsHandshake request key)
+abbrev pub HasHandshake : Request → Type 0
+HasHandshake request = AsksChannels request × ((key : List ℕ) × IsHandshake request key)
 
-  abbrev pub LacksHandshake : Request → Type 0
-  LacksHandshake request = AsksChannels request × ((key : List ℕ) → ¬ (IsHandshake request key))
+abbrev pub LacksHandshake : Request → Type 0
+LacksHandshake request = AsksChannels request × ((key : List ℕ) → ¬ (IsHandshake request key))
 
-  -- It is the response that the step came to, the 204 of an end, the 400 of a request for channels that is no handshake, the 404 of one that is (where the
-  -- kernel has ended since), or a refusal of 500 or 503. Why it is refused is not said.
-  abbrev pub IsResponse : Request → HttpResponse → Type 0
-  IsResponse request r =
-      CameTo contents request (outcome.Answered (answer.Reply r))
-      ⊎ (((r ≡ response.NoContent) × AsksEnd request)
-      ⊎ (((r ≡ response.Refused status.BadRequest) × LacksHandshake request)
-      ⊎ (((r ≡ response.Refused status.NotFound) × HasHandshake request)
-      ⊎ IsUnserved r)))
+-- It is the response that the step came to, the 204 of an end, the 400 of a request for channels that is no handshake, the 404 of one that is (where the
+-- kernel has ended since), or a refusal of 500 or 503. Why it is refused is not said.
+abbrev pub IsResponse : Request → HttpResponse → Type 0
+IsResponse request r =
+    CameTo request (outcome.Answered (answer.Reply r))
+    ⊎ (((r ≡ response.NoContent) × AsksEnd request)
+    ⊎ (((r ≡ response.Refused status.BadRequest) × LacksHandshake request)
+    ⊎ (((r ≡ response.Refused status.NotFound) × HasHandshake request)
+    ⊎ IsUnserved r)))
 
-  module _ {L S T M : Type 0} where
-    -- the switch of protocols, and a place at the kernel whose channels are asked for
-    abbrev pub Switches : Request → HttpResponse → Upgrade L S T M → Type 0
-    Switches request r upgrade =
-        CameTo contents request (outcome.Answered (answer.Channels upgrade.names.session))
-        × IsSwitch request r
-        × (upgrade.names.protocol ≡ protocol_of request)
-        × ((running : List KernelState) × IsPlaceAt upgrade.names.session running upgrade.place)
+module _ {L S T M : Type 0} where
+  -- the switch of protocols, and a place at the kernel whose channels are asked for
+  abbrev pub Switches : Request → HttpResponse → Upgrade L S T M → Type 0
+  Switches request r upgrade =
+      CameTo request (outcome.Answered (answer.Channels upgrade.names.session))
+      × IsSwitch request r
+      × (upgrade.names.protocol ≡ protocol_of request)
+      × ((running : List KernelState) × IsPlaceAt upgrade.names.session running upgrade.place)
 
-    -- a reply to a request
-    abbrev pub IsReply : Request → Reply L S T M → Type 0
-    IsReply request (Response r) = IsResponse request r
-    IsReply request (Shown about opening) = CameTo contents request (outcome.Shown about opening)
-    IsReply request (Last r) = CameTo contents request (outcome.Answered answer.Stops) × (r ≡ response.Success (codes "{}"))
-    IsReply request (Channel r upgrade) = Switches request r upgrade
-    IsReply request Page = CameTo contents request (outcome.Answered answer.Page)
+  -- a reply to a request
+  abbrev pub IsReply : Request → Reply L S T M → Type 0
+  IsReply request (Response r) = IsResponse request r
+  IsReply request (Shown about opening) = CameTo request (outcome.Shown about opening)
+  IsReply request (Last r) = CameTo request (outcome.Answered answer.Stops) × (r ≡ response.Success (codes "{}"))
+  IsReply request (Channel r upgrade) = Switches request r upgrade
+  IsReply request Page = CameTo request (outcome.Answered answer.Page)

@@ -7,14 +7,14 @@ ghost use Rattle.js_serve.specs.declared.call.Reply.TheVariants.{Response as Res
 use crate::call::{Call, Reply};
 use crate::client::{Client, Made};
 use crate::crowd::Guest;
+use crate::question::Question;
 use jk_language::Language;
 use js_desk::{Asker, Askers, Cause};
 use js_http::{ErrorStatus, Response};
 use js_rest::ReadRequest;
-use js_shelf::Shelf;
 use std::sync::Wait;
 
-impl<L: Language, S: Shelf> Asker for Client<L, S> {
+impl<L: Language> Asker for Client<L> {
     type Request = ReadRequest;
 
     type Reply = Reply<L>;
@@ -23,15 +23,14 @@ impl<L: Language, S: Shelf> Asker for Client<L, S> {
 
     ghost asks = { λ client request. spec.asks request client };
 
-    ghost replies = { λ client reply. spec.Replies S.contents reply client };
+    ghost replies = { λ client reply. spec.Replies reply client };
 
-    ghost comes = { λ client made. spec.Responds S.contents made.response client };
+    ghost comes = { λ client made. spec.Responds made.response client };
 
-    ghost ends = { λ client. spec.WantsEnd S.contents client };
+    ghost ends = { λ client. spec.WantsEnd client };
 
     fn reply<R: Wait>(self, rt: &R, reply: Reply<L>) {
-        let sender = self.into_sender();
-        let _ = sender.send(rt, reply);
+        self.give(rt, reply);
     }
 
     fn dismiss<R: Wait>(self, rt: &R, cause: Cause) {
@@ -68,9 +67,9 @@ pub(crate) enum Matter {
 }
 
 /// Takes a call. Whoever asks by it is among those who asked, and is to be answered now; the request that goes on is what that one asked.
-pub(crate) fn admit<L: Language, S: Shelf, R: Wait>(
+pub(crate) fn admit<L: Language, R: Wait>(
     rt: &R,
-    clients: &mut Askers<Client<L, S>>,
+    clients: &mut Askers<Client<L>>,
     call: Call<L>,
 ) -> Matter
     ensures admits { spec.Admits call clients.old clients.new }
@@ -78,8 +77,9 @@ pub(crate) fn admit<L: Language, S: Shelf, R: Wait>(
 {
     match call {
         Call::Accepted(guest) => Matter::Accepted(guest),
-        Call::Asked(request, sender) => {
-            clients.ask(rt, Client::new(sender, request.request()));
+        Call::Asked(question) => {
+            let Question { request, client } = question;
+            clients.ask(rt, client);
             Matter::Asked(request)
         }
         Call::Back => Matter::Back,

@@ -1,12 +1,11 @@
 //! What threads tell the desk, and what it answers.
 
 use crate::crowd::Guest;
-use crossbeam_channel::Sender;
+use crate::question::Question;
 use jk_language::Language;
 use js_http::Response;
 use js_kernels::Place;
 use js_paced::Selector;
-use js_rest::ReadRequest;
 use js_shelf::Opening;
 use js_tables::About;
 use js_ws::Names;
@@ -39,8 +38,8 @@ pub enum Reply<L: Language> {
 pub enum Call<L: Language> {
     /// A connection was accepted.
     Accepted(Guest),
-    /// A request was read. Its reply goes to the sender.
-    Asked(ReadRequest, Sender<Reply<L>>),
+    /// A request was read, and is asked.
+    Asked(Question<L>),
     /// A channel was closed, and has given its place back.
     Back,
     /// The last response was written.

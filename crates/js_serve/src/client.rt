@@ -1,21 +1,25 @@
 //! Who asks the desk, and what the desk has of each.
-ghost use Rattle.std.specs.Prelude.{◌≡◌, [], ◌∷◌, length};
+ghost use Rattle.std.specs.Prelude.{◌≡◌, length};
+ghost use Rattle.js_lend.specs.Ends.{lent_by};
+ghost use Rattle.js_serve.specs.Sets.{same_requests};
 
 use crate::call::Reply;
+use crate::exchange::Exchange;
 use crossbeam_channel::{Receiver, Sender};
 use jk_language::Language;
-use js_http::{Request, Response};
+use js_http::Response;
 use js_kernels::Opened;
-use past::Past;
-use std::marker::PhantomData;
+use js_lend::Lease;
+use std::sync::Wait;
 
-/// One who has asked the desk, to whom one reply goes. What it asked clauses alone see. S are the shelves over which it is answered.
+/// One who has asked the desk, to whom one reply goes: the exchange that it lent for its request, which goes back with the reply, and
+/// what wakes it then.
 #[derive(Drop)]
-pub struct Client<L: Language, S> {
-    sender: Sender<Reply<L>>,
-    asked: Past<Request>,
-    shelf: PhantomData<S>,
-    ghost once: { length asked.items ≡ 1 },
+pub struct Client<L: Language> {
+    lease: Lease<Exchange<L>>,
+    wake: Sender<()>,
+    ghost same: { lease.value.asked.items ≡ (lent_by lease.back).asked.items } by { same_requests _ _ },
+    ghost once: { length (lent_by lease.back).asked.items ≡ 1 },
 }
 
 /// What comes of a kernel that is made: its ends, and the response of whoever asked for it.
@@ -25,28 +29,25 @@ pub struct Made<L: Language> {
     pub(crate) response: Response,
 }
 
-impl<L: Language, S> Client<L, S> {
-    /// One who asks this, and is replied by the sender.
-    pub(crate) fn new(sender: Sender<Reply<L>>, request: &Request) -> Client<L, S>
-        ensures sender { result.sender ≡ sender }
-        ensures asked { result.asked.items ≡ request.now ∷ [] }
+impl<L: Language> Client<L> {
+    ghost use Rattle.js_serve.specs.Asking.{Replies};
+
+    /// One who has lent this exchange.
+    pub(crate) fn new(lease: Lease<Exchange<L>>, wake: Sender<()>) -> Client<L>
+        requires same { lent_by lease.back ≡ lease.value }
+        requires once { length lease.value.asked.items ≡ 1 }
+        ensures { result.lease ≡ lease }
     {
-        Client {
-            sender,
-            asked: Past::new().and(request),
-            shelf: PhantomData,
-        }
+        Client { lease, wake }
     }
 
-    /// What sends the reply.
-    pub(crate) fn into_sender(self) -> Sender<Reply<L>>
-        ensures { result ≡ self.sender }
+    /// Gives the exchange back with a reply to what was asked in it, and wakes whoever lent it.
+    pub(crate) fn give<R: Wait>(self, rt: &R, reply: Reply<L>)
+        requires { Replies reply self }
     {
-        let Client {
-            sender,
-            asked: _,
-            shelf: _,
-        } = self;
-        sender
+        let Client { lease, wake } = self;
+        let Lease { value, back } = lease;
+        back.give(rt, value.with_reply(reply));
+        let _ = wake.send(rt, ());
     }
 }

@@ -1,4 +1,12 @@
 //! One connection: a request and its response, or a channel.
+ghost use Rattle.std.specs.Prelude.{◌≡◌, IfSome};
+ghost use Rattle.js_http.specs.declared.response.Response.TheVariants.{Page, Refused};
+ghost use Rattle.js_http.specs.declared.response.ErrorStatus.TheVariants.{InternalServerError};
+ghost use Rattle.js_http.specs.declared.request.Request.{Request};
+ghost use Rattle.js_http.specs.declared.response.Response.{Response};
+ghost use Rattle.js_serve.specs.Answered.{IsAnswered, OrFails, ShowsFile};
+ghost use Rattle.js_serve.specs.Replies.{IsReply};
+ghost use Rattle.js_serve.specs.Served.{IsServed};
 
 use crate::call::{Call, Reply, Upgrade};
 use crate::channel::{Line, serve_channel};
@@ -6,7 +14,8 @@ use crate::crowd::{Crowd, Guest, Turned};
 use crate::limits::Limits;
 use crate::telling::tell;
 use crate::turns::Turns;
-use crossbeam_channel::{Sender, bounded};
+use crate::waiting::ask_by;
+use crossbeam_channel::Sender;
 use jk_language::Language;
 use js_http::{ErrorStatus, Request, Response, Served, Stream, Text, serve_one, write_response};
 use js_paced::{Limited, end_of_answer};
@@ -14,10 +23,11 @@ use js_rest::{Outcome, ReadRequest, finish};
 use js_shelf::Opening;
 use js_tables::{About, Answer};
 use std::alloc::Global;
+use std::io::{Read, Write};
 use std::net::{Shutdown, TcpListener, TcpStream};
 use std::sync::Wait;
-use std::thread;
 use std::time::{Clock, Duration};
+use std::{io, thread};
 
 /// How many milliseconds pass before the acceptor goes on where the system or memory refused something.
 const PAUSE: u64 = 10;
@@ -91,8 +101,12 @@ enum Next<L: Language> {
 
 /// Who answers the request of a connection.
 trait Answers {
+    /// This response answers a request, and this is who answers afterwards.
+    ghost answers: { Self → Request → Response → Self → Type 0 };
+
     /// The response to a request.
-    fn answer(&mut self, request: Request) -> Response;
+    fn answer(&mut self, request: Request) -> Response
+        ensures { answers self.old request result self.new };
 }
 
 /// Makes what a PUT puts, asks the desk, and keeps what is done once the response was written.
@@ -107,6 +121,8 @@ struct Asking<'a, L: Language, R> {
 }
 
 impl<L: Language, R: Wait> Answers for Asking<'_, L, R> {
+    ghost answers = { λ old request response new. IsAnswered old.page.now request response new.next };
+
     fn answer(&mut self, request: Request) -> Response {
         let request = self.turns.read(self.rt, self.alloc, request);
         let (response, next) = answer_to(self.rt, self.alloc, self.calls, request, self.page);
@@ -162,7 +178,18 @@ fn serve_request<R: Clock + Copy + Drop, A: Answers>(
     let reader = Limited::new(*rt, stream, limits.request, limits.write).ok()?;
     let writer = Limited::new(*rt, stream, limits.request, limits.write).ok()?;
     let mut halves = Stream { reader, writer };
-    serve_one(alloc, &mut halves, |request| asking.answer(request)).ok()
+    answer_one(alloc, &mut halves, asking).ok()
+}
+
+/// Reads one request of a stream, and writes the response that is answered to it, or that of its refusal.
+fn answer_one<I: Read, O: Write, A: Answers>(
+    alloc: Global,
+    stream: &mut Stream<I, O>,
+    asking: &mut A,
+) -> io::Result<Served>
+    ensures { IsServed I.remaining O.contents (A.answers asking.old) stream.old stream.new result }
+{
+    serve_one(alloc, stream, |request| asking.answer(request))
 }
 
 /// Whether a refusal was answered before the request was read. What still comes of such a request is read and dropped, so that the
@@ -204,7 +231,9 @@ fn answer_to<L: Language, R: Wait>(
     calls: &Sender<Call<L>>,
     request: ReadRequest,
     page: &str,
-) -> (Response, Next<L>) {
+) -> (Response, Next<L>)
+    ensures { IsAnswered page.now request result.0 result.1 }
+{
     match ask(rt, alloc, calls, request) {
         Some(Reply::Response(response)) => (response, Next::End),
         Some(Reply::Shown(about, opening)) => (shown(alloc, about, opening), Next::End),
@@ -216,7 +245,9 @@ fn answer_to<L: Language, R: Wait>(
 }
 
 /// The response that has the page.
-fn page_response(alloc: Global, page: &str) -> Response {
+fn page_response(alloc: Global, page: &str) -> Response
+    ensures { OrFails result (result ≡ Page page.now) }
+{
     match String::from_str(alloc, page) {
         Ok(page) => Response::Page(Text::from(page)),
         Err(_) => failed(),
@@ -224,12 +255,16 @@ fn page_response(alloc: Global, page: &str) -> Response {
 }
 
 /// The response where memory was refused.
-fn failed() -> Response {
+fn failed() -> Response
+    ensures { result ≡ Refused InternalServerError }
+{
     Response::Refused(ErrorStatus::InternalServerError)
 }
 
 /// The response that shows a file, which is read here: other requests are answered meanwhile.
-fn shown(alloc: Global, about: About, opening: Opening) -> Response {
+fn shown(alloc: Global, about: About, opening: Opening) -> Response
+    ensures { OrFails result (ShowsFile about opening result) }
+{
     match finish(alloc, Outcome::Shown(about, opening)) {
         Answer::Reply(response) => response,
         _ => failed(),
@@ -242,10 +277,12 @@ fn ask<L: Language, R: Wait>(
     alloc: Global,
     calls: &Sender<Call<L>>,
     request: ReadRequest,
-) -> Option<Reply<L>> {
-    let (sender, receiver) = bounded(alloc, 1).ok()?;
-    if calls.send(rt, Call::Asked(request, sender)).is_err() {
+) -> Option<Reply<L>>
+    ensures { IfSome result (IsReply request) }
+{
+    let (question, waiting) = ask_by(rt, alloc, request)?;
+    if calls.send(rt, Call::Asked(question)).is_err() {
         return None;
     }
-    receiver.recv(rt).ok()
+    waiting.wait(rt)
 }

@@ -52,7 +52,7 @@ pub struct Desk<L: Language, R: Wait + Drop, S: Shelf + Drop> {
     sender: Sender<Call<L>>,
     calls: Receiver<Call<L>>,
     /// All who have asked, each of whom was answered once or waits.
-    clients: Askers<Client<L, S>>,
+    clients: Askers<Client<L>>,
     /// What is to be started next, the last one first.
     jobs: Vec<Job<L>>,
     /// Where the thread that calls for recorders is told how long it pauses, in milliseconds. There is none where that thread could
@@ -175,7 +175,7 @@ where
 
     /// Answers whoever is to be answered now, by a reply to what that one asked.
     fn send(&mut self, answer: Reply<L>)
-        requires { IfSome self.old.clients.turn (Replies S.contents answer) }
+        requires { IfSome self.old.clients.turn (Replies answer) }
     {
         self.clients.answer(&self.rt, answer);
     }
@@ -243,7 +243,7 @@ where
     fn step(&mut self, request: ReadRequest, given: &Given) -> (Request, Outcome)
         ensures same { self.new.clients ≡ self.old.clients }
         ensures request { result.0 ≡ request }
-        ensures came { CameTo S.contents request result.1 }
+        ensures came { CameTo request result.1 }
     {
         let (request, prepared) = request.into_parts();
         let outcome = self
@@ -256,7 +256,7 @@ where
     /// Replies as an answer says, which the step for this request came to.
     fn carry_on(&mut self, answer: Answer, request: &Request, given: &Given) -> Option<Job<L>>
         requires asked { IfSome self.old.clients.turn (asks request.now) }
-        requires came { CameTo S.contents request.now (Answered answer) }
+        requires came { CameTo request.now (Answered answer) }
     {
         match answer {
             Answer::Reply(response) => self.respond(response),
@@ -282,7 +282,7 @@ where
 
     /// Sends a response, or lets it wait for the kernel that was made.
     fn respond(&mut self, response: Response) -> Option<Job<L>>
-        requires { IfSome self.old.clients.turn (Responds S.contents response) }
+        requires { IfSome self.old.clients.turn (Responds response) }
     {
         match self.manager.running.take_unopened() {
             Some(unopened) => {
@@ -306,7 +306,7 @@ where
     /// Waits for the ends of a new kernel, and sends the response that waits for them. Where none come the kernel is gone, and
     /// its row goes before the next answer.
     fn await_ends(&mut self, made: Made<L>)
-        requires { IfSome self.old.clients.turn (Responds S.contents made.response) }
+        requires { IfSome self.old.clients.turn (Responds made.response) }
     {
         let Made { opened, response } = made;
         if self.take_opened(&opened) {
@@ -331,9 +331,9 @@ where
 
     /// The reply where the channels of a kernel are asked for.
     fn channel_for(&mut self, request: &Request, id: Text, given: &Given) -> Reply<L>
-        requires { CameTo S.contents request.now (Answered (Channels id)) }
+        requires { CameTo request.now (Answered (Channels id)) }
         ensures same { self.new.clients ≡ self.old.clients }
-        ensures reply { IsReply S.contents request.now result }
+        ensures reply { IsReply request.now result }
     {
         match handshake(self.alloc, request) {
             Ok(response) => self.switch(request, id, given, response),
@@ -345,10 +345,10 @@ where
     /// The switch of protocols with a place at the kernel whose channels are asked for, or a refusal where there is none: 404 where
     /// the kernel has ended since it was looked up, and 503 where all places are lent.
     fn switch(&mut self, request: &Request, id: Text, given: &Given, response: Response) -> Reply<L>
-        requires came { CameTo S.contents request.now (Answered (Channels id)) }
+        requires came { CameTo request.now (Answered (Channels id)) }
         requires switch { IsSwitch request.now response }
         ensures same { self.new.clients ≡ self.old.clients }
-        ensures reply { IsReply S.contents request.now result }
+        ensures reply { IsReply request.now result }
     {
         let Ok(name) = given.second_id(self.alloc) else {
             return refused(ErrorStatus::InternalServerError);

@@ -74,7 +74,7 @@ where
 
     /// The kernel of that identifier was told to shut down. The reply waits until its recorder was told all that it shows.
     pub(super) fn end_later(&mut self, id: &str)
-        requires { IfSome self.old.clients.turn (WantsEnd S.contents) }
+        requires { IfSome self.old.clients.turn WantsEnd }
     {
         let _ = self.clients.begin_end(self.alloc, id);
         let now = Instant::now(&self.rt).ok();

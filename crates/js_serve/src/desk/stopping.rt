@@ -109,7 +109,7 @@ where
     /// The server was told to stop. Requests that wait are answered that it is not there for them. Where memory is refused, it
     /// goes on as before.
     pub(super) fn stop(&mut self)
-        requires { IfSome self.old.clients.turn (Replies S.contents (Last (Success (codes "{}")))) }
+        requires { IfSome self.old.clients.turn (Replies (Last (Success (codes "{}")))) }
     {
         let Ok(content) = nothing(self.alloc) else {
             self.refuse(ErrorStatus::InternalServerError);

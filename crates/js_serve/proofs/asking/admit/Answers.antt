@@ -1,5 +1,4 @@
 use Rattle.js_serve.proofs.asking.admit.Goals as goal
 
 pub returns-in-Asked-clause-admits : goal.returns-in-Asked-clause-admits
-returns-in-Asked-clause-admits g c =
-    rw c.in-Asked.is (c.new.result, c.new.ensures.sender, rw c.request.ensures at c.new.ensures.asked, c.ask.ensures)
+returns-in-Asked-clause-admits g c = rw c.in-Asked.is c.ask.ensures

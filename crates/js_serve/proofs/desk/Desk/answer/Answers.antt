@@ -6,7 +6,7 @@ use Rattle.js_serve.proofs.desk.Desk.answer.Goals as goal
 pub send-requires : goal.send-requires
 send-requires g c =
     rw (c.step-request.ensures.same, c.catch_up_on.ensures)
-    (answers g.S.Shelf.contents (reply.Shown c.in-Shown.about c.in-Shown.opening) c.args.request c.args.self.now.clients.turn c.requires (rw c.in-Shown.is at c.step-request.ensures.came))
+    (answers (reply.Shown c.in-Shown.about c.in-Shown.opening) c.args.request c.args.self.now.clients.turn c.requires (rw c.in-Shown.is at c.step-request.ensures.came))
 
 pub carry_on-requires : goal.carry_on-requires
 carry_on-requires g c = record {

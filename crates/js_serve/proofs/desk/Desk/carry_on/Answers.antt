@@ -7,23 +7,23 @@ use Rattle.js_serve.proofs.desk.Desk.carry_on.Goals as goal
 
 pub respond-requires : goal.respond-requires
 respond-requires g c =
-    responds g.S.Shelf.contents c.in-Reply.response c.args.request.now c.args.self.now.clients.turn c.requires.asked (inl (rw c.in-Reply.is at c.requires.came))
+    responds c.in-Reply.response c.args.request.now c.args.self.now.clients.turn c.requires.asked (inl (rw c.in-Reply.is at c.requires.came))
 
 pub channel_for-channel-requires : goal.channel_for-channel-requires
 channel_for-channel-requires g c = rw c.in-Channels.is at c.requires.came
 
 pub send-requires : goal.send-requires
 send-requires g c =
-    rw c.channel_for-channel.ensures.same (answers g.S.Shelf.contents c.channel_for-channel.result c.args.request.now c.args.self.now.clients.turn c.requires.asked c.channel_for-channel.ensures.reply)
+    rw c.channel_for-channel.ensures.same (answers c.channel_for-channel.result c.args.request.now c.args.self.now.clients.turn c.requires.asked c.channel_for-channel.ensures.reply)
 
 pub end_later-requires : goal.end_later-requires
 end_later-requires g c =
-    wants_end g.S.Shelf.contents c.args.request.now c.args.self.now.clients.turn c.requires.asked (inr (c.in-Ends.id, rw c.in-Ends.is at c.requires.came))
+    wants_end c.args.request.now c.args.self.now.clients.turn c.requires.asked (inr (c.in-Ends.id, rw c.in-Ends.is at c.requires.came))
 
 pub send-requires-in-Page : goal.send-requires-in-Page
 send-requires-in-Page g c =
-    answers g.S.Shelf.contents reply.Page c.args.request.now c.args.self.now.clients.turn c.requires.asked (rw c.in-Page.is at c.requires.came)
+    answers reply.Page c.args.request.now c.args.self.now.clients.turn c.requires.asked (rw c.in-Page.is at c.requires.came)
 
 pub stop-requires : goal.stop-requires
 stop-requires g c =
-    answers g.S.Shelf.contents (reply.Last (Success (codes "{}"))) c.args.request.now c.args.self.now.clients.turn c.requires.asked (rw c.in-Stops.is at c.requires.came, refl)
+    answers (reply.Last (Success (codes "{}"))) c.args.request.now c.args.self.now.clients.turn c.requires.asked (rw c.in-Stops.is at c.requires.came, refl)

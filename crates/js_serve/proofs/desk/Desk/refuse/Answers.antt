@@ -2,4 +2,4 @@ use Rattle.js_serve.proofs.Answering.{refuses}
 use Rattle.js_serve.proofs.desk.Desk.refuse.Goals as goal
 
 pub send-requires : goal.send-requires
-send-requires g c = rw c.refused.ensures (refuses g.S.Shelf.contents c.args.status c.args.self.now.clients.turn c.requires)
+send-requires g c = rw c.refused.ensures (refuses c.args.status c.args.self.now.clients.turn c.requires)
