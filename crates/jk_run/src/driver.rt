@@ -1,4 +1,4 @@
-//! What a driver holds.
+//! What a driver holds, and how it is made of its parts and taken apart.
 ghost use Rattle.std.specs.Prelude.{◌≡◌, ◌++◌, [], None};
 ghost use Rattle.jk_log.specs.Log.{takes};
 ghost use Rattle.jk_log.specs.Render.{render};

@@ -1,4 +1,5 @@
-//! Rounds of a driver.
+//! Rounds of a driver. A round takes the driver apart and makes it anew of its parts, since what a driver's type says of them holds
+//! before and after, and not while one has moved on.
 ghost use Rattle.std.specs.Prelude.{◌≡◌, ◌≢◌, ◌≤◌, [], true, None};
 ghost use Rattle.jk_log.specs.Legal.{IsLegal};
 ghost use Rattle.jk_core.specs.declared.kernel.Work.TheVariants.{NoMemory};

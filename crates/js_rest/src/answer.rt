@@ -1,4 +1,5 @@
-//! The answer to a request.
+//! The answer to a request. Each route has a function of its own beside its definition (`page` beside `page_plan` of specs/Answers), also
+//! where two of them differ in a word.
 ghost use Rattle.std.specs.Prelude.{◌≡◌, get_or, [], Some, IfOk};
 ghost use Rattle.js_http.specs.Origins.{is_own as is_own_request};
 ghost use Rattle.js_http.specs.Targets.{segments_of};
@@ -14,6 +15,7 @@ ghost use Rattle.js_tables.specs.Tables.{rows, no_rows, HasRoom};
 ghost use Rattle.js_tables.specs.declared.plan.Change.TheVariants as variant;
 
 use crate::contents::contents_aim;
+use crate::inputs::Inputs;
 use crate::opening::open;
 use crate::parts::{Outcome, Prepared, finish, prepare};
 use crate::route::{Route, find, routes};
@@ -281,25 +283,26 @@ fn tables_plan(
 /// What is to be done for a request on a route. The shelf is read and not changed.
 #[tactic(auto, using(crate::proofs::Telling::tells_same))]
 fn route_aim<S: Shelf>(
-    alloc: Global,
+    inputs: Inputs<'_>,
     route: Route,
-    tables: &Tables,
     shelf: &mut S,
-    given: &Given,
-    request: &Request,
     prepared: Prepared,
     segments: &[js_http::Bytes],
 ) -> Result<Aim, Refusal>
-    requires segments { segments.now ≡ segments_of (spec.path_of request.now) }
-    requires prepared { parts.IsPrepared request.now prepared }
+    requires segments { segments.now ≡ segments_of (spec.path_of inputs.entry.request.now) }
+    requires prepared { parts.IsPrepared inputs.entry.request.now prepared }
     ensures shelf { Tells (S.contents shelf.old) (S.contents shelf.new)
-        (parts.AimsOn route (rows tables.now) given.now request.now result) }
-    ensures alone { Comes (spec.IsFoundAlone (Some route) (rows tables.now) given.now request.now) result }
+        (parts.AimsOn route (rows inputs.entry.tables.now) inputs.entry.given.now inputs.entry.request.now result) }
+    ensures alone { Comes (spec.IsFoundAlone (Some route) (rows inputs.entry.tables.now) inputs.entry.given.now inputs.entry.request.now) result }
 {
+    let Inputs {
+        alloc,
+        tables,
+        given,
+        request,
+    } = inputs;
     match route {
-        Route::Contents => {
-            contents_aim(alloc, tables, shelf, given, request, segments, prepared)
-        }
+        Route::Contents => contents_aim(inputs, shelf, prepared, segments),
         Route::Sessions => planned(all_sessions(alloc, tables, shelf, given, request)),
         _ => planned(tables_plan(alloc, route, tables, given, request, segments)),
     }
@@ -308,55 +311,44 @@ fn route_aim<S: Shelf>(
 /// What is to be done for a request by its path. The shelf is read and not changed.
 #[tactic(auto, using(crate::proofs::Telling::tells_same, crate::proofs::Failing::found_failed, crate::proofs::Failing::found_failed_alone))]
 fn path_aim<S: Shelf>(
-    alloc: Global,
+    inputs: Inputs<'_>,
     router: &Router<Route>,
-    tables: &Tables,
     shelf: &mut S,
-    given: &Given,
-    request: &Request,
     prepared: Prepared,
 ) -> Result<Aim, Refusal>
     requires routed { router.now ≡ table }
-    requires prepared { parts.IsPrepared request.now prepared }
+    requires prepared { parts.IsPrepared inputs.entry.request.now prepared }
     ensures shelf { Tells (S.contents shelf.old) (S.contents shelf.new)
-        (parts.AimsAt (route_of (spec.path_of request.now)) (rows tables.now) given.now request.now result) }
-    ensures alone { Comes (spec.IsFoundAlone (route_of (spec.path_of request.now)) (rows tables.now) given.now request.now) result }
+        (parts.AimsAt (route_of (spec.path_of inputs.entry.request.now)) (rows inputs.entry.tables.now) inputs.entry.given.now inputs.entry.request.now result) }
+    ensures alone { Comes (spec.IsFoundAlone (route_of (spec.path_of inputs.entry.request.now)) (rows inputs.entry.tables.now) inputs.entry.given.now inputs.entry.request.now) result }
 {
-    let segments = path_segments(alloc, request.path())?;
+    let request = inputs.request;
+    let segments = path_segments(inputs.alloc, request.path())?;
     match find(router, request.path()) {
         None => Err(Refusal::Status(ErrorStatus::NotFound)),
-        Some(route) => route_aim(
-            alloc,
-            route,
-            tables,
-            shelf,
-            given,
-            request,
-            prepared,
-            segments.as_slice(),
-        ),
+        Some(route) => route_aim(inputs, route, shelf, prepared, segments.as_slice()),
     }
 }
 
 /// What is to be done for a request. The shelf is read and not changed.
 #[tactic(auto, using(crate::proofs::Telling::tells_same))]
 fn find_aim<S: Shelf>(
-    alloc: Global,
+    inputs: Inputs<'_>,
     router: &Router<Route>,
-    tables: &Tables,
     shelf: &mut S,
-    given: &Given,
-    request: &Request,
     prepared: Prepared,
 ) -> Result<Aim, Refusal>
     requires routed { router.now ≡ table }
-    requires prepared { parts.IsPrepared request.now prepared }
+    requires prepared { parts.IsPrepared inputs.entry.request.now prepared }
     ensures shelf { Tells (S.contents shelf.old) (S.contents shelf.new)
-        (parts.Aims (rows tables.now) given.now request.now result) }
-    ensures alone { Comes (spec.IsFoundAloneIf (is_own_request request.now.headers) (route_of (spec.path_of request.now)) (rows tables.now) given.now request.now) result }
+        (parts.Aims (rows inputs.entry.tables.now) inputs.entry.given.now inputs.entry.request.now result) }
+    ensures alone { Comes
+        (spec.IsFoundAloneIf (is_own_request inputs.entry.request.now.headers) (route_of (spec.path_of inputs.entry.request.now)) (rows inputs.entry.tables.now) inputs.entry.given.now inputs.entry.request.now)
+        result }
 {
+    let request = inputs.request;
     if is_own(&request.headers) {
-        path_aim(alloc, router, tables, shelf, given, request, prepared)
+        path_aim(inputs, router, shelf, prepared)
     } else {
         Err(Refusal::Status(ErrorStatus::Forbidden))
     }
@@ -416,15 +408,13 @@ impl<L: Running> Manager<L> {
         // What concerns neither contents nor a new session comes to this whatever the shelf tells.
         ensures alone { parts.StepsAlone L.begins L.tells (route_of (spec.path_of request.now)) given.now request.now (rows self.old.tables) (rows self.new.tables) self.old.running self.new.running result }
     {
-        match find_aim(
+        let inputs = Inputs {
             alloc,
-            &self.router,
-            &self.tables,
-            shelf,
+            tables: &self.tables,
             given,
             request,
-            prepared,
-        ) {
+        };
+        match find_aim(inputs, &self.router, shelf, prepared) {
             Ok(aim) => match aim {
                 Aim::Plan(plan) => Outcome::Answered(self.carry_out(alloc, shelf, plan)),
                 Aim::File(about, opening) => Outcome::Shown(about, opening),

@@ -7,9 +7,10 @@ ghost use Rattle.js_rest.specs.Answers.{path_of};
 ghost use Rattle.js_rest.specs.Contents as spec;
 ghost use Rattle.js_rest.specs.Parts.{IsPrepared};
 
+use crate::inputs::Inputs;
 use crate::parts::Prepared;
 use js_contents::{Aim, planned, put_plan, read_aim, remove_plan};
-use js_http::{Bytes, ErrorStatus, Method, Request};
+use js_http::{Bytes, ErrorStatus, Method};
 use js_names::{rename_plan, untitled_plan};
 use js_shelf::Shelf;
 use js_tables::{Given, Plan, Refusal, Tables};
@@ -38,18 +39,21 @@ fn prepared_plan<S: Shelf>(
 /// What is to be done for a request on contents, by the segments of its path, whose first three are empty, `api` and `contents`.
 /// The shelf is read and not changed.
 pub(crate) fn contents_aim<S: Shelf>(
-    alloc: Global,
-    tables: &Tables,
+    inputs: Inputs<'_>,
     shelf: &mut S,
-    given: &Given,
-    request: &Request,
-    segments: &[Bytes],
     prepared: Prepared,
+    segments: &[Bytes],
 ) -> Result<Aim, Refusal>
-    requires segments { segments.now ≡ segments_of (path_of request.now) }
-    requires prepared { IsPrepared request.now prepared }
-    ensures { Tells (S.contents shelf.old) (S.contents shelf.new) (spec.Aims (rows tables.now) given.now request.now segments.now result) }
+    requires segments { segments.now ≡ segments_of (path_of inputs.entry.request.now) }
+    requires prepared { IsPrepared inputs.entry.request.now prepared }
+    ensures { Tells (S.contents shelf.old) (S.contents shelf.new) (spec.Aims (rows inputs.entry.tables.now) inputs.entry.given.now inputs.entry.request.now segments.now result) }
 {
+    let Inputs {
+        alloc,
+        tables,
+        given,
+        request,
+    } = inputs;
     match request.method {
         Method::Get => read_aim(alloc, tables, shelf, request, segments),
         Method::Put => planned(prepared_plan(alloc, tables, shelf, given, prepared)),

@@ -4,6 +4,7 @@
 
 mod answer;
 mod contents;
+mod inputs;
 mod kernels;
 mod opening;
 mod parts;

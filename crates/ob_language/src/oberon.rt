@@ -1,4 +1,5 @@
-//! The language that a kernel runs.
+//! The language that a kernel runs. Each call of the trait goes to the function of ob_cell or ob_load that does it, as those of
+//! test_language go to its own.
 
 use jk_language::{Begun, Language, Refused, Turned};
 use ob_cell::Tree;

@@ -12,9 +12,9 @@ use Rattle.js_rest.proofs.answer.find_aim.Goals as goal
 
 pub returns-then-is_own-clause-shelf : goal.returns-then-is_own-clause-shelf
 returns-then-is_own-clause-shelf g c =
-    let r = rows c.args.tables.now in
-    let given = c.args.given.now in
-    let request = c.args.request.now in
+    let r = rows c.args.inputs.tables.now in
+    let given = c.args.inputs.given.now in
+    let request = c.args.inputs.request.now in
     let found = c.path_aim.result in
     let e : is_own request.headers ≡ true = cc (c.is_own.ensures, c.if-is_own.true) in
     tells_weaker (g.S.Shelf.contents c.args.shelf.now) (g.S.Shelf.contents c.path_aim.new.shelf)
@@ -23,20 +23,20 @@ returns-then-is_own-clause-shelf g c =
 
 pub returns-then-is_own-clause-alone : goal.returns-then-is_own-clause-alone
 returns-then-is_own-clause-alone g c =
-    let request = c.args.request.now in
+    let request = c.args.inputs.request.now in
     let e : is_own request.headers ≡ true = cc (c.is_own.ensures, c.if-is_own.true) in
-    own_alone (route_of (path_of request)) (rows c.args.tables.now) c.args.given.now request c.path_aim.result e c.path_aim.ensures.alone
+    own_alone (route_of (path_of request)) (rows c.args.inputs.tables.now) c.args.inputs.given.now request c.path_aim.result e c.path_aim.ensures.alone
 
 pub returns-else-is_own-clause-shelf : goal.returns-else-is_own-clause-shelf
 returns-else-is_own-clause-shelf g c =
-    let r = rows c.args.tables.now in
-    let given = c.args.given.now in
-    let request = c.args.request.now in
+    let r = rows c.args.inputs.tables.now in
+    let given = c.args.inputs.given.now in
+    let request = c.args.inputs.request.now in
     let e : is_own request.headers ≡ false = cc (c.is_own.ensures, c.if-is_own.false) in
     tells_same (g.S.Shelf.contents c.args.shelf.now) (Aims r given request (Err (Status Forbidden))) (aims_foreign r given request e)
 
 pub returns-else-is_own-clause-alone : goal.returns-else-is_own-clause-alone
 returns-else-is_own-clause-alone g c =
-    let request = c.args.request.now in
+    let request = c.args.inputs.request.now in
     let e : is_own request.headers ≡ false = cc (c.is_own.ensures, c.if-is_own.false) in
-    foreign_alone (route_of (path_of request)) (rows c.args.tables.now) c.args.given.now request e
+    foreign_alone (route_of (path_of request)) (rows c.args.inputs.tables.now) c.args.inputs.given.now request e

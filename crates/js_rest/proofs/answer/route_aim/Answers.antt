@@ -14,9 +14,9 @@ use Rattle.js_rest.proofs.answer.route_aim.Goals as goal
 
 pub returns-in-Contents-clause-shelf : goal.returns-in-Contents-clause-shelf
 returns-in-Contents-clause-shelf g c =
-    let r = rows c.args.tables.now in
-    let given = c.args.given.now in
-    let request = c.args.request.now in
+    let r = rows c.args.inputs.tables.now in
+    let given = c.args.inputs.given.now in
+    let request = c.args.inputs.request.now in
     let done = c.contents_aim.result in
     let old = g.S.Shelf.contents c.args.shelf.now in
     let new = g.S.Shelf.contents c.contents_aim.new.shelf in
@@ -26,15 +26,15 @@ returns-in-Contents-clause-shelf g c =
 
 pub returns-in-Contents-clause-alone : goal.returns-in-Contents-clause-alone
 returns-in-Contents-clause-alone g c =
-    let r = rows c.args.tables.now in
-    subst (λ (x : Route). Comes (IsFoundAlone (Some x) r c.args.given.now c.args.request.now) c.contents_aim.result) (sym c.in-Contents.is)
-    (any_alone r c.args.given.now c.args.request.now c.contents_aim.result)
+    let r = rows c.args.inputs.tables.now in
+    subst (λ (x : Route). Comes (IsFoundAlone (Some x) r c.args.inputs.given.now c.args.inputs.request.now) c.contents_aim.result) (sym c.in-Contents.is)
+    (any_alone r c.args.inputs.given.now c.args.inputs.request.now c.contents_aim.result)
 
 pub returns-in-Sessions-clause-shelf : goal.returns-in-Sessions-clause-shelf
 returns-in-Sessions-clause-shelf g c =
-    let r = rows c.args.tables.now in
-    let given = c.args.given.now in
-    let request = c.args.request.now in
+    let r = rows c.args.inputs.tables.now in
+    let given = c.args.inputs.given.now in
+    let request = c.args.inputs.request.now in
     let found = c.all_sessions.result in
     let done = c.planned.result in
     let old = g.S.Shelf.contents c.args.shelf.now in
@@ -44,17 +44,17 @@ returns-in-Sessions-clause-shelf g c =
 
 pub returns-in-Sessions-clause-alone : goal.returns-in-Sessions-clause-alone
 returns-in-Sessions-clause-alone g c =
-    let r = rows c.args.tables.now in
-    let given = c.args.given.now in
-    let request = c.args.request.now in
+    let r = rows c.args.inputs.tables.now in
+    let given = c.args.inputs.given.now in
+    let request = c.args.inputs.request.now in
     subst (λ (x : Route). Comes (IsFoundAlone (Some x) r given request) c.planned.result) (sym c.in-Sessions.is)
     (comes_planned (IsFoundAlone (Some route.Sessions) r given request) c.all_sessions.result c.planned.result c.planned.ensures c.all_sessions.ensures.alone)
 
 pub returns-in_default-clause-shelf : goal.returns-in_default-clause-shelf
 returns-in_default-clause-shelf g c =
-    let r = rows c.args.tables.now in
-    let given = c.args.given.now in
-    let request = c.args.request.now in
+    let r = rows c.args.inputs.tables.now in
+    let given = c.args.inputs.given.now in
+    let request = c.args.inputs.request.now in
     let found = c.tables_plan.result in
     let done = c.planned-in_default.result in
     let which = c.args.route in
@@ -67,9 +67,9 @@ returns-in_default-clause-shelf g c =
 
 pub returns-in_default-clause-alone : goal.returns-in_default-clause-alone
 returns-in_default-clause-alone g c =
-    let r = rows c.args.tables.now in
-    let given = c.args.given.now in
-    let request = c.args.request.now in
+    let r = rows c.args.inputs.tables.now in
+    let given = c.args.inputs.given.now in
+    let request = c.args.inputs.request.now in
     let found = c.tables_plan.result in
     comes_planned (IsFoundAlone (Some c.args.route) r given request) found c.planned-in_default.result c.planned-in_default.ensures
     (tables_alone c.args.route r given request found c.in_default.not-Contents c.in_default.not-Sessions c.tables_plan.ensures)
