@@ -289,8 +289,8 @@ fn route_aim<S: Shelf>(
     prepared: Prepared,
     segments: &[js_http::Bytes],
 ) -> Result<Aim, Refusal>
-    requires segments { segments.now ≡ segments_of (spec.path_of inputs.entry.request.now) }
-    requires prepared { parts.IsPrepared inputs.entry.request.now prepared }
+    requires segments { segments.now ≡ segments_of (spec.path_of inputs.request.now) }
+    requires prepared { parts.IsPrepared inputs.request.now prepared }
     ensures shelf { Tells (S.contents shelf.old) (S.contents shelf.new)
         (parts.AimsOn route (rows inputs.entry.tables.now) inputs.entry.given.now inputs.entry.request.now result) }
     ensures alone { Comes (spec.IsFoundAlone (Some route) (rows inputs.entry.tables.now) inputs.entry.given.now inputs.entry.request.now) result }
@@ -317,7 +317,7 @@ fn path_aim<S: Shelf>(
     prepared: Prepared,
 ) -> Result<Aim, Refusal>
     requires routed { router.now ≡ table }
-    requires prepared { parts.IsPrepared inputs.entry.request.now prepared }
+    requires prepared { parts.IsPrepared inputs.request.now prepared }
     ensures shelf { Tells (S.contents shelf.old) (S.contents shelf.new)
         (parts.AimsAt (route_of (spec.path_of inputs.entry.request.now)) (rows inputs.entry.tables.now) inputs.entry.given.now inputs.entry.request.now result) }
     ensures alone { Comes (spec.IsFoundAlone (route_of (spec.path_of inputs.entry.request.now)) (rows inputs.entry.tables.now) inputs.entry.given.now inputs.entry.request.now) result }
@@ -339,7 +339,7 @@ fn find_aim<S: Shelf>(
     prepared: Prepared,
 ) -> Result<Aim, Refusal>
     requires routed { router.now ≡ table }
-    requires prepared { parts.IsPrepared inputs.entry.request.now prepared }
+    requires prepared { parts.IsPrepared inputs.request.now prepared }
     ensures shelf { Tells (S.contents shelf.old) (S.contents shelf.new)
         (parts.Aims (rows inputs.entry.tables.now) inputs.entry.given.now inputs.entry.request.now result) }
     ensures alone { Comes

@@ -44,8 +44,8 @@ pub(crate) fn contents_aim<S: Shelf>(
     prepared: Prepared,
     segments: &[Bytes],
 ) -> Result<Aim, Refusal>
-    requires segments { segments.now ≡ segments_of (path_of inputs.entry.request.now) }
-    requires prepared { IsPrepared inputs.entry.request.now prepared }
+    requires segments { segments.now ≡ segments_of (path_of inputs.request.now) }
+    requires prepared { IsPrepared inputs.request.now prepared }
     ensures { Tells (S.contents shelf.old) (S.contents shelf.new) (spec.Aims (rows inputs.entry.tables.now) inputs.entry.given.now inputs.entry.request.now segments.now result) }
 {
     let Inputs {
