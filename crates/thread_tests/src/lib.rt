@@ -15,6 +15,8 @@ pub mod joins;
 mod late_tests;
 #[cfg(test)]
 mod pool_tests;
+#[cfg(test)]
+mod rounds_tests;
 pub mod scene;
 #[cfg(test)]
 mod spare_tests;

@@ -96,7 +96,7 @@ pub fn view_of(alloc: Global, entries: &[Entry], seat: u8) -> Result<String, All
 }
 
 /// Sends what a seat sends next.
-fn send<R: Wait>(rt: &R, seat: Seat, what: What) -> Seat {
+pub fn send<R: Wait>(rt: &R, seat: Seat, what: What) -> Seat {
     let arrival = Arrival {
         seat: seat.place(),
         number: seat.next_number(),
@@ -106,8 +106,8 @@ fn send<R: Wait>(rt: &R, seat: Seat, what: What) -> Seat {
     seat
 }
 
-/// The cell of a play.
-fn cell(alloc: Global, code: &str) -> Result<What, Fail> {
+/// A cell of this code.
+pub fn cell(alloc: Global, code: &str) -> Result<What, Fail> {
     let text = format!(in alloc;
         "{{\"content\":{{\"code\":\"{code}\"}},\"header\":{{\"msg_id\":\"m\",\"msg_type\":\"execute_request\",\"session\":\"s\"}}}}"
     )?;
@@ -116,7 +116,7 @@ fn cell(alloc: Global, code: &str) -> Result<What, Fail> {
 }
 
 /// Reads what is there for the follower.
-fn follow(
+pub fn follow(
     alloc: Global,
     follower: Follower<TestLanguage>,
     entries: &mut Vec<Entry>,
