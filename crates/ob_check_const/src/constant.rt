@@ -83,22 +83,6 @@ fn no_input(name: InputName) -> RuleCode
     }
 }
 
-/// The selector after the name of the module In.
-#[tactic(auto, unfolding(crate::specs::Constants::input_member))]
-fn input_member(selector: &Selector, span: Span) -> Result<Folded, Rejected>
-    ensures { Judges (spec.input_member selector.now) result }
-{
-    match selector {
-        Selector::Field(field) => {
-            let code = no_input(input_named(&field.name));
-            Err(Rejected::Rule(broken(code, field.span)))
-        }
-        Selector::Index(_) | Selector::Guard(_) => {
-            Err(Rejected::Rule(broken(RuleCode::Types, span)))
-        }
-    }
-}
-
 fn no_output(name: OutputName) -> RuleCode
     ensures { result ≡ spec.no_output name }
 {
@@ -108,24 +92,8 @@ fn no_output(name: OutputName) -> RuleCode
     }
 }
 
-/// The selector after the name of the module Out.
-#[tactic(auto, unfolding(crate::specs::Constants::output_member))]
-fn output_member(selector: &Selector, span: Span) -> Result<Folded, Rejected>
-    ensures { Judges (spec.output_member selector.now) result }
-{
-    match selector {
-        Selector::Field(field) => {
-            let code = no_output(output_named(&field.name));
-            Err(Rejected::Rule(broken(code, field.span)))
-        }
-        Selector::Index(_) | Selector::Guard(_) => {
-            Err(Rejected::Rule(broken(RuleCode::Types, span)))
-        }
-    }
-}
-
 /// A declared name with selectors after it.
-#[tactic(auto, unfolding(crate::specs::Constants::named))]
+#[tactic(auto, unfolding(crate::specs::Constants::named, crate::specs::Constants::input_member, crate::specs::Constants::output_member))]
 fn named(
     alloc: Global,
     modules: &Imports,
@@ -141,8 +109,14 @@ fn named(
         (Entry::Module(_, place), [first, behind @ ..]) => {
             member(alloc, modules, *place, first, behind, span)
         }
-        (Entry::In, [first, ..]) => input_member(first, span),
-        (Entry::Out, [first, ..]) => output_member(first, span),
+        (Entry::In, [Selector::Field(field), ..]) => {
+            let code = no_input(input_named(&field.name));
+            Err(Rejected::Rule(broken(code, field.span)))
+        }
+        (Entry::Out, [Selector::Field(field), ..]) => {
+            let code = no_output(output_named(&field.name));
+            Err(Rejected::Rule(broken(code, field.span)))
+        }
         _ => Err(Rejected::Rule(broken(RuleCode::Types, span))),
     }
 }

@@ -1,4 +1,8 @@
 //! Expressions, variables that are written, and actual parameters.
+//!
+//! Terms of a sum and factors of a product each have a loop and a step of their own. The two stand in one circle of calls, where
+//! the next operand can't be handed to a common loop: the proof that the circle ends follows calls by name alone. What they
+//! join operands by is common to both (`may_join`, `with_operand`).
 
 ghost use Rattle.std.specs.Prelude.{◌≡◌, suc, false, [], option_map, is_some, IfOk, OnErr, IfErr};
 ghost use Rattle.ob_check_scope.specs.Rule.{Judges, Given, Then, through};

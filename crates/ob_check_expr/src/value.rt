@@ -1,4 +1,8 @@
 //! What statements take: variables that they write, values, and actual parameters.
+//!
+//! A number, a truth value and a guard are each read in three lines: they differ in what the operand has to be and in the code
+//! where it is not, which are what a statement's rule names. A common function would take both as parameters, and be longer
+//! than what it spares.
 
 ghost use Rattle.std.specs.Prelude.{◌≡◌};
 ghost use Rattle.ob_check_scope.specs.Rule.{Judges};

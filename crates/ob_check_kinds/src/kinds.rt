@@ -1,18 +1,18 @@
 //! Record types as a running program tells them apart, each with its kind, so that for an equal type no text is written anew.
 
-ghost use Rattle.std.specs.Prelude.{◌≡◌, ◌++◌, suc, option_map, OnOk, IfOk, IfSome};
+ghost use Rattle.std.specs.Prelude.{◌≡◌, ◌++◌, suc, option_map, OnOk, IfOk};
 ghost use Rattle.ob_types.specs.InterfaceText.{type_text};
 ghost use Rattle.ob_types.specs.Types.{cells, chain};
 ghost use Rattle.ob_check_kinds.specs.Kinds as spec;
 
 use crate::declarable::is_declarable;
+use crate::kept::{Kept, find};
 use crate::made::Made;
 use crate::shapes::shape_of;
 use ob_base::{Items, Shared, SharedItems, Text};
 use ob_mean::{RecordKind, TypeName};
 use ob_types::{ObType, base_of, put_type, same, zero_size};
 use std::alloc::{AllocError, Global};
-use std::marker::Model;
 
 /// How many cells a value of a type takes. The error is for a type of 2^32 - 1 cells or more, which no declaration makes.
 fn cells_of(of: &ObType) -> Result<usize, AllocError>
@@ -41,50 +41,6 @@ fn name_of(alloc: Global, of: &ObType) -> Result<TypeName, AllocError>
     Ok(TypeName { text, cells })
 }
 
-/// A record type that is kept with its kind. Contracts see the type.
-#[derive(Drop)]
-struct Kept {
-    of: ObType,
-    kind: RecordKind,
-}
-
-impl Model for Kept {
-    ghost use Rattle.std.specs.Coded.{codes};
-    ghost use Rattle.std.specs.Prelude.{◌≡◌};
-    ghost use Rattle.ob_types.specs.contracts.structure.ObType as types;
-    ghost use Rattle.ob_types.specs.declared.structure.ObType.{ObType};
-    ghost use Rattle.ob_check_kinds.specs.Kinds as spec;
-
-    ghost Value = { ObType };
-
-    ghost coded = { Prim.hlevel (codes, types.the_row.coded) };
-
-    ghost view = { λ k. k.of };
-
-    ghost invariant = { λ k. k.kind ≡ spec.kind_of k.of };
-}
-
-impl Kept {
-    fn new(of: ObType, kind: RecordKind) -> Kept
-        requires { kind ≡ spec.kind_of of }
-        ensures { result ≡ of }
-    {
-        Kept { of, kind }
-    }
-
-    fn of(&self) -> &ObType
-        ensures { result.now ≡ self.now }
-    {
-        &self.of
-    }
-
-    fn kind(&self) -> &RecordKind
-        ensures { result.now ≡ spec.kind_of self.now }
-    {
-        &self.kind
-    }
-}
-
 /// Appends one more owner of each name, or tells that no more owners can be counted.
 fn add_names(names: &mut Items<TypeName>, more: &[TypeName]) -> Result<(), AllocError>
     ensures { OnOk result (names.new ≡ names.old ++ more.now) }
@@ -102,7 +58,7 @@ fn add_names(names: &mut Items<TypeName>, more: &[TypeName]) -> Result<(), Alloc
 /// a type that extends it, takes one more owner of the name.
 #[derive(Drop)]
 pub struct Kinds {
-    types: Vec<Kept>,
+    types: Vec<Kept<RecordKind>>,
     made: Made,
 }
 
@@ -113,20 +69,6 @@ impl Kinds {
             types: Vec::new(alloc),
             made: Made::new(alloc),
         }
-    }
-
-    /// One more owner of the kind of an equal type that is kept, if there is one. The only error is that no more owners can be
-    /// counted.
-    #[tactic(auto, using(ob_types::proofs::SameType::same_true))]
-    fn find(&self, of: &ObType) -> Result<Option<RecordKind>, AllocError>
-        ensures { IfOk result (λ found. IfSome found (λ k. k ≡ spec.kind_of of.now)) }
-    {
-        for kept in &self.types {
-            if same(kept.of(), of) {
-                return Ok(Some(kept.kind().another()?));
-            }
-        }
-        Ok(None)
     }
 
     /// Keeps a type with its kind, which is the answer. Or lack of memory.
@@ -161,7 +103,7 @@ impl Kinds {
     pub fn kind_of(&mut self, alloc: Global, of: &ObType) -> Result<RecordKind, AllocError>
         ensures { IfOk result (λ kind. kind ≡ spec.kind_of of.now) }
     {
-        if let Some(kind) = self.find(of)? {
+        if let Some(kind) = find(self.types.as_slice(), of)? {
             return Ok(kind);
         }
         let names = self.names_of(alloc, of)?;

@@ -2,6 +2,7 @@
 #![tactic(auto)]
 
 mod declarable;
+mod kept;
 mod kinds;
 mod made;
 mod shapes;

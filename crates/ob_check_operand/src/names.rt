@@ -1,4 +1,7 @@
 //! What names stand for.
+//!
+//! A name of another module is read by `member_read` and called by `member_called`. The two stand side by side: one takes its
+//! number among the variables there and the other among the procedures, and each answers in a type of its own.
 
 ghost use Rattle.std.specs.Prelude.{◌≡◌, option_copied};
 ghost use Rattle.ob_check_scope.specs.Rule.{Judges, Breaks};

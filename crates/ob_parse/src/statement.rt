@@ -1,4 +1,8 @@
 //! Statements, by recursive descent.
+//!
+//! Statements behind semicolons and cases behind bars each have a loop of their own, as the grammar writes both out. The two
+//! stand in one circle of calls, where what is repeated can't be handed to a common loop: the proof that the circle ends
+//! follows calls by name alone.
 
 ghost use Rattle.std.specs.Prelude.{◌≡◌, ◌≤◌, ◌<◌, length, IfOk, OnSome};
 ghost use Rattle.ob_scan.specs.declared.token.Symbol.TheVariants as s;

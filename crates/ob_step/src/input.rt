@@ -1,4 +1,5 @@
-//! Readers of In.
+//! Readers of In. Each is a function of its own, since its clause names the one target that it reads, which settles how the
+//! buffer is read: a function for two of them would take which of them it is, and its clause would be read by cases.
 
 ghost use Rattle.std.specs.Prelude.{◌≡◌, ◌+◌, ◌<◌, ◌^◌, reverse, drop};
 ghost use Rattle.ob_code.specs.Machine.{perform, go};

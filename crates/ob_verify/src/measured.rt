@@ -1,4 +1,6 @@
-//! Whether so much is known of the operands and names before each line.
+//! Whether so much is known of the operands and names before each line. `keeps` hands on to `object_keeps`, `record_keeps` and
+//! `jump_keeps` what it doesn't know: each takes the code, the procedure, its rows and the row at hand, since the clause that they
+//! share, `Keeps`, speaks of them all.
 
 ghost use Rattle.std.specs.Prelude.{◌≡◌, ℕ, ◌++◌, ◌-◌, ◌<◌, ◌≤◌, [], ◌∷◌, length, take, drop, option_copied, IsTrue, Some, slice_get};
 ghost use Rattle.ob_code.specs.Kinds.{LieAmong, LieInElement, LieInRecord, LieInName, Lie, IsLong, ArrayLies, TextLies, TargetLies, LengthIs, TellsType, IsFew, ArePassed, CoverAll, with_top, results_kinds, nothing, OperandsArrive, NamesArrive, Arrives, known_at, listed, Keeps, HasKinds};
