@@ -5,7 +5,7 @@ use Rattle.std.specs.List.{list_any}
 use Rattle.std.specs.Str.{bytes_eq}
 use Rattle.jk_log.specs.declared.entry.Entry.{Entry}
 use Rattle.js_shelf.specs.declared.item.ShelfRefusal.{ShelfRefusal}
-use Rattle.js_shelf.specs.declared.item.ShelfRefusal.TheVariants.{Device}
+use Rattle.js_shelf.specs.declared.item.ShelfRefusal.TheVariants.{Device, Memory}
 use Rattle.js_shelf.specs.Shelves.{Contents, Tells, HasCause}
 use Rattle.nb_doc.specs.Writing.{notebook_text}
 use Rattle.nb_record.specs.State.{AreTold, Saves, ends_stored}
@@ -14,6 +14,7 @@ use Rattle.js_tables.specs.declared.tables.Recording.{Recording}
 use Rattle.js_tables.specs.declared.tables.Session.{Session}
 use Rattle.js_tables.specs.Tables.{Rows, find_kernel, set_date}
 use Rattle.js_follow.specs.Changing.{Looks}
+use Rattle.js_follow.specs.declared.following.Followed.{Followed}
 
 -- where the recorder of a kernel stands
 abbrev pub place_of : List ℕ → Rows → Option ℕ
@@ -64,6 +65,12 @@ saved (Ok done) c = record c { due = false; known = Some (text_of c); tried = No
 saved (Err Device) c = record c { tried = Some (text_of c) }
 saved (Err e) c = c
 
+-- whether a save was tried: not where memory was refused to it
+abbrev pub was_tried : Result Unit ShelfRefusal → Bool
+was_tried (Ok done) = true
+was_tried (Err Memory) = false
+was_tried (Err e) = true
+
 -- after a save the file has this date
 abbrev pub dated : Result Unit ShelfRefusal → List ℕ → List ℕ → Rows → Rows
 dated (Ok done) path date r = set_date path date r
@@ -92,31 +99,32 @@ module _ (c d : Option Contents) (f g : ℕ) where
       × Looks c e f h path date looked x y × SavesAfter e d h g looked path result y z
 
   -- the recorder at a place does so at the path of its session
-  abbrev pub SavesAt : List ℕ → ℕ → Recording → Rows → Rows → Type 0
-  SavesAt date place x r s =
+  abbrev pub SavesAt : Bool → List ℕ → ℕ → Recording → Rows → Rows → Type 0
+  SavesAt tried date place x r s =
       (result : Result Unit ShelfRefusal) × (z : Recording) × LooksAndSaves (path_of r.kernels x) date result x z
-      × (s ≡ dated result (path_of r.kernels x) date (with_recording place z r))
+      × (s ≡ dated result (path_of r.kernels x) date (with_recording place z r)) × (tried ≡ was_tried result)
 
   -- a save is tried; or there was no memory, and it is due still
-  abbrev pub SavesDue : List ℕ → ℕ → Recording → Rows → Rows → Type 0
-  SavesDue date place x r s = ((s ≡ r) × Stays c d f g) ⊎ SavesAt date place x r s
+  abbrev pub SavesDue : Bool → List ℕ → ℕ → Recording → Rows → Rows → Type 0
+  SavesDue tried date place x r s = ((tried ≡ false) × (s ≡ r) × Stays c d f g) ⊎ SavesAt tried date place x r s
 
-  abbrev pub SavesIf : Bool → List ℕ → ℕ → Recording → Rows → Rows → Type 0
-  SavesIf false date place x r s = (s ≡ r) × Stays c d f g
-  SavesIf true date place x r s = SavesDue date place x r s
+  -- where no save is due, there is none to be tried
+  abbrev pub SavesIf : Bool → Bool → List ℕ → ℕ → Recording → Rows → Rows → Type 0
+  SavesIf false tried date place x r s = (tried ≡ true) × (s ≡ r) × Stays c d f g
+  SavesIf true tried date place x r s = SavesDue tried date place x r s
 
   -- the entries that were told and those that were not are all that were shown, in order
-  abbrev pub FollowsAt : ℕ → List ℕ → List Entry → List Entry → Rows → Rows → Type 0
-  FollowsAt place date entries rest r s =
-      (told : List Entry) × (told ++ rest ≡ entries)
+  abbrev pub FollowsAt : ℕ → List ℕ → List Entry → Followed → Rows → Rows → Type 0
+  FollowsAt place date entries followed r s =
+      (told : List Entry) × (told ++ followed.rest ≡ entries)
       × ((x : Recording) × (y : Recording) × (slice_get r.recordings place ≡ Some x) × HasTold told x y
-      × SavesIf y.due date place y (with_recording place y r) s)
+      × SavesIf y.due followed.tried date place y (with_recording place y r) s)
 
   -- where the kernel has no recorder nothing changes
-  abbrev pub FollowsBy : Option ℕ → List ℕ → List Entry → Option (List Entry) → Rows → Rows → Type 0
+  abbrev pub FollowsBy : Option ℕ → List ℕ → List Entry → Option Followed → Rows → Rows → Type 0
   FollowsBy None date entries result r s = (result ≡ None) × (s ≡ r) × Stays c d f g
   FollowsBy (Some place) date entries result r s =
-      (rest : List Entry) × (result ≡ Some rest) × FollowsAt place date entries rest r s
+      (followed : Followed) × (result ≡ Some followed) × FollowsAt place date entries followed r s
 
-  abbrev pub Follows : List ℕ → List ℕ → List Entry → Option (List Entry) → Rows → Rows → Type 0
+  abbrev pub Follows : List ℕ → List ℕ → List Entry → Option Followed → Rows → Rows → Type 0
   Follows kernel date entries result r s = FollowsBy (place_of kernel r) date entries result r s

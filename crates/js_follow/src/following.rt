@@ -135,44 +135,75 @@ fn two_paths(kernels: &[Kernel], recording: &Recording) -> Result<(Text, Text), 
     Ok((path, copy))
 }
 
-/// Saves the recorder at a place. Where there is no memory, that is due still.
-fn save_at<S: Shelf>(alloc: Global, tables: &mut Tables, shelf: &mut S, date: &Text, place: usize)
-    requires { place < length (rows tables.old).recordings }
-    ensures { (x : Recording) → slice_get (rows tables.old).recordings place ≡ Some x
-        → spec.SavesDue (S.contents shelf.old) (S.contents shelf.new) (S.faults shelf.old) (S.faults shelf.new) date.now place x (rows tables.old) (rows tables.new) }
+/// Whether a save was tried: not where memory was refused to it.
+fn was_tried(saved: &Result<(), ShelfRefusal>) -> bool
+    ensures { result ≡ spec.was_tried saved.now }
 {
-    if tables.make_room().is_err() {
-        return;
-    }
-    let Ok((path, file)) = two_paths(&tables.kernels, &tables.recordings[place]) else {
-        return;
-    };
-    let Ok(saved) = date.copy() else {
-        return;
-    };
-    if look_and_save(alloc, &mut tables.recordings[place], shelf, path, date).is_ok() {
-        tables.update(Update::SetDate(file, saved));
+    match saved {
+        Ok(()) => true,
+        Err(ShelfRefusal::Memory) => false,
+        Err(_) => true,
     }
 }
 
-/// Saves the recorder at a place where that is due. Where there is no memory, it is due still.
+/// Saves the recorder at a place, and says whether that was tried. Where there is no memory, it is due still.
+fn save_at<S: Shelf>(
+    alloc: Global,
+    tables: &mut Tables,
+    shelf: &mut S,
+    date: &Text,
+    place: usize,
+) -> bool
+    requires { place < length (rows tables.old).recordings }
+    ensures { (x : Recording) → slice_get (rows tables.old).recordings place ≡ Some x
+        → spec.SavesDue (S.contents shelf.old) (S.contents shelf.new) (S.faults shelf.old) (S.faults shelf.new) result date.now place x (rows tables.old) (rows tables.new) }
+{
+    if tables.make_room().is_err() {
+        return false;
+    }
+    let Ok((path, file)) = two_paths(&tables.kernels, &tables.recordings[place]) else {
+        return false;
+    };
+    let Ok(saved) = date.copy() else {
+        return false;
+    };
+    let outcome = look_and_save(alloc, &mut tables.recordings[place], shelf, path, date);
+    if outcome.is_ok() {
+        tables.update(Update::SetDate(file, saved));
+        return true;
+    }
+    was_tried(&outcome)
+}
+
+/// Saves the recorder at a place where that is due, and says whether that was tried, or is not due. Where there is no memory, it
+/// is due still.
 fn save_if_due<S: Shelf>(
     alloc: Global,
     tables: &mut Tables,
     shelf: &mut S,
     date: &Text,
     place: usize,
-)
+) -> bool
     requires { place < length (rows tables.old).recordings }
     ensures { (x : Recording) → slice_get (rows tables.old).recordings place ≡ Some x
-        → spec.SavesIf (S.contents shelf.old) (S.contents shelf.new) (S.faults shelf.old) (S.faults shelf.new) x.due date.now place x (rows tables.old) (rows tables.new) }
+        → spec.SavesIf (S.contents shelf.old) (S.contents shelf.new) (S.faults shelf.old) (S.faults shelf.new) x.due result date.now place x (rows tables.old) (rows tables.new) }
 {
     if tables.recordings[place].due {
-        save_at(alloc, tables, shelf, date, place);
+        save_at(alloc, tables, shelf, date, place)
+    } else {
+        true
     }
 }
 
-/// Tells the recorder at a place entries, and saves it where that is due. It answers the entries that were not told.
+/// What came of entries that a recorder was to follow.
+pub struct Followed {
+    /// The last of them, which the recorder was not told since memory was refused.
+    pub rest: Listed<Entry>,
+    /// Whether its save was tried, or none is due. It is not where memory was refused to the save, which is due still.
+    pub tried: bool,
+}
+
+/// Tells the recorder at a place entries, and saves it where that is due.
 fn follow_at<S: Shelf>(
     alloc: Global,
     tables: &mut Tables,
@@ -180,13 +211,16 @@ fn follow_at<S: Shelf>(
     date: &Text,
     place: usize,
     entries: Vec<Entry>,
-) -> Listed<Entry>
+) -> Followed
     requires { place < length (rows tables.old).recordings }
     ensures { spec.FollowsAt (S.contents shelf.old) (S.contents shelf.new) (S.faults shelf.old) (S.faults shelf.new) place date.now entries.items result (rows tables.old) (rows tables.new) }
 {
     let count = tell(&mut tables.recordings[place], entries.as_slice());
-    save_if_due(alloc, tables, shelf, date, place);
-    rest_of(entries, count)
+    let tried = save_if_due(alloc, tables, shelf, date, place);
+    Followed {
+        rest: rest_of(entries, count),
+        tried,
+    }
 }
 
 /// Tells the recorder of a kernel what the kernel showed, in order, and saves it where a stored cell has ended or a save was
@@ -194,8 +228,8 @@ fn follow_at<S: Shelf>(
 ///
 /// Before a save the file is looked at. What somebody else made of it is taken, or kept beside it under the date.
 ///
-/// It answers the last of the entries, which the recorder was not told since memory was refused. There is no answer where the
-/// kernel has no recorder.
+/// It answers the last of the entries, which the recorder was not told since memory was refused, and whether the save was tried.
+/// There is no answer where the kernel has no recorder.
 pub fn follow<S: Shelf>(
     alloc: Global,
     tables: &mut Tables,
@@ -203,7 +237,7 @@ pub fn follow<S: Shelf>(
     date: &Text,
     kernel: &str,
     entries: Vec<Entry>,
-) -> Option<Listed<Entry>>
+) -> Option<Followed>
     ensures { spec.Follows (S.contents shelf.old) (S.contents shelf.new) (S.faults shelf.old) (S.faults shelf.new) kernel.now date.now entries.items result (rows tables.old) (rows tables.new) }
 {
     match place_of(&tables.recordings, kernel) {

@@ -6,5 +6,5 @@ mod following;
 mod joining;
 mod putting;
 
-pub use following::{follow, is_due};
+pub use following::{Followed, follow, is_due};
 pub use putting::put_book;

@@ -40,7 +40,7 @@ some_of : (b : Bool) (n i : ℕ) → cond b (Some n) None ≡ Some i → (b ≡ 
 some_of true n i e = (refl, cc)
 some_of false n i e = cc
 
-position_map : {X Y : Type 0} (f : X → Y) (p : Y → Bool) (xs : List X) → position p (map f xs) ≡ position (λ x. p (f x)) xs
+pub position_map : {X Y : Type 0} (f : X → Y) (p : Y → Bool) (xs : List X) → position p (map f xs) ≡ position (λ x. p (f x)) xs
 position_map f p xs =
     let q = prefix_map f (λ y. not (p y)) xs in
     let l = length-map xs f in

@@ -26,7 +26,7 @@ told_by id (Deed.Tells command ∷ deeds) k (mid, lives, (home, opened, is)) =
     ∙ (ap (λ (xs : List Sort). xs ++ asked command ∷ []) (sym (ap told_of opened) ∙ told_by id deeds mid lives)
     ∙ sym (map-append asked (commands_in deeds) (command ∷ [])))
 told_by id (Deed.Begins passed ∷ deeds) k (mid, lives, (none, is)) = ap (λ (x : KernelState). told_of x.home) is ∙ told_by id deeds mid lives
-told_by id (Deed.Reads more told r ∷ deeds) k (mid, lives, (was, held, one, there, front, is)) = ap (λ (x : KernelState). told_of x.home) is ∙ told_by id deeds mid lives
+told_by id (Deed.Reads more told tried r ∷ deeds) k (mid, lives, (was, held, one, there, front, is)) = ap (λ (x : KernelState). told_of x.home) is ∙ told_by id deeds mid lives
 told_by id (Deed.Skips passed r ∷ deeds) k (mid, lives, (was, more, gone, there, all, is)) = ap (λ (x : KernelState). told_of x.home) is ∙ told_by id deeds mid lives
 told_by id (Deed.Ends ∷ deeds) k (mid, lives, (done, is)) = ap (λ (x : KernelState). told_of x.home) is ∙ told_by id deeds mid lives
 told_by id (Deed.Stops r ∷ deeds) k (mid, lives, (gone, is)) = ap (λ (x : KernelState). told_of x.home) is ∙ told_by id deeds mid lives
@@ -58,12 +58,12 @@ kept_by id (Deed.Opens home ∷ deeds) k (mid, lives, (none, unread, nothing, is
 kept_by id (Deed.Tells command ∷ deeds) k (mid, lives, (home, opened, is)) reading there =
     kept_by id deeds mid lives reading (sym (ap (λ (x : KernelState). x.reading) is) ∙ there)
 kept_by id (Deed.Begins passed ∷ deeds) k (mid, lives, (none, is)) reading there =
-    left_by (Deed.Begins passed ∷ deeds) mid k (record { read = passed; held = []; over = false }) reading is there (sym (append-nil passed))
-kept_by id (Deed.Reads more told r ∷ deeds) k (mid, lives, (was, held, one, before, front, is)) reading there =
-    left_by (Deed.Reads more told r ∷ deeds) mid k (read_on was more held) reading is there
+    left_by (Deed.Begins passed ∷ deeds) mid k (record { read = passed; held = []; over = false; tried = false }) reading is there (sym (append-nil passed))
+kept_by id (Deed.Reads more told tried r ∷ deeds) k (mid, lives, (was, held, one, before, front, is)) reading there =
+    left_by (Deed.Reads more told tried r ∷ deeds) mid k (read_on was more held tried) reading is there
     (ap (λ (xs : List Entry). xs ++ more) (kept_by id deeds mid lives was before) ∙ longer (passed_in deeds) (recorded_in deeds) was.held more told held front)
 kept_by id (Deed.Skips passed r ∷ deeds) k (mid, lives, (was, more, gone, before, all, is)) reading there =
-    left_by (Deed.Skips passed r ∷ deeds) mid k (read_on was more []) reading is there (sym all ∙ sym (append-nil passed))
+    left_by (Deed.Skips passed r ∷ deeds) mid k (read_on was more [] true) reading is there (sym all ∙ sym (append-nil passed))
 kept_by id (Deed.Ends ∷ deeds) k (mid, lives, (done, is)) reading there = none_left mid k reading (ap (λ (x : KernelState). x.reading) is) there
 kept_by id (Deed.Stops r ∷ deeds) k (mid, lives, (gone, is)) reading there = none_left mid k reading (ap (λ (x : KernelState). x.reading) is) there
 
@@ -84,7 +84,7 @@ same_id : (deed : Deed) (old new : KernelState) → Does deed old new → new.id
 same_id (Deed.Opens home) old new (none, unread, nothing, is) = ap (λ (x : KernelState). x.id) is
 same_id (Deed.Tells command) old new (home, opened, is) = ap (λ (x : KernelState). x.id) is
 same_id (Deed.Begins passed) old new (none, is) = ap (λ (x : KernelState). x.id) is
-same_id (Deed.Reads more told r) old new (was, held, one, there, front, is) = ap (λ (x : KernelState). x.id) is
+same_id (Deed.Reads more told tried r) old new (was, held, one, there, front, is) = ap (λ (x : KernelState). x.id) is
 same_id (Deed.Skips passed r) old new (was, more, gone, there, all, is) = ap (λ (x : KernelState). x.id) is
 same_id Deed.Ends old new (done, is) = ap (λ (x : KernelState). x.id) is
 same_id (Deed.Stops r) old new (gone, is) = ap (λ (x : KernelState). x.id) is
@@ -139,7 +139,7 @@ moves_keep old (Event.Tell id command (Ok done)) new d all = does_keeps id (Deed
 moves_keep old (Event.Tell id command (Err why)) new is all = All-same HasLived new old is all
 moves_keep old (Event.BeginReading id) new (passed, d) all = does_keeps id (Deed.Begins passed) old new d all
 moves_keep old (Event.Record id date c d f g r s) new (inl is) all = All-same HasLived new old is all
-moves_keep old (Event.Record id date c d f g r s) new (inr (inl (more, told, does))) all = does_keeps id (Deed.Reads more told r) old new does all
+moves_keep old (Event.Record id date c d f g r s) new (inr (inl (more, told, tried, does))) all = does_keeps id (Deed.Reads more told tried r) old new does all
 moves_keep old (Event.Record id date c d f g r s) new (inr (inr (passed, does))) all = does_keeps id (Deed.Skips passed r) old new does all
 moves_keep old (Event.EndReading id) new d all = does_keeps id Deed.Ends old new d all
 moves_keep old (Event.Unrecord r) new is all =
@@ -237,14 +237,14 @@ tells lives id command new told =
     moved_to lives id (Deed.Tells command) told.place told.was (record { id = told.was.id; home = Some (told_more (asked command) told.home); reading = told.was.reading })
     new told.first told.there (told.home, told.opened, refl) told.told
 
-begun_as : (reading : Option Reading) (now : Reading) → reading ≡ Some now → now.held ≡ [] → now.over ≡ false
-    → reading ≡ Some (record { read = now.read; held = []; over = false })
-begun_as reading now is held over = is ∙ (λ i. Some (record { read = now.read; held = held i; over = over i }))
+begun_as : (reading : Option Reading) (now : Reading) → reading ≡ Some now → now.held ≡ [] → now.over ≡ false → now.tried ≡ false
+    → reading ≡ Some (record { read = now.read; held = []; over = false; tried = false })
+begun_as reading now is held over tried = is ∙ (λ i. Some (record { read = now.read; held = held i; over = over i; tried = tried i }))
 
 begins_reading : (lives : List Life) (id : List ℕ) (new : List KernelState) → ChangesReading BeginsReading id (kernels_of lives) new → Follows lives (Event.BeginReading id) new
 begins_reading lives id new ch =
     let now = ch.changed.1 in
-    let same = begun_as ch.reading now ch.changed.2 ch.changed.3 ch.changed.4 in
+    let same = begun_as ch.reading now ch.changed.2 ch.changed.3 ch.changed.4 ch.changed.5 in
     let moved =
     moved_to lives id (Deed.Begins now.read) ch.place ch.was (with_reading ch.reading ch.was) new ch.first ch.there
     (ch.changed.0, ap (λ (x : Option Reading). with_reading x ch.was) same) ch.now in
@@ -258,12 +258,12 @@ ends_reading lives id new done ch =
     (done ch.place ch.was ch.first ch.there, ap (λ (x : Option Reading). with_reading x ch.was) ch.changed) ch.now
 
 records : (lives : List Life) (id : List ℕ) (r : Rows) (new : List KernelState) → IsRecordedBy id r (kernels_of lives) new
-    → (next : List Life) × ((next ≡ lives) ⊎ (((more : List Entry) × (told : List Entry) × DoesAt id (Deed.Reads more told r) lives next)
+    → (next : List Life) × ((next ≡ lives) ⊎ (((more : List Entry) × (told : List Entry) × (tried : Bool) × DoesAt id (Deed.Reads more told tried r) lives next)
     ⊎ ((passed : List Entry) × DoesAt id (Deed.Skips passed r) lives next))) × (kernels_of next ≡ new)
 records lives id r new (inl is) = (lives, inl refl, sym is)
-records lives id r new (inr (inl (more, told, (place, was, now, first, there, does, is)))) =
-    let moved = moved_to lives id (Deed.Reads more told r) place was now new first there does is in
-    (moved.0, inr (inl (more, told, moved.1)), moved.2)
+records lives id r new (inr (inl (more, told, tried, (place, was, now, first, there, does, is)))) =
+    let moved = moved_to lives id (Deed.Reads more told tried r) place was now new first there does is in
+    (moved.0, inr (inl (more, told, tried, moved.1)), moved.2)
 records lives id r new (inr (inr (passed, (place, was, now, first, there, does, is)))) =
     let moved = moved_to lives id (Deed.Skips passed r) place was now new first there does is in
     (moved.0, inr (inr (passed, moved.1)), moved.2)

@@ -1,6 +1,7 @@
 -- What becomes of that which is read for recorders, at each step.
 use Rattle.std.proofs.Common.{◌≡◌, ◌⊎◌, ◌↔◌, inl, inr, ◌<◌, ◌+◌, ℕ, zero, suc, Bool, true, false, if◌then◌else◌, List, [], ◌∷◌, ◌++◌, map, length, take, drop, get_or, set, refl, sym, ap, ◌∙◌, subst, Option, Some, None, IsTrue, MatchBool, is_some, position, slice_get, remove, arith}
 use Rattle.std.specs.Str.{bytes_eq}
+use Rattle.std.proofs.Math.Seq.{map-set_same}
 use Rattle.std.proofs.lemmas.Bool.{false≢true}
 use Rattle.std.proofs.lemmas.List.{append-nil, drop_all, length-append, length-map, length-set, map-append, map-set, set-get_or, take_all, take_more_set}
 use Rattle.std.proofs.lemmas.List.Edits.{map_over_more}
@@ -8,18 +9,19 @@ use Rattle.std.proofs.lemmas.Option.{get_or_from_slice_get, none-some, same_Some
 use Rattle.jk_board.specs.Ends.{board_of, read_by}
 use Rattle.jk_board.specs.declared.follower.Follower.{Follower}
 use Rattle.jk_log.specs.declared.entry.Entry.{Entry}
-use Rattle.js_follow.specs.Following.{FollowsBy, Stays, place_of}
+use Rattle.js_follow.specs.Following.{FollowsBy, place_of}
+use Rattle.js_follow.specs.declared.following.Followed.{Followed}
 use Rattle.js_home.specs.declared.home.Home.{Home}
 use Rattle.js_shelf.specs.Shelves.{Contents}
 use Rattle.js_tables.specs.Tables.{Rows, has_recorder}
 use Rattle.js_kernels.specs.Boards.{IsOn, inbox_in, scribed}
 use Rattle.js_kernels.specs.Hosting.{home_of, kernel_of, reading_of, state_in, state_of, states_of}
 use Rattle.js_kernels.specs.Readings.{BeginsReading, ChangesReading, EndsHaveCome, HaveGone, IsDone, IsLastUnopened, IsRead, LastHasGone, ReadsOn, if_recorded, with_reading}
-use Rattle.js_kernels.specs.Recording.{Reads, ReadsAndTells, Records, Tells, left, reading_by, reading_in}
+use Rattle.js_kernels.specs.Recording.{Reads, ReadsAndTells, Records, Tells, Waits, left, reading_by, reading_in}
 use Rattle.js_kernels.specs.Told.{HomeState, KernelState, Reading, place_in, unopened}
 use Rattle.js_kernels.specs.declared.kernels.Hosted.{Hosted}
 use Rattle.js_kernels.specs.declared.recording.Scribe.{Scribe}
-use Rattle.js_kernels.proofs.Hosting.{id_place, kept_at, position_low, there_at}
+use Rattle.js_kernels.proofs.Hosting.{id_place, kept_at, position_low, position_map, there_at}
 
 -- ---- lists
 
@@ -29,6 +31,12 @@ set_last xs place y long =
     let same : length (set xs place y) ≡ place + 1 = rw length-set long in
     let all = take_all (place + 1) (set xs place y) (omega (arith, same)) in
     sym all ∙ take_more_set xs place y (omega (arith, long))
+
+-- what was set is there
+pub set_there : {X Y : Type 0} (f : X → Y) (xs : List X) (place : ℕ) (x : X) → place < length xs → slice_get (map f (set xs place x)) place ≡ Some (f x)
+set_there f [] place x low = absurd (omega low)
+set_there f (y ∷ xs) zero x low = refl
+set_there f (y ∷ xs) (suc place) x low = set_there f xs place x (omega low)
 
 at_last : {X : Type 0} (xs : List X) (y : X) → slice_get (xs ++ y ∷ []) (length xs) ≡ Some y
 at_last [] y = refl
@@ -60,10 +68,10 @@ more_gone (k ∷ old) mid new (inr (none, first)) gone = inr (none, more_gone ol
 -- ---- recorders
 
 -- of what was shown a front was told, or there is no recorder
-gone_of : (c d : Option Contents) (f g : ℕ) (place : Option ℕ) (date : List ℕ) (entries : List Entry) (rest : Option (List Entry)) (r s : Rows)
-    → FollowsBy c d f g place date entries rest r s → (gone : List Entry) × (entries ≡ gone ++ left rest)
-gone_of c d f g None date entries rest r s h = (entries, sym (append-nil entries) ∙ ap (λ (es : Option (List Entry)). entries ++ left es) (sym h.0))
-gone_of c d f g (Some place) date entries rest r s h = (h.2.0, sym h.2.1 ∙ ap (λ (es : Option (List Entry)). h.2.0 ++ left es) (sym h.1))
+gone_of : (c d : Option Contents) (f g : ℕ) (place : Option ℕ) (date : List ℕ) (entries : List Entry) (followed : Option Followed) (r s : Rows)
+    → FollowsBy c d f g place date entries followed r s → (gone : List Entry) × (entries ≡ gone ++ left followed)
+gone_of c d f g None date entries followed r s h = (entries, sym (append-nil entries) ∙ ap (λ (x : Option Followed). entries ++ left x) (sym h.0))
+gone_of c d f g (Some place) date entries followed r s h = (h.2.0, sym h.2.1 ∙ ap (λ (x : Option Followed). h.2.0 ++ left x) (sym h.1))
 
 -- a kernel with a recorder
 pub recorded_still : (r : Rows) (k : KernelState) → has_recorder k.id r ≡ true → k ≡ if_recorded r k
@@ -93,19 +101,28 @@ module _ {L S T M : Type 0} where
   }
 
   read_or_told : (c d : Option Contents) (f g : ℕ) (kernel date : List ℕ) (old mid new : Scribe L S T M) (r s : Rows) → Reads old mid
-      → ((new ≡ mid) × (s ≡ r) × Stays c d f g) ⊎ Tells c d f g kernel date mid new r s → ReadsOn (Some (reading_by old)) (Some (reading_by new))
+      → Waits c d f g kernel mid new r s ⊎ Tells c d f g kernel date mid new r s → ReadsOn (Some (reading_by old)) (Some (reading_by new))
   read_or_told c d f g kernel date old mid new r s reads (inl still) =
       read_to old mid new [] reads (ap (λ (x : Scribe L S T M). x.held.items) (sym still.0)) (ap (λ (x : Scribe L S T M). x.follower) still.0)
       (ap (λ (x : Scribe L S T M). x.over) still.0)
   read_or_told c d f g kernel date old mid new r s reads (inr told) =
       let front = gone_of c d f g (place_of kernel r) date mid.held.items told.0 r s told.1 in
-      read_to old mid new front.0 reads (front.1 ∙ ap (λ (es : List Entry). front.0 ++ es) (sym told.2)) told.3 told.4
+      read_to old mid new front.0 reads (front.1 ∙ ap (λ (es : List Entry). front.0 ++ es) (sym told.2)) told.4 told.5
 
   reads_on : (c d : Option Contents) (f g : ℕ) (kernel date : List ℕ) (old new : Scribe L S T M) (r s : Rows) → ReadsAndTells c d f g kernel date old new r s
       → ReadsOn (Some (reading_by old)) (Some (reading_by new))
   reads_on c d f g kernel date old new r s h = read_or_told c d f g kernel date old h.0 new r s h.1 h.3
 
   -- ---- the first kernel of an identifier
+
+  -- it stays in its place where what is there has the same identifier
+  same_place : (ks : List (Hosted L S T M)) (place : ℕ) (was now : Hosted L S T M) (id : List ℕ) → was ≡ get_or ks place was → now.id ≡ was.id
+      → position (λ k. bytes_eq k.id id) (set ks place now) ≡ position (λ k. bytes_eq k.id id) ks
+  same_place ks place was now id at same =
+      let name = λ (k : Hosted L S T M). k.id in
+      let names : map name (set ks place now) ≡ map name ks = map-set_same name ks place now was (same ∙ ap name at) in
+      sym (position_map name (λ (n : List ℕ). bytes_eq n id) (set ks place now))
+      ∙ (ap (position (λ (n : List ℕ). bytes_eq n id)) names ∙ position_map name (λ (n : List ℕ). bytes_eq n id) ks)
 
   changed_here : (So : Option Reading → Option Reading → Type 0) (ks : List (Hosted L S T M)) (place : ℕ) (was now : Hosted L S T M) (id : List ℕ)
       → position (λ k. bytes_eq k.id id) ks ≡ Some place → was ≡ get_or ks place was → now.id ≡ was.id → home_of now.ends ≡ home_of was.ends
@@ -170,6 +187,17 @@ module _ {L S T M : Type 0} where
             subst (λ (x : KernelState). IsDone x.reading) it (done.0 yes),
         λ read. done.1 (read place (kernel_of was) here there),
       )
+
+  -- nothing is read of it any more
+  pub ended_at : (ks : List (Hosted L S T M)) (place : ℕ) (was now : Hosted L S T M) (id : List ℕ) → position (λ k. bytes_eq k.id id) ks ≡ Some place
+      → was ≡ get_or ks place was → now.id ≡ was.id → now.ends.scribe ≡ None → IsRead id (states_of (set ks place now))
+  ended_at ks place was now id first at same none p k found there =
+      let low = position_low (λ (h : Hosted L S T M). bytes_eq h.id id) ks place first in
+      let here = same_place ks place was now id at same ∙ first in
+      let one : place ≡ p = same_Some place p (sym here ∙ (sym (id_place id (set ks place now)) ∙ found)) in
+      let it : kernel_of now ≡ k =
+      same_Some (kernel_of now) k (sym (set_there kernel_of ks place now low) ∙ (ap (slice_get (states_of (set ks place now))) one ∙ there)) in
+      subst (λ (x : KernelState). IsDone x.reading) it (subst (λ (x : Option Reading). IsDone x) (sym (ap reading_in none)) tt)
 
   -- ---- kernels that go
 

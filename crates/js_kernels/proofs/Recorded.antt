@@ -10,14 +10,15 @@ use Rattle.std.proofs.lemmas.Option.{get_or_from_slice_get, none-some}
 use Rattle.std.proofs.lemmas.Slice.Eq.{bytes_eq-Decides}
 use Rattle.jk_log.specs.declared.entry.Entry.{Entry}
 use Rattle.jk_board.specs.Ends.{read_by}
-use Rattle.js_follow.specs.Following.{FollowsBy, Stays, place_of}
+use Rattle.js_follow.specs.Following.{FollowsBy, place_of}
+use Rattle.js_follow.specs.declared.following.Followed.{Followed}
 use Rattle.js_shelf.specs.Shelves.{Contents}
 use Rattle.js_tables.specs.Tables.{Rows, has_recorder}
 use Rattle.js_tables.specs.declared.tables.Recording.{Recording}
 use Rattle.js_ws.specs.Shutdowns.{is_last}
 use Rattle.js_kernels.specs.Told.{KernelState, Reading, place_in}
 use Rattle.js_kernels.specs.Readings.{with_reading}
-use Rattle.js_kernels.specs.Recording.{Reads, RecordsAt, Tells, left, reading_by}
+use Rattle.js_kernels.specs.Recording.{Reads, RecordsAt, Tells, Waits, left, reading_by, tried_in}
 use Rattle.js_kernels.specs.Lives.{Deed, Does, read_on}
 use Rattle.js_kernels.specs.declared.recording.Scribe.{Scribe}
 
@@ -29,7 +30,7 @@ DoesSo id deed old new =
 
 abbrev pub IsRecordedBy : List ℕ → Rows → List KernelState → List KernelState → Type 0
 IsRecordedBy id r old new =
-    (new ≡ old) ⊎ (((more : List Entry) × (told : List Entry) × DoesSo id (Deed.Reads more told r) old new)
+    (new ≡ old) ⊎ (((more : List Entry) × (told : List Entry) × (tried : Bool) × DoesSo id (Deed.Reads more told tried r) old new)
     ⊎ ((passed : List Entry) × DoesSo id (Deed.Skips passed r) old new))
 
 -- ---- none of a list passes a test, where it has no place for one
@@ -68,44 +69,46 @@ id_at id ks place k first there =
 
 -- ---- what was read and told
 
-read_is : (was now : Reading) (more held : List Entry) → now.read ≡ was.read ++ more → now.held ≡ held → now.over ≡ (was.over || list_any is_last more) → now ≡ read_on was more held
-read_is was now more held read is over = λ i. record { read = read i; held = is i; over = over i }
+read_is : (was now : Reading) (more held : List Entry) (tried : Bool) → now.read ≡ was.read ++ more → now.held ≡ held → now.over ≡ (was.over || list_any is_last more)
+    → now.tried ≡ tried → now ≡ read_on was more held tried
+read_is was now more held tried read is over at = λ i. record { read = read i; held = is i; over = over i; tried = at i }
 
 tells_so : (id : List ℕ) (r : Rows) (old new : List KernelState) (place : ℕ) (k : KernelState) (was now : Reading) (more told : List Entry) → place_in id old ≡ Some place
     → slice_get old place ≡ Some k → k.reading ≡ Some was → new ≡ slice_set old place (with_reading (Some now) k) → now.read ≡ was.read ++ more
     → was.held ++ more ≡ told ++ now.held → now.over ≡ (was.over || list_any is_last more) → (told ≡ []) ⊎ (has_recorder id r ≡ true)
-    → DoesSo id (Deed.Reads more told r) old new
+    → DoesSo id (Deed.Reads more told tried r) old new
 tells_so id r old new place k was now more told first there reading is read front over one =
     let its = subst (λ (x : List ℕ). (told ≡ []) ⊎ (has_recorder x r ≡ true)) (sym (id_at id old place k first there)) one in
-    (place, k, with_reading (Some now) k, first, there, (was, now.held, its, reading, front, ap (λ (x : Reading). with_reading (Some x) k) (read_is was now more now.held read refl over)), is)
+    (place, k, with_reading (Some now) k, first, there, (was, now.held, its, reading, front, ap (λ (x : Reading). with_reading (Some x) k) (read_is was now more now.held now.tried read refl over refl)), is)
 
 skips_so : (id : List ℕ) (r : Rows) (old new : List KernelState) (place : ℕ) (k : KernelState) (was now : Reading) (more : List Entry) → place_in id old ≡ Some place
     → slice_get old place ≡ Some k → k.reading ≡ Some was → new ≡ slice_set old place (with_reading (Some now) k) → now.read ≡ was.read ++ more → now.held ≡ []
-    → now.over ≡ (was.over || list_any is_last more) → place_of id r ≡ None → DoesSo id (Deed.Skips (was.read ++ more) r) old new
-skips_so id r old new place k was now more first there reading is read none over gone =
+    → now.over ≡ (was.over || list_any is_last more) → now.tried ≡ true → place_of id r ≡ None → DoesSo id (Deed.Skips (was.read ++ more) r) old new
+skips_so id r old new place k was now more first there reading is read none over tried gone =
     let unknown = ap (λ (x : List ℕ). has_recorder x r) (id_at id old place k first there) ∙ unrecorded id r gone in (
       place,
       k,
       with_reading (Some now) k,
       first,
       there,
-      (was, more, unknown, reading, refl, ap (λ (x : Reading). with_reading (Some x) k) (read_is was now more [] read none over)),
+      (was, more, unknown, reading, refl, ap (λ (x : Reading). with_reading (Some x) k) (read_is was now more [] true read none over tried)),
       is,
     )
 
 module _ (L S T M : Type 0) where
   -- one read, of which the recorder was told, where there is one
   told_or_gone : (c d : Option Contents) (f g : ℕ) (id date : List ℕ) (old new : List KernelState) (r s : Rows) (place : ℕ) (k : KernelState) (was mid now : Scribe L S T M)
-      (rest : Option (List Entry)) (at : Option ℕ) → place_in id old ≡ Some place → slice_get old place ≡ Some k → k.reading ≡ Some (reading_by was)
-      → new ≡ slice_set old place (with_reading (Some (reading_by now)) k) → Reads was mid → place_of id r ≡ at → FollowsBy c d f g at date mid.held.items rest r s
-      → now.held.items ≡ left rest → now.follower ≡ mid.follower → now.over ≡ mid.over → IsRecordedBy id r old new
-  told_or_gone c d f g id date old new r s place k was mid now rest None first there reading is reads at (none, same, stays) held follower over = inr (inr (
+      (followed : Option Followed) (at : Option ℕ) → place_in id old ≡ Some place → slice_get old place ≡ Some k → k.reading ≡ Some (reading_by was)
+      → new ≡ slice_set old place (with_reading (Some (reading_by now)) k) → Reads was mid → place_of id r ≡ at → FollowsBy c d f g at date mid.held.items followed r s
+      → now.held.items ≡ left followed → now.tried ≡ tried_in followed → now.follower ≡ mid.follower → now.over ≡ mid.over → IsRecordedBy id r old new
+  told_or_gone c d f g id date old new r s place k was mid now followed None first there reading is reads at (none, same, stays) held tried follower over = inr (inr (
     read_by was.follower ++ reads.0,
-    skips_so id r old new place k (reading_by was) (reading_by now) reads.0 first there reading is (ap read_by follower ∙ reads.1) (held ∙ ap left none) (over ∙ reads.3) at,
+    skips_so id r old new place k (reading_by was) (reading_by now) reads.0 first there reading is (ap read_by follower ∙ reads.1) (held ∙ ap left none) (over ∙ reads.3) (tried ∙ ap tried_in none) at,
   ))
-  told_or_gone c d f g id date old new r s place k was mid now rest (Some p) first there reading is reads at (kept, some, (told, front, (x, y, got, has, saved))) held follower over = inr (inl (
+  told_or_gone c d f g id date old new r s place k was mid now followed (Some p) first there reading is reads at (kept, some, (told, front, (x, y, got, has, saved))) held tried follower over = inr (inl (
     reads.0,
     told,
+    now.tried,
     tells_so id r old new place k (reading_by was) (reading_by now) reads.0 told first there reading is (ap read_by follower ∙ reads.1)
         (sym reads.2 ∙ (sym front ∙ ap (λ (es : List Entry). told ++ es) (sym (held ∙ ap left some)))) (over ∙ reads.3) (inr (recorder_at id r p x at)),
   ))
@@ -113,17 +116,18 @@ module _ (L S T M : Type 0) where
   read_or_told : (c d : Option Contents) (f g : ℕ) (id date : List ℕ) (old new : List KernelState) (r s : Rows) (place : ℕ) (k : KernelState) (was mid now : Scribe L S T M)
       → place_in id old ≡ Some place → slice_get old place ≡ Some k → k.reading ≡ Some (reading_by was)
       → new ≡ slice_set old place (with_reading (Some (reading_by now)) k) → Reads was mid
-      → ((now ≡ mid) × (s ≡ r) × Stays c d f g) ⊎ Tells c d f g id date mid now r s → IsRecordedBy id r old new
+      → Waits c d f g id mid now r s ⊎ Tells c d f g id date mid now r s → IsRecordedBy id r old new
   read_or_told c d f g id date old new r s place k was mid now first there reading is reads (inl still) =
       let same = still.0 in
       inr (inl (
         reads.0,
         [],
+        now.tried,
         tells_so id r old new place k (reading_by was) (reading_by now) reads.0 [] first there reading is (ap (λ (x : Scribe L S T M). read_by x.follower) same ∙ reads.1)
             (sym reads.2 ∙ ap (λ (x : Scribe L S T M). x.held.items) (sym same)) (ap (λ (x : Scribe L S T M). x.over) same ∙ reads.3) (inl refl),
       ))
-  read_or_told c d f g id date old new r s place k was mid now first there reading is reads (inr (rest, follows, held, follower, over)) =
-      told_or_gone c d f g id date old new r s place k was mid now rest (place_of id r) first there reading is reads refl follows held follower over
+  read_or_told c d f g id date old new r s place k was mid now first there reading is reads (inr (followed, follows, held, tried, follower, over)) =
+      told_or_gone c d f g id date old new r s place k was mid now followed (place_of id r) first there reading is reads refl follows held tried follower over
 
   pub recorded : (c d : Option Contents) (f g : ℕ) (id date : List ℕ) (old new : List KernelState) (r s : Rows) → RecordsAt L S T M c d f g id date old new r s
       → IsRecordedBy id r old new

@@ -1,7 +1,7 @@
 -- To be believed.
 -- What becomes of each kernel by the events of a list of calls: what its seat 0 has told is what was answered as told, and of what is read for its recorder nothing is
 -- left out.
-use Rattle.std.specs.Prelude.{◌≡◌, ◌⊎◌, ◌++◌, ◌||◌, if◌then◌else◌, ℕ, false, true, List, [], ◌∷◌, map, All, Option, None, Some, Ok, Err, slice_get, slice_set}
+use Rattle.std.specs.Prelude.{◌≡◌, ◌⊎◌, ◌++◌, ◌||◌, if◌then◌else◌, ℕ, Bool, false, true, List, [], ◌∷◌, map, All, Option, None, Some, Ok, Err, slice_get, slice_set}
 use Rattle.std.specs.List.{list_any}
 use Rattle.jk_log.specs.declared.arrival.Sort.{Sort}
 use Rattle.jk_log.specs.declared.entry.Entry.{Entry}
@@ -20,17 +20,17 @@ pub data Deed : Type 0 where
   Tells : (command : Command) → Deed
   -- a reading begins for its recorder, after all this was shown
   Begins : (passed : List Entry) → Deed
-  -- more is read, and of what was held and that its recorder is told these, which is in these tables where it is told anything
-  Reads : (more told : List Entry) (r : Rows) → Deed
+  -- more is read, and of what was held and that its recorder is told these, which is in these tables where it is told anything; then its save is tried, or none is due
+  Reads : (more told : List Entry) (tried : Bool) (r : Rows) → Deed
   -- its kernel has no recorder in these tables: more is read, so that all this has passed, and nothing is held
   Skips : (passed : List Entry) (r : Rows) → Deed
-  -- the reading ends: its recorder was told all that the kernel will ever show; or its kernel has no recorder in these tables
+  -- the reading ends: its recorder was told all that the kernel will ever show, and then its save was tried, or none was due; or its kernel has no recorder in these tables
   Ends : Deed
   Stops : (r : Rows) → Deed
 
 -- more was read, and this is held now
-abbrev pub read_on : Reading → List Entry → List Entry → Reading
-read_on was more held = record { read = was.read ++ more; held = held; over = was.over || list_any is_last more }
+abbrev pub read_on : Reading → List Entry → List Entry → Bool → Reading
+read_on was more held tried = record { read = was.read ++ more; held = held; over = was.over || list_any is_last more; tried = tried }
 
 -- one deed, and nothing else
 abbrev pub Does : Deed → KernelState → KernelState → Type 0
@@ -39,13 +39,13 @@ Does (Deed.Opens home) old new =
 Does (Deed.Tells command) old new =
     (home : HomeState) × (old.home ≡ Some home) × (new ≡ record { id = old.id; home = Some (told_more (asked command) home); reading = old.reading })
 Does (Deed.Begins passed) old new =
-    (old.reading ≡ None) × (new ≡ with_reading (Some (record { read = passed; held = []; over = false })) old)
-Does (Deed.Reads more told r) old new =
+    (old.reading ≡ None) × (new ≡ with_reading (Some (record { read = passed; held = []; over = false; tried = false })) old)
+Does (Deed.Reads more told tried r) old new =
     (was : Reading) × (held : List Entry) × ((told ≡ []) ⊎ (has_recorder old.id r ≡ true)) × (old.reading ≡ Some was) × (was.held ++ more ≡ told ++ held)
-    × (new ≡ with_reading (Some (read_on was more held)) old)
+    × (new ≡ with_reading (Some (read_on was more held tried)) old)
 Does (Deed.Skips passed r) old new =
     (was : Reading) × (more : List Entry) × (has_recorder old.id r ≡ false) × (old.reading ≡ Some was) × (passed ≡ was.read ++ more)
-    × (new ≡ with_reading (Some (read_on was more [])) old)
+    × (new ≡ with_reading (Some (read_on was more [] true)) old)
 Does Deed.Ends old new = IsDone old.reading × (new ≡ with_reading None old)
 Does (Deed.Stops r) old new = (has_recorder old.id r ≡ false) × (new ≡ with_reading None old)
 
@@ -96,7 +96,7 @@ Moves old (Event.Tell id command (Ok done)) new = DoesAt id (Deed.Tells command)
 Moves old (Event.Tell id command (Err why)) new = new ≡ old
 Moves old (Event.BeginReading id) new = (passed : List Entry) × DoesAt id (Deed.Begins passed) old new
 Moves old (Event.Record id date c d f g r s) new =
-    (new ≡ old) ⊎ (((more : List Entry) × (told : List Entry) × DoesAt id (Deed.Reads more told r) old new)
+    (new ≡ old) ⊎ (((more : List Entry) × (told : List Entry) × (tried : Bool) × DoesAt id (Deed.Reads more told tried r) old new)
     ⊎ ((passed : List Entry) × DoesAt id (Deed.Skips passed r) old new))
 Moves old (Event.EndReading id) new = DoesAt id Deed.Ends old new
 Moves old (Event.Unrecord r) new = new ≡ map (stopped r) old
@@ -127,7 +127,7 @@ abbrev pub recorded_in : List Deed → List Entry
 recorded_in [] = []
 recorded_in (Deed.Begins passed ∷ deeds) = []
 recorded_in (Deed.Skips passed r ∷ deeds) = []
-recorded_in (Deed.Reads more told r ∷ deeds) = recorded_in deeds ++ told
+recorded_in (Deed.Reads more told tried r ∷ deeds) = recorded_in deeds ++ told
 recorded_in (_ ∷ deeds) = recorded_in deeds
 
 -- what seat 0 of a kernel has told: nothing, until there is a home

@@ -9,7 +9,7 @@ use Rattle.js_kernels.specs.Told.{HomeState, KernelState, Reading, place_in, uno
 
 -- a reading begins: there was none, and now nothing is held
 abbrev pub BeginsReading : Option Reading → Option Reading → Type 0
-BeginsReading old new = (old ≡ None) × (now : Reading) × (new ≡ Some now) × (now.held ≡ []) × (now.over ≡ false)
+BeginsReading old new = (old ≡ None) × (now : Reading) × (new ≡ Some now) × (now.held ≡ []) × (now.over ≡ false) × (now.tried ≡ false)
 
 -- A reading goes on. More was read, after what was read before. Of what was held and that, in order, a front has gone, and the rest is held. The front was told, or
 -- its kernel has no recorder (`RecordsAt` of Recording)
@@ -67,10 +67,10 @@ LastHasGone old new =
     ((id : List ℕ) × IsLastUnopened new id old)
     ⊎ ((new ≡ old) × ((others : List KernelState) (id : List ℕ) → ¬ (IsLastUnopened others id old)))
 
--- nothing is read; or all was read that the kernel will ever show, and its recorder was told it
+-- nothing is read; or all was read that the kernel will ever show, its recorder was told it, and then its save was tried, or none was due
 abbrev pub IsDone : Option Reading → Type 0
 IsDone None = Unit {0}
-IsDone (Some reading) = (reading.held ≡ []) × (reading.over ≡ true)
+IsDone (Some reading) = (reading.held ≡ []) × (reading.over ≡ true) × (reading.tried ≡ true)
 
 -- that is so of the first kernel of this identifier, where one is there
 abbrev pub IsRead : List ℕ → List KernelState → Type 0

@@ -25,12 +25,13 @@ pub record HomeState : Type 0 where
   pub inbox : TableId
   pub told : List Sort
 
--- what is read for the recorder of its session: all that its follower has read so far, what of that the recorder was not told yet, and whether the last entry that
--- the kernel will ever show was read
+-- What is read for the recorder of its session: all that its follower has read so far, what of that the recorder was not told yet, and whether the last entry that
+-- the kernel will ever show was read. And whether the recorder's save was tried after the last read, or none was due then
 pub record Reading : Type 0 where
   pub read : List Entry
   pub held : List Entry
   pub over : Bool
+  pub tried : Bool
 
 -- a kernel that runs; there is no home until its thread has handed the ends out, and no reading where nothing is read for a recorder
 pub record KernelState : Type 0 where

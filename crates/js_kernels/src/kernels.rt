@@ -296,7 +296,8 @@ impl<L: Language> Ends<L> {
         self.has_ended() && self.lent() == 0 && self.scribe.is_none()
     }
 
-    /// Whether nothing is read for a recorder, or that was told all that the kernel will ever show.
+    /// Whether nothing is read for a recorder; or that was told all that the kernel will ever show, and then its save was tried, or
+    /// none was due.
     fn is_read(&self) -> bool
         ensures { IsTrue result ↔ IsDone (spec.reading_of self.now) }
     {
@@ -437,9 +438,9 @@ impl<L: Language> Hosted<L> {
         };
         let scribe = scribe.read(alloc);
         let found = scribe.found();
-        let due = saves && is_due(tables, self.id.as_str());
-        if !scribe.holds() && !due {
-            self.ends.scribe = Some(scribe);
+        let due = is_due(tables, self.id.as_str());
+        if !scribe.holds() && !(saves && due) {
+            self.ends.scribe = Some(scribe.waits(due));
             return found;
         }
         let scribe = scribe.tell(alloc, tables, shelf, date, self.id.as_str());
@@ -495,7 +496,7 @@ impl<R: Wait + Drop, L: Language> Running for Kernels<R, L> {
 
 impl<R: Wait + Drop, L: Language> Kernels<R, L> {
     ghost use Rattle.js_kernels.specs.Hosting as spec;
-    ghost use Rattle.std.specs.Prelude.{◌⊎◌, ◌↔◌, ℕ, Err, IsTrue, map};
+    ghost use Rattle.std.specs.Prelude.{◌⊎◌, ◌↔◌, ℕ, Err, IsTrue, is_some, map};
     ghost use Rattle.js_kernels.specs.Readings.{BeginsReading, ChangesReading, EndsHaveCome, EndsReading, HaveGone, IsRead, LastHasGone, ReadsOn, if_recorded};
     ghost use Rattle.js_kernels.specs.Recording.{RecordsAt};
     ghost use Rattle.js_kernels.specs.Told.{place_in};
@@ -607,7 +608,8 @@ impl<R: Wait + Drop, L: Language> Kernels<R, L> {
         self.hosted[place].record(self.alloc, tables, shelf, date, saves)
     }
 
-    /// Whether the recorder of a kernel was told all that the kernel will ever show, or nothing is read for it.
+    /// Whether the recorder of a kernel was told all that the kernel will ever show, and then its save was tried, or none was due;
+    /// or nothing is read for it.
     pub fn is_read(&self, id: &str) -> bool
         ensures { IsTrue result ↔ IsRead id.now self.now }
     {
@@ -618,15 +620,19 @@ impl<R: Wait + Drop, L: Language> Kernels<R, L> {
     }
 
     /// Whether a kernel is there.
-    pub fn is_there(&self, id: &str) -> bool {
+    pub fn is_there(&self, id: &str) -> bool
+        ensures { result ≡ is_some (place_in id.now self.now) }
+    {
         place_of(self.hosted.as_slice(), id).is_some()
     }
 
-    /// Reads for the recorder of a kernel no more, where that was told all that the kernel will ever show, or nothing is read for it.
+    /// Reads for the recorder of a kernel no more, where that was told all that the kernel will ever show, and then its save was tried,
+    /// or none was due; or where nothing is read for it.
     pub fn end_reading(&mut self, id: &str)
         requires { IsRead id.now self.old }
         ensures there { (place : ℕ) → place_in id.now self.old ≡ Some place → ChangesReading EndsReading id.now self.old self.new }
         ensures gone { place_in id.now self.old ≡ None → self.new ≡ self.old }
+        ensures read { IsRead id.now self.new }
     {
         if let Some(place) = place_of(self.hosted.as_slice(), id) {
             self.hosted[place].ends.end_reading();

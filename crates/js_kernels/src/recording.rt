@@ -1,5 +1,5 @@
 //! What is read for the recorder of a kernel's session.
-ghost use Rattle.std.specs.Prelude.{◌≡◌, ◌++◌, ◌||◌, ◌↔◌, [], IsTrue, false, true};
+ghost use Rattle.std.specs.Prelude.{◌≡◌, ◌++◌, ◌||◌, ◌↔◌, [], IsTrue, false, not, true};
 ghost use Rattle.std.specs.List.{list_any};
 ghost use Rattle.jk_board.specs.Ends.{board_of, read_by};
 ghost use Rattle.js_kernels.specs.Recording as spec;
@@ -27,6 +27,8 @@ pub struct Scribe<L: Language> {
     pub over: bool,
     /// Whether the last read found as much as it could take, so that there may be more.
     pub full: bool,
+    /// Whether the recorder's save was tried after the last read, or none was due then.
+    pub tried: bool,
 }
 
 /// Whether the last entry of a kernel is among them.
@@ -39,13 +41,14 @@ fn has_last(entries: &[Entry]) -> bool
 impl<L: Language> Scribe<L> {
     /// Nothing was read yet.
     pub(crate) fn new(alloc: Global, follower: Follower<L>) -> Scribe<L>
-        ensures { (result.follower ≡ follower) × (result.held.items ≡ []) × (result.over ≡ false) }
+        ensures { (result.follower ≡ follower) × (result.held.items ≡ []) × (result.over ≡ false) × (result.tried ≡ false) }
     {
         Scribe {
             follower,
             held: Vec::new(alloc),
             over: false,
             full: false,
+            tried: false,
         }
     }
 
@@ -59,6 +62,7 @@ impl<L: Language> Scribe<L> {
             held,
             over,
             full: _,
+            tried: _,
         } = self;
         if !held.is_empty() {
             return Scribe {
@@ -66,6 +70,7 @@ impl<L: Language> Scribe<L> {
                 held,
                 over,
                 full: false,
+                tried: false,
             };
         }
         let (follower, found) = follower.read(alloc, ENTRIES);
@@ -75,12 +80,14 @@ impl<L: Language> Scribe<L> {
                 over: over || has_last(entries.as_slice()),
                 full: entries.len() == ENTRIES,
                 held: entries,
+                tried: false,
             },
             Err(_) => Scribe {
                 follower,
                 held,
                 over,
                 full: false,
+                tried: false,
             },
         }
     }
@@ -101,15 +108,24 @@ impl<L: Language> Scribe<L> {
         !self.held.is_empty()
     }
 
-    /// Whether the recorder was told all that the kernel will ever show.
+    /// Whether the recorder was told all that the kernel will ever show, and its save was tried then, or none was due.
     pub(crate) fn is_over(&self) -> bool
-        ensures { IsTrue result ↔ ((self.now.held.items ≡ []) × (self.now.over ≡ true)) }
+        ensures { IsTrue result ↔ ((self.now.held.items ≡ []) × (self.now.over ≡ true) × (self.now.tried ≡ true)) }
     {
-        self.over && self.held.is_empty()
+        self.over && self.tried && self.held.is_empty()
+    }
+
+    /// The recorder is told nothing. Its save was not tried where it is due.
+    pub(crate) fn waits(self, due: bool) -> Scribe<L>
+        ensures { result ≡ record self { tried = not due } }
+    {
+        let mut scribe = self;
+        scribe.tried = !due;
+        scribe
     }
 
     /// Tells the recorder of a kernel what was read, and saves it where that is due. What there is no memory for is held. Where the
-    /// kernel has no recorder, nothing is.
+    /// kernel has no recorder, nothing is. A save for which there is no memory was not tried.
     pub(crate) fn tell<S: Shelf>(
         self,
         alloc: Global,
@@ -125,16 +141,18 @@ impl<L: Language> Scribe<L> {
             held,
             over,
             full,
+            tried: _,
         } = self;
-        let held = match follow(alloc, tables, shelf, date, kernel, held) {
-            Some(rest) => rest.into_vec(),
-            None => Vec::new(alloc),
+        let (held, tried) = match follow(alloc, tables, shelf, date, kernel, held) {
+            Some(followed) => (followed.rest.into_vec(), followed.tried),
+            None => (Vec::new(alloc), true),
         };
         Scribe {
             follower,
             held,
             over,
             full,
+            tried,
         }
     }
 }

@@ -1,7 +1,9 @@
 //! Kernels that end: who waits for that, and the rows that go.
-ghost use Rattle.std.specs.Prelude.{◌≡◌, ℕ, List, IfSome};
+ghost use Rattle.std.specs.Prelude.{◌≡◌, ℕ, false, List, IfSome};
 ghost use Rattle.js_http.specs.declared.method.Method.TheVariants.{Delete};
 ghost use Rattle.js_serve.specs.Asking.{asks, WantsEnd};
+ghost use Rattle.js_serve.specs.Ends.{MayGo};
+ghost use Rattle.js_tables.specs.Tables.{rows};
 ghost use Rattle.js_kernels.specs.Readings.{IsRead};
 ghost use Rattle.js_serve.specs.declared.desk.ends.Delay.TheVariants.{Join};
 
@@ -37,7 +39,8 @@ where
     R: Wait + Clock + RandomSource + Copy + Drop,
     S: Shelf + Drop,
 {
-    /// Ends the kernels whose recorders were told all that they show. Those who have waited long enough for another are answered.
+    /// Ends the kernels whose recorders were told all that they show, and whose saves were tried then. Those who have waited long
+    /// enough for another are answered.
     pub(super) fn end_ended(&mut self, date: &Text) {
         for place in (0..self.clients.endings().len()).rev() {
             let Some(kernel) = self.ending_at(place) else {
@@ -58,7 +61,7 @@ where
     }
 
     /// The kernel that is ending in a row goes, with its recorder, and those who wait for that are answered. All that it shows was
-    /// told to that recorder, or nothing is read for it.
+    /// told to that recorder, and then its save was tried, or none was due; or nothing is read for it.
     fn end_at(&mut self, place: usize, kernel: Text)
         requires { IsRead kernel self.old.manager.running }
     {
@@ -205,7 +208,9 @@ where
     }
 
     /// Whether something is still read for the recorder of a kernel.
-    pub(super) fn is_recorded(&self, id: &str) -> bool {
+    pub(super) fn is_recorded(&self, id: &str) -> bool
+        ensures { result ≡ false → MayGo id.now (rows self.now.manager.tables) self.now.manager.running }
+    {
         self.manager.tables.has_recorder(id) && self.manager.running.is_there(id)
     }
 
@@ -218,8 +223,9 @@ where
         Some(id)
     }
 
-    /// Drops the row of a kernel. It says whether there was memory for that.
+    /// Drops the row of a kernel, and its recorder. It says whether there was memory for that.
     pub(super) fn drop_row(&mut self, id: Text) -> bool
+        requires { MayGo id (rows self.old.manager.tables) self.old.manager.running }
         ensures { self.new.clients ≡ self.old.clients }
     {
         if self.manager.tables.make_room().is_err() {

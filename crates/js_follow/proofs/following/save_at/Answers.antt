@@ -3,14 +3,14 @@ use Rattle.js_tables.specs.declared.tables.Recording.{Recording}
 use Rattle.js_tables.specs.Tables.{rows, set_date}
 use Rattle.js_follow.specs.Following as spec
 use Rattle.js_follow.proofs.Places.{same_there}
-use Rattle.js_follow.proofs.DatedRows.{dated_where_saved, undated_where_refused}
+use Rattle.js_follow.proofs.DatedRows.{dated_where_saved, undated_where_refused, tried_where_saved}
 use Rattle.js_follow.proofs.following.save_at.Goals as goal
 
 pub returns-in_default : goal.returns-in_default
-returns-in_default g c = λ x h. inl (c.make_room.ensures.same, (refl, refl))
+returns-in_default g c = λ x h. inl (refl, c.make_room.ensures.same, (refl, refl))
 
 pub returns-in_default-copy : goal.returns-in_default-copy
-returns-in_default-copy g c = λ x h. inl (c.make_room.ensures.same, (refl, refl))
+returns-in_default-copy g c = λ x h. inl (refl, c.make_room.ensures.same, (refl, refl))
 
 pub returns-then-is_ok : goal.returns-then-is_ok
 returns-then-is_ok g c = λ x h.
@@ -36,6 +36,7 @@ returns-then-is_ok g c = λ x h.
       looks,
       c.update.ensures ∙ (ap (λ r. set_date c.in-Ok.file c.in-Ok-copy.saved (spec.with_recording c.args.place z r)) same
           ∙ (ap₂ (λ p d. set_date p d after) file c.in-Ok-copy.ensures ∙ sym (dated_where_saved result _ _ after (sym c.is_ok.ensures.value ∙ c.if-is_ok.true)))),
+      tried_where_saved result (sym c.is_ok.ensures.value ∙ c.if-is_ok.true),
     )
 
 pub returns-else-is_ok : goal.returns-else-is_ok
@@ -54,4 +55,10 @@ returns-else-is_ok g c = λ x h.
     let after = spec.with_recording c.args.place z (rows c.args.tables.now) in
     let looks = subst (λ (p : List ℕ). spec.LooksAndSaves (g.S.Shelf.contents c.args.shelf.now) (g.S.Shelf.contents c.look_and_save.new.shelf) (g.S.Shelf.faults c.args.shelf.now) (g.S.Shelf.faults c.look_and_save.new.shelf) p c.args.date.now result x z) path
     (subst (λ (y : Recording). spec.LooksAndSaves (g.S.Shelf.contents c.args.shelf.now) (g.S.Shelf.contents c.look_and_save.new.shelf) (g.S.Shelf.faults c.args.shelf.now) (g.S.Shelf.faults c.look_and_save.new.shelf) c.in-Ok.path c.args.date.now result y z) item c.look_and_save.ensures) in
-    inr (result, z, looks, ap (λ r. spec.with_recording c.args.place z r) c.make_room.ensures.same ∙ sym (undated_where_refused result _ _ after (sym c.is_ok.ensures.value ∙ c.if-is_ok.false)))
+    inr (
+      result,
+      z,
+      looks,
+      ap (λ r. spec.with_recording c.args.place z r) c.make_room.ensures.same ∙ sym (undated_where_refused result _ _ after (sym c.is_ok.ensures.value ∙ c.if-is_ok.false)),
+      c.was_tried.ensures,
+    )

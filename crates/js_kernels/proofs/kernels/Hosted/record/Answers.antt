@@ -2,8 +2,8 @@ use Rattle.std.proofs.Common.{refl, inl, inr}
 use Rattle.js_kernels.proofs.Hosting.{records_of, told_for}
 use Rattle.js_kernels.proofs.kernels.Hosted.record.Goals as goal
 
-pub returns-then-not-due-clause-records : goal.returns-then-not-due-clause-records
-returns-then-not-due-clause-records g c =
+pub returns-then-not-saves-clause-records : goal.returns-then-not-saves-clause-records
+returns-then-not-saves-clause-records g c =
     let read = c.read-scribe in
     records_of _ _ _ _ _ _ _ c.in-Some.scribe read.result _ _ c.in-Some.ensures.value (read.result, read.ensures.reads, read.ensures.board, inl (refl, refl, (refl, refl)))
 

@@ -4,7 +4,7 @@ use Rattle.js_kernels.specs.Hosting.{state_in, states_of}
 use Rattle.js_kernels.specs.Readings.{EndsReading, IsRead}
 use Rattle.js_kernels.specs.Recording.{reading_in}
 use Rattle.js_kernels.proofs.Hosting.{found_at}
-use Rattle.js_kernels.proofs.Readings.{changed_at, nowhere, somewhere}
+use Rattle.js_kernels.proofs.Readings.{changed_at, ended_at, nowhere, somewhere}
 use Rattle.js_kernels.specs.Events.{Event}
 use Rattle.js_kernels.proofs.Reached.{after}
 use Rattle.js_kernels.proofs.kernels.Kernels.end_reading.Goals as goal
@@ -30,6 +30,17 @@ pub returns-in_default-clause-there : goal.returns-in_default-clause-there
 returns-in_default-clause-there g c place found =
     absurd (none-some place (sym (nowhere c.args.self.now c.self.inside.hosted.items c.as_slice.result.now c.args.id.now c.self.view_is c.as_slice.ensures.value
     (sym c.in_default.is ∙ c.place_of.ensures)) ∙ found))
+
+-- what is read of it has ended
+pub returns-in-Some-clause-read : goal.returns-in-Some-clause-read
+returns-in-Some-clause-read g c =
+    let was = c.index_mut.result.now in
+    let ks = c.self.inside.hosted.items in
+    let first = found_at ks c.as_slice.result.now c.args.id.now c.in-Some.place c.as_slice.ensures.value c.in-Some.ensures in
+    ended_at ks c.in-Some.place was (record { id = was.id; ends = c.end_reading.new.self }) c.args.id.now first c.index_mut.ensures.value refl c.end_reading.ensures.1
+
+pub returns-in_default-clause-read : goal.returns-in_default-clause-read
+returns-in_default-clause-read g c = c.requires
 
 pub invariant_of-self : goal.invariant_of-self
 invariant_of-self g c =
