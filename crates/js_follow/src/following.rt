@@ -196,6 +196,7 @@ fn save_if_due<S: Shelf>(
 }
 
 /// What came of entries that a recorder was to follow.
+#[derive(Drop)]
 pub struct Followed {
     /// The last of them, which the recorder was not told since memory was refused.
     pub rest: Listed<Entry>,
