@@ -27,7 +27,7 @@ use Rattle.js_kernels.specs.Hosting.{HasTold, TellsHome, IsPlaceOf, IsPlaceAt, s
 use Rattle.js_kernels.specs.Boards.{inbox_in}
 use Rattle.js_kernels.specs.Recording.{ReadsAndTells, Records, RecordsAt, Tells as TellsRecorder, inbox_at, reading_in}
 use Rattle.js_kernels.specs.declared.place.Place.{Place}
-use Rattle.js_kernels.specs.declared.kernels.Hosted.{Hosted}
+use Rattle.js_kernels.specs.declared.kernels.hosted.Hosted.{Hosted}
 use Rattle.js_kernels.specs.declared.kernels.Unlent.{Unlent}
 use Rattle.js_kernels.specs.declared.recording.Scribe.{Scribe}
 use Rattle.js_kernels.proofs.Full.{was_full}

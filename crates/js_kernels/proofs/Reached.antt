@@ -10,7 +10,7 @@ use Rattle.js_kernels.specs.Events.{Event, Happens, IsReached}
 use Rattle.js_kernels.specs.Hosting.{kernel_of, state_in, state_of, states_of}
 use Rattle.js_kernels.specs.Readings.{BeginsReading, ChangesReading}
 use Rattle.js_kernels.specs.Recording.{reading_in}
-use Rattle.js_kernels.specs.declared.kernels.Hosted.{Hosted}
+use Rattle.js_kernels.specs.declared.kernels.hosted.Hosted.{Hosted}
 use Rattle.js_kernels.proofs.Lives.{one_more}
 
 none_of : {X : Type 0} (xs : List X) → length xs ≡ 0 → xs ≡ []

@@ -19,7 +19,7 @@ use Rattle.js_kernels.specs.Hosting.{home_of, kernel_of, reading_of, state_in, s
 use Rattle.js_kernels.specs.Readings.{BeginsReading, ChangesReading, EndsHaveCome, HaveGone, IsDone, IsLastUnopened, IsRead, LastHasGone, ReadsOn, if_recorded, with_reading}
 use Rattle.js_kernels.specs.Recording.{Reads, ReadsAndTells, Records, Tells, Waits, left, reading_by, reading_in}
 use Rattle.js_kernels.specs.Told.{HomeState, KernelState, Reading, place_in, unopened}
-use Rattle.js_kernels.specs.declared.kernels.Hosted.{Hosted}
+use Rattle.js_kernels.specs.declared.kernels.hosted.Hosted.{Hosted}
 use Rattle.js_kernels.specs.declared.recording.Scribe.{Scribe}
 use Rattle.js_kernels.proofs.Hosting.{id_place, kept_at, position_low, position_map, there_at}
 

@@ -12,8 +12,8 @@ use Rattle.js_rest.specs.declared.untold.Untold.TheVariants.{Full, Memory}
 use Rattle.js_kernels.specs.Told.{HomeState, KernelState, Reading, WasFull, told_more, place_in}
 use Rattle.js_kernels.specs.Recording.{reading_in}
 use Rattle.js_kernels.specs.declared.place.Place.{Place}
-use Rattle.js_kernels.specs.declared.kernels.Ends.{Ends}
-use Rattle.js_kernels.specs.declared.kernels.Hosted.{Hosted}
+use Rattle.js_kernels.specs.declared.kernels.ends.Ends.{Ends}
+use Rattle.js_kernels.specs.declared.kernels.hosted.Hosted.{Hosted}
 
 -- the seat 0 of this home has told one thing more
 abbrev pub HasTold : Sort → Option HomeState → Option HomeState → Type 0

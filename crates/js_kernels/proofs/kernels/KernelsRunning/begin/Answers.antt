@@ -1,7 +1,7 @@
 use Rattle.std.proofs.Common.{◌++◌, ◌∷◌, [], ap, ◌∙◌}
 use Rattle.js_kernels.specs.Events.{Event}
 use Rattle.js_kernels.specs.Hosting.{states_of}
-use Rattle.js_kernels.specs.declared.kernels.Hosted.{Hosted}
+use Rattle.js_kernels.specs.declared.kernels.hosted.Hosted.{Hosted}
 use Rattle.js_kernels.proofs.Reached.{after, made_last}
 use Rattle.js_kernels.proofs.kernels.KernelsRunning.begin.Goals as goal
 

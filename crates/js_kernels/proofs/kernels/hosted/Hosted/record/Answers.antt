@@ -1,6 +1,6 @@
 use Rattle.std.proofs.Common.{refl, inl, inr}
 use Rattle.js_kernels.proofs.Hosting.{records_of, told_for}
-use Rattle.js_kernels.proofs.kernels.Hosted.record.Goals as goal
+use Rattle.js_kernels.proofs.kernels.hosted.Hosted.record.Goals as goal
 
 pub returns-then-not-saves-clause-records : goal.returns-then-not-saves-clause-records
 returns-then-not-saves-clause-records g c =

@@ -1,6 +1,6 @@
 use Rattle.std.proofs.Common.{Some, refl, sym}
 use Rattle.js_kernels.proofs.Hosting.{told_home}
-use Rattle.js_kernels.proofs.kernels.Ends.tell.Goals as goal
+use Rattle.js_kernels.proofs.kernels.ends.Ends.tell.Goals as goal
 
 pub returns-clause-told : goal.returns-clause-told
 returns-clause-told g c =

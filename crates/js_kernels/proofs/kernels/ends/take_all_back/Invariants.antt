@@ -1,5 +1,5 @@
 use Rattle.std.proofs.Common.{◌≡◌}
-use Rattle.js_kernels.proofs.kernels.take_all_back.Given as goal
+use Rattle.js_kernels.proofs.kernels.ends.take_all_back.Given as goal
 
 abbrev pub invariant-loop : goal.invariant-loop
 invariant-loop g l = l.home.zero ≡ l.fn.home.zero

@@ -1,6 +1,6 @@
 use Rattle.std.proofs.Common.{ap, sym}
 use Rattle.js_kernels.specs.Hosting.{state_of, state_in}
-use Rattle.js_kernels.proofs.kernels.Ends.lend.Goals as goal
+use Rattle.js_kernels.proofs.kernels.ends.Ends.lend.Goals as goal
 
 pub returns-in-Ok-lent-clause-place : goal.returns-in-Ok-lent-clause-place
 returns-in-Ok-lent-clause-place g c =

@@ -1,6 +1,6 @@
 use Rattle.std.proofs.Common.{Some, refl, sym}
 use Rattle.js_kernels.proofs.Hosting.{kept_home}
-use Rattle.js_kernels.proofs.kernels.Ends.collect.Goals as goal
+use Rattle.js_kernels.proofs.kernels.ends.Ends.collect.Goals as goal
 
 pub returns-clause-home : goal.returns-clause-home
 returns-clause-home g c =
