@@ -387,6 +387,33 @@ fn a_client_that_waits_is_told_that_its_body_may_come(rt: HostRuntime) -> Result
     Ok(())
 }
 
+/// What is written to such a client, one byte a write, where the write of that number fails, and whether it was served.
+fn cut_at(alloc: Global, bytes: &[u8], step: usize, fault: u64) -> (Vec<u8>, bool) {
+    let mut stream = Stream {
+        reader: reader_of(bytes, step),
+        writer: writer_of(alloc, 1, fault),
+    };
+    let served = serve_one(alloc, &mut stream, |_request| Response::NoContent);
+    let is_served = served.is_ok();
+    let Stream { reader: _, writer } = stream;
+    (writer.written, is_served)
+}
+
+/// Where a write fails, what was written before it is a beginning of all that is due: that the body may come, and the answer.
+#[test]
+fn each_write_to_a_client_fails(rt: HostRuntime) -> Result<(), Fail> {
+    let waits = "PUT / HTTP/1.1\r\nExpect: 100-continue\r\nContent-Length: 4\r\n\r\nbody";
+    let all = "HTTP/1.1 100 Continue\r\n\r\nHTTP/1.1 204 No Content\r\nConnection: close\r\n\r\n";
+    let first = waits.len() - 4;
+    for before in 0..100_usize {
+        let (written, is_served) = cut_at(rt.alloc(), waits.as_bytes(), first, before as u64 + 1);
+        assert!(rt; all.as_bytes().starts_with(&written), "{before}");
+        assert_eq!(rt; written.len(), before.min(all.len()));
+        assert_eq!(rt; is_served, before >= all.len());
+    }
+    Ok(())
+}
+
 #[test]
 fn a_body_of_the_longest_length(rt: HostRuntime) -> Result<(), Fail> {
     let mut bytes = Vec::from_slice(

@@ -16,6 +16,8 @@ mod kernels;
 #[cfg(test)]
 mod notes;
 #[cfg(test)]
+mod older;
+#[cfg(test)]
 mod plays;
 #[cfg(test)]
 mod sessions;
