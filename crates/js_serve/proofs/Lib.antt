@@ -1,4 +1,1 @@
-pub mod Visits
-pub mod Channels
 pub mod Crossing
-pub mod Answering

@@ -2,13 +2,11 @@
 ghost use Rattle.std.specs.Prelude.{IfSome};
 ghost use Rattle.js_kernels.specs.Parsers.{AreParsersOf};
 
-use crate::call::Call;
-use crate::connection::{accept_all, serve_connection};
-use crate::crowd::Guest;
-use crate::limits::Limits;
 use crate::pulse::pulse;
 use crossbeam_channel::{Receiver, Sender};
 use jk_language::Language;
+use js_call::{Call, Guest, Limits};
+use js_connect::{accept_all, serve_connection};
 use js_kernels::{NewKernel, Opening, Parser, make_kernel};
 use std::alloc::Global;
 use std::net::TcpListener;

@@ -1,8 +1,8 @@
 //! The thread that calls the desk when recorders are to be read for.
 
-use crate::call::Call;
 use crossbeam_channel::{Receiver, RecvTimeoutError, SendError, Sender};
 use jk_language::Language;
+use js_call::Call;
 use js_kernels::Found;
 use std::sync::Wait;
 use std::thread;

@@ -1,7 +1,8 @@
 //! The server over the small language.
 
 use js_kernels::{Parser, drive_kernel, parse};
-use js_serve::{Desk, Job, Limits, close_desk, work};
+use js_call::Limits;
+use js_serve::{Desk, Job, close_desk, work};
 use js_shelf::MemoryShelf;
 use std::alloc::Global;
 use std::io::ErrorKind;

@@ -4,7 +4,7 @@ use crate::client::NOTHING;
 use crate::crew::Manner;
 use crate::rows::{ITS_ID, KERNEL, SCREEN};
 use crate::steps::{Step, play_in, play_to_a_stop};
-use js_serve::Limits;
+use js_call::Limits;
 use std::test::Fail;
 
 /// A client must go on within a third of a second.

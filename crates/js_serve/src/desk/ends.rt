@@ -1,7 +1,7 @@
 //! Kernels that end: who waits for that, and the rows that go.
 ghost use Rattle.std.specs.Prelude.{◌≡◌, ℕ, false, List, IfSome};
 ghost use Rattle.js_http.specs.declared.method.Method.TheVariants.{Delete};
-ghost use Rattle.js_serve.specs.Asking.{asks, WantsEnd};
+ghost use Rattle.js_call.specs.Asking.{asks, WantsEnd};
 ghost use Rattle.js_serve.specs.Ends.{MayGo};
 ghost use Rattle.js_tables.specs.Tables.{rows};
 ghost use Rattle.js_kernels.specs.Readings.{IsRead};

@@ -2,12 +2,12 @@
 ghost use Rattle.std.specs.Prelude.{◌≡◌};
 
 use super::Desk;
-use crate::clock::date_now;
 use crate::concern::is_within;
 use crate::job::Job;
 use crate::pulse::Round;
 use crossbeam_channel::unbounded;
 use jk_language::Language;
+use js_call::date_now;
 use js_kernels::Found;
 use js_shelf::Shelf;
 use json_form::Text;

@@ -1,15 +1,14 @@
 //! How the server stops: each kernel is ended as its DELETE ends it, and then the desk has nothing to do any more.
 ghost use Rattle.std.specs.Prelude.{◌≡◌, ◌&&◌, ◌||◌, IfOk, IfSome, codes};
 ghost use Rattle.js_http.specs.declared.response.Response.TheVariants.{Success};
-ghost use Rattle.js_serve.specs.Asking.{asks, Replies};
-ghost use Rattle.js_serve.specs.declared.call.Reply.TheVariants.{Last};
+ghost use Rattle.js_call.specs.Asking.{asks, Replies};
+ghost use Rattle.js_call.specs.declared.call.Reply.TheVariants.{Last};
 
 use super::Desk;
-use crate::call::Reply;
-use crate::clock::date_now;
 use crate::job::Job;
 use crate::pulse::QUICK;
 use jk_language::Language;
+use js_call::{Reply, date_now};
 use js_desk::is_over;
 use js_http::{Bytes, ErrorStatus, Response};
 use js_rest::{ReadRequest, Running};

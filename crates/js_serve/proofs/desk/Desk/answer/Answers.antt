@@ -1,6 +1,6 @@
 use Rattle.js_rest.specs.declared.parts.Outcome.TheVariants.{Shown}
-use Rattle.js_serve.specs.declared.call.Reply.TheVariants as reply
-use Rattle.js_serve.proofs.Answering.{answers}
+use Rattle.js_call.specs.declared.call.Reply.TheVariants as reply
+use Rattle.js_call.proofs.Answering.{answers}
 use Rattle.js_serve.proofs.desk.Desk.answer.Goals as goal
 
 pub send-requires : goal.send-requires

@@ -1,8 +1,8 @@
 use Rattle.std.proofs.Common.{inl, inr, refl}
-use Rattle.js_serve.specs.declared.call.Reply.TheVariants as reply
+use Rattle.js_call.specs.declared.call.Reply.TheVariants as reply
 use Rattle.std.specs.Prelude.{codes}
 use Rattle.js_http.specs.declared.response.Response.TheVariants.{Success}
-use Rattle.js_serve.proofs.Answering.{answers, responds, wants_end}
+use Rattle.js_call.proofs.Answering.{answers, responds, wants_end}
 use Rattle.js_serve.proofs.desk.Desk.carry_on.Goals as goal
 
 pub respond-requires : goal.respond-requires

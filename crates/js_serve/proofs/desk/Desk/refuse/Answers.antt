@@ -1,4 +1,4 @@
-use Rattle.js_serve.proofs.Answering.{refuses}
+use Rattle.js_call.proofs.Answering.{refuses}
 use Rattle.js_serve.proofs.desk.Desk.refuse.Goals as goal
 
 pub send-requires : goal.send-requires

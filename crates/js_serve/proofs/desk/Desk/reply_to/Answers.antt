@@ -1,6 +1,6 @@
 use Rattle.std.proofs.Common.{IfSome, inl, subst, sym}
-use Rattle.js_serve.specs.Asking.{asks}
-use Rattle.js_serve.proofs.Answering.{wants_end}
+use Rattle.js_call.specs.Asking.{asks}
+use Rattle.js_call.proofs.Answering.{wants_end}
 use Rattle.js_serve.proofs.desk.Desk.reply_to.Goals as goal
 
 pub end_later-requires : goal.end_later-requires

@@ -1,7 +1,7 @@
 use Rattle.std.proofs.Common.{subst}
 use Rattle.js_http.specs.declared.request.Request.{Request}
 use Rattle.js_tables.specs.Tables.{rows}
-use Rattle.js_serve.specs.Replies.{CameTo}
+use Rattle.js_call.specs.Replies.{CameTo}
 use Rattle.js_serve.proofs.desk.Desk.step.Goals as goal
 
 pub returns-clause-came : goal.returns-clause-came

@@ -1,0 +1,4 @@
+pub mod Replies
+pub mod Sets
+pub mod Exchanging
+pub mod Asking

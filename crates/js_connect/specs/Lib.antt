@@ -1,0 +1,3 @@
+pub mod Channels
+pub mod Answered
+pub mod Served
