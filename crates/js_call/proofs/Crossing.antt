@@ -25,7 +25,7 @@ use Rattle.js_call.specs.contracts.crowd.Ticket as Ticket
 use Rattle.js_call.specs.contracts.exchange.Exchange as Exchange
 use Rattle.js_call.specs.contracts.question.Question as Question
 use Rattle.js_call.specs.contracts.turns.Turns as Turns
-use Rattle.js_kernels.proofs.Crossing.{sender_send, count_send, place_send}
+use Rattle.js_drive.proofs.Crossing.{sender_send, count_send, place_send}
 
 tcp_send : IsSend TcpStream.the_row
 tcp_send = search (crosses, sendable) depth 60 fits 20000

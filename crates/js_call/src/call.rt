@@ -3,8 +3,8 @@
 use crate::crowd::Guest;
 use crate::question::Question;
 use jk_language::Language;
+use js_drive::Place;
 use js_http::Response;
-use js_kernels::Place;
 use js_paced::Selector;
 use js_shelf::Opening;
 use js_tables::About;

@@ -7,8 +7,8 @@ use crate::call::Reply;
 use crate::exchange::Exchange;
 use crossbeam_channel::{Receiver, Sender};
 use jk_language::Language;
+use js_drive::Opened;
 use js_http::Response;
-use js_kernels::Opened;
 use js_lend::Lease;
 use std::sync::Wait;
 

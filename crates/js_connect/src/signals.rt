@@ -1,7 +1,7 @@
 //! When a channel wakes its kernel.
 ghost use Rattle.std.specs.Prelude.{◌≡◌, ◌<◌, ◌≤◌, ◌⊎◌, true, false};
 
-use js_kernels::Wakes;
+use js_drive::Wakes;
 use js_paced::Owner;
 use js_ws::Turn;
 use std::cell::Cell;

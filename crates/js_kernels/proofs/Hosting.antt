@@ -26,7 +26,7 @@ use Rattle.js_kernels.specs.Told.{KernelState, IsToldOneMore, Tells as TellsOne,
 use Rattle.js_kernels.specs.Hosting.{HasTold, TellsHome, IsPlaceOf, IsPlaceAt, state_of, state_in, home_of, kernel_of, states_of}
 use Rattle.js_kernels.specs.Boards.{inbox_in}
 use Rattle.js_kernels.specs.Recording.{ReadsAndTells, Records, RecordsAt, Tells as TellsRecorder, inbox_at, reading_in}
-use Rattle.js_kernels.specs.declared.place.Place.{Place}
+use Rattle.js_drive.specs.declared.place.Place.{Place}
 use Rattle.js_kernels.specs.declared.kernels.hosted.Hosted.{Hosted}
 use Rattle.js_kernels.specs.declared.kernels.Unlent.{Unlent}
 use Rattle.js_kernels.specs.declared.recording.Scribe.{Scribe}

@@ -1,8 +1,6 @@
 pub mod Full
-pub mod Threads
 pub mod Watching
 pub mod Boards
-pub mod Crossing
 pub mod Hosting
 pub mod Readings
 pub mod Recorded

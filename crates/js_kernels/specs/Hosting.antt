@@ -11,7 +11,7 @@ use Rattle.js_rest.specs.declared.untold.Untold.{Untold}
 use Rattle.js_rest.specs.declared.untold.Untold.TheVariants.{Full, Memory}
 use Rattle.js_kernels.specs.Told.{HomeState, KernelState, Reading, WasFull, told_more, place_in}
 use Rattle.js_kernels.specs.Recording.{reading_in}
-use Rattle.js_kernels.specs.declared.place.Place.{Place}
+use Rattle.js_drive.specs.declared.place.Place.{Place}
 use Rattle.js_kernels.specs.declared.kernels.ends.Ends.{Ends}
 use Rattle.js_kernels.specs.declared.kernels.hosted.Hosted.{Hosted}
 

@@ -4,7 +4,5 @@ pub mod Told
 pub mod Readings
 pub mod Hosting
 pub mod Watching
-pub mod Threads
-pub mod Parsers
 pub mod Events
 pub mod Lives

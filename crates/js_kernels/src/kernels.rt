@@ -2,11 +2,10 @@
 ghost use Rattle.std.specs.Prelude.{◌≡◌, [], IfOk, MatchBool, true, position};
 ghost use Rattle.std.specs.Str.{bytes_eq};
 
-use crate::driving::{Opened, Opening};
 use crate::found::Found;
-use crate::place::Place;
 use crossbeam_channel::{Receiver, bounded};
 use jk_language::Language;
+use js_drive::{Opened, Opening, Place};
 use js_rest::{Running, Untold};
 use js_shelf::Shelf;
 use js_tables::{Command, Kernel as Row, Tables};

@@ -13,7 +13,7 @@ use Rattle.jk_language.specs.declared.language.Language as language
 use Rattle.js_call.specs.contracts.call.Call as Call
 use Rattle.js_serve.specs.contracts.job.Job as Job
 use Rattle.js_call.proofs.Crossing.{call_send, guest_send}
-use Rattle.js_kernels.proofs.Crossing.{sender_send, opening_send}
+use Rattle.js_drive.proofs.Crossing.{sender_send, opening_send}
 
 pauses_send : IsSend (Receiver.the_row u64-field.row Heap.the_row heap.ghosts)
 pauses_send = receiver.the_send u64-field.row Heap.the_row heap.ghosts (search (crosses, sendable) depth 60 fits 20000) send sync frees

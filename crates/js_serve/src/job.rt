@@ -1,13 +1,13 @@
 //! What the threads of the server do.
 ghost use Rattle.std.specs.Prelude.{IfSome};
-ghost use Rattle.js_kernels.specs.Parsers.{AreParsersOf};
+ghost use Rattle.js_drive.specs.Parsers.{AreParsersOf};
 
 use crate::pulse::pulse;
 use crossbeam_channel::{Receiver, Sender};
 use jk_language::Language;
 use js_call::{Call, Guest, Limits};
 use js_connect::{accept_all, serve_connection};
-use js_kernels::{NewKernel, Opening, Parser, make_kernel};
+use js_drive::{NewKernel, Opening, Parser, make_kernel};
 use std::alloc::Global;
 use std::net::TcpListener;
 use std::sync::Wait;

@@ -7,9 +7,9 @@ use Rattle.ob_load.specs.contracts.session.Session as Session
 use Rattle.ob_language.specs.contracts.oberon.Oberon as Oberon
 use Rattle.ob_language.specs.contracts.oberon.OberonLanguage.TheImpl as oberon
 use Rattle.js_serve.specs.contracts.job.Job as Job
-use Rattle.js_kernels.specs.contracts.parser.Parser as Parser
+use Rattle.js_drive.specs.contracts.parser.Parser as Parser
 use Rattle.js_serve.proofs.Crossing.{job_send}
-use Rattle.js_kernels.proofs.Crossing.{parser_send}
+use Rattle.js_drive.proofs.Crossing.{parser_send}
 
 pub oberon_job_send : IsSend (Job.the_row Oberon.the_row Session.the_row Tree.the_row Machine.the_row oberon.ghosts)
 oberon_job_send = job_send Oberon.the_row Session.the_row Tree.the_row Machine.the_row oberon.ghosts

@@ -1,10 +1,10 @@
 //! The program as a server.
 
+use js_call::Limits;
+use js_drive::{Parser, drive_kernel, parse};
 use js_files::FileShelf;
-use js_kernels::{Parser, drive_kernel, parse};
 use js_paced::Selector;
 use js_page::page;
-use js_call::Limits;
 use js_serve::{Desk, Job, close_desk, work};
 use ob_language::Oberon;
 use std::alloc::Global;

@@ -1,7 +1,7 @@
 //! The server over the small language.
 
-use js_kernels::{Parser, drive_kernel, parse};
 use js_call::Limits;
+use js_drive::{Parser, drive_kernel, parse};
 use js_serve::{Desk, Job, close_desk, work};
 use js_shelf::MemoryShelf;
 use std::alloc::Global;

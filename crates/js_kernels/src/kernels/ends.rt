@@ -5,15 +5,13 @@ ghost use Rattle.js_kernels.specs.Told as commands;
 ghost use Rattle.js_kernels.specs.Boards.{AreOn, AreOn-prop};
 
 use super::Unlent;
-use crate::driving::{Opened, Returned};
-use crate::place::Place;
 use crate::recording::Scribe;
-use crate::wakes::{SERVER, Wakes};
 use crate::watch::Watch;
 use crossbeam_channel::Sender;
 use jk_board::Follower;
 use jk_language::Language;
 use jk_log::What;
+use js_drive::{Opened, Place, Returned, SERVER, Wakes};
 use js_home::{Home, NoPlace};
 use js_rest::Untold;
 use js_tables::Kernel as Row;

@@ -4,8 +4,8 @@ ghost use Rattle.jk_board.specs.Ends.{AreFollowersOf};
 ghost use Rattle.jk_core.specs.State.{fresh};
 ghost use Rattle.jk_queues.specs.Ends.{AreAllOf, IsNew, seat_inbox, taken_by, taker_inbox};
 ghost use Rattle.jk_queues.specs.Pool.{offered_by, collected_by};
-ghost use Rattle.js_kernels.specs.Threads.{AreNewEndsOf};
-ghost use Rattle.js_kernels.specs.Parsers.{AreParsersOf};
+ghost use Rattle.js_drive.specs.Threads.{AreNewEndsOf};
+ghost use Rattle.js_drive.specs.Parsers.{AreParsersOf};
 
 use super::{Bells, NewKernel, Opened, Opening};
 use crate::bell::Bell;

@@ -4,7 +4,7 @@ ghost use Rattle.std.specs.Coded.{Coded-set, codes};
 ghost use Rattle.json_form.specs.contracts.kept.Json as json;
 ghost use Rattle.jk_board.specs.Ends.{board_of};
 ghost use Rattle.jk_queues.specs.Ends.{seat_inbox, sent_by, taker_inbox};
-ghost use Rattle.js_kernels.specs.Threads.{IsKernelsEnd, IsNewDriver};
+ghost use Rattle.js_drive.specs.Threads.{IsKernelsEnd, IsNewDriver};
 
 use crate::bell::{Bell, Driving};
 use crate::wakes::Wakes;

@@ -26,15 +26,15 @@ use Rattle.jk_queues.proofs.pool.WorkerEnd.TheSendSync as end
 use Rattle.jk_queues.specs.contracts.pool.WorkerEnd as WorkerEnd
 use Rattle.std.specs.contracts.timed.Parker as Parker
 use Rattle.std.specs.contracts.vec.Vec as Vec
-use Rattle.js_kernels.specs.contracts.bell.Bell as Bell
-use Rattle.js_kernels.specs.contracts.place.Place as Place
-use Rattle.js_kernels.specs.contracts.driving.Opened as Opened
-use Rattle.js_kernels.specs.contracts.driving.Opening as Opening
-use Rattle.js_kernels.specs.contracts.driving.Returned as Returned
-use Rattle.js_kernels.specs.contracts.parser.Parser as Parser
-use Rattle.js_kernels.specs.contracts.neighbours.Neighbour as Neighbour
-use Rattle.js_kernels.specs.contracts.neighbours.Neighbours as Neighbours
-use Rattle.js_kernels.specs.contracts.wakes.Wakes as Wakes
+use Rattle.js_drive.specs.contracts.bell.Bell as Bell
+use Rattle.js_drive.specs.contracts.place.Place as Place
+use Rattle.js_drive.specs.contracts.driving.Opened as Opened
+use Rattle.js_drive.specs.contracts.driving.Opening as Opening
+use Rattle.js_drive.specs.contracts.driving.Returned as Returned
+use Rattle.js_drive.specs.contracts.parser.Parser as Parser
+use Rattle.js_drive.specs.contracts.neighbours.Neighbour as Neighbour
+use Rattle.js_drive.specs.contracts.neighbours.Neighbours as Neighbours
+use Rattle.js_drive.specs.contracts.wakes.Wakes as Wakes
 
 pub sender_send : (R : RattleType) → IsSend R → IsSend (Sender.the_row R Heap.the_row heap.ghosts)
 sender_send R sent = sender.the_send R Heap.the_row heap.ghosts sent send sync frees

@@ -1,5 +1,5 @@
-use Rattle.js_kernels.proofs.Threads.{has_served}
-use Rattle.js_kernels.proofs.driving.run.Goals as goal
+use Rattle.js_drive.proofs.Threads.{has_served}
+use Rattle.js_drive.proofs.driving.run.Goals as goal
 
 pub returns : goal.returns
 returns g c =

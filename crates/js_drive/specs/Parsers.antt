@@ -1,9 +1,9 @@
 -- To be believed.
 -- Whose parsers come with a new kernel.
 use Rattle.std.specs.Prelude.{List, map}
-use Rattle.js_kernels.specs.Threads.{AreNewEndsOf}
-use Rattle.js_kernels.specs.declared.driving.NewKernel.{NewKernel}
-use Rattle.js_kernels.specs.declared.parser.Parser.{Parser}
+use Rattle.js_drive.specs.Threads.{AreNewEndsOf}
+use Rattle.js_drive.specs.declared.driving.NewKernel.{NewKernel}
+use Rattle.js_drive.specs.declared.parser.Parser.{Parser}
 
 module _ {L S T M : Type 0} where
   -- they are of the pool of its driver, and have taken and handed in nothing

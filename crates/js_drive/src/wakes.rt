@@ -6,7 +6,7 @@ use std::alloc::{AllocError, Global};
 use std::sync::Wait;
 
 /// The place of the server itself, which has no channel.
-pub(crate) const SERVER: u8 = 0;
+pub const SERVER: u8 = 0;
 
 /// The bell by which a kernel's driver rests, and its channels.
 #[derive(Drop)]
@@ -24,7 +24,7 @@ impl Wakes {
     }
 
     /// The same, for another thread.
-    pub(crate) fn another(&self) -> Result<Wakes, AllocError> {
+    pub fn another(&self) -> Result<Wakes, AllocError> {
         Ok(Wakes {
             driver: self.driver.another()?,
             channels: self.channels.another()?,

@@ -2,7 +2,7 @@ use Rattle.std.proofs.Common.{◌≡◌, All, List, sym, subst}
 use Rattle.jk_queues.specs.Pool.{IsNewEnd}
 use Rattle.jk_queues.specs.declared.pool.Pool.{Pool}
 use Rattle.jk_queues.specs.declared.pool.WorkerEnd.{WorkerEnd}
-use Rattle.js_kernels.proofs.driving.making.make_kernel.Goals as goal
+use Rattle.js_drive.proofs.driving.making.make_kernel.Goals as goal
 
 -- the parsers of a pool are those of it wherever it stands
 still : {T : Type 0} (old new : Pool T) (ends : List (WorkerEnd T)) → new ≡ old → All (IsNewEnd old) ends → All (IsNewEnd new) ends

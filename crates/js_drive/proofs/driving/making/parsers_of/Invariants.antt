@@ -1,5 +1,5 @@
 use Rattle.std.proofs.Common.{◌≡◌, map}
-use Rattle.js_kernels.proofs.driving.making.parsers_of.Given as goal
+use Rattle.js_drive.proofs.driving.making.parsers_of.Given as goal
 
 -- the parsers so far have the ends so far
 abbrev pub invariant-loop-end : goal.invariant-loop-end

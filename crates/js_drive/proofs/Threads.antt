@@ -15,7 +15,7 @@ use Rattle.jk_run.specs.Acts.{DriverState, driven, Leads}
 use Rattle.jk_run.specs.Driver.{HasDriven, Pends, state_of}
 use Rattle.jk_run.specs.Hand.{hand, hand_entries}
 use Rattle.jk_run.specs.declared.driver.Driver.{Driver}
-use Rattle.js_kernels.specs.Threads.{HasServed, IsNewDriver}
+use Rattle.js_drive.specs.Threads.{HasServed, IsNewDriver}
 
 -- nothing is in hand, so all that is pending is
 none_held : {T : Type 0} (entries : Option (Vec Entry Global)) (all now : KernelState T) → entries ≡ None → now ≡ all → Pends entries all now
