@@ -9,7 +9,7 @@ use Rattle.jk_core.specs.declared.kernel.Used.{Used}
 use Rattle.jk_core.specs.declared.kernel.Used.TheVariants.{Kept, Stranger}
 use Rattle.jk_core.specs.declared.kernel.Work.{Work as Worked}
 use Rattle.jk_log.specs.Log.{ended, takes}
-use Rattle.jk_log.specs.Results.{Reading}
+use Rattle.jk_log.specs.Results.{Reading, IsResult}
 use Rattle.jk_core.specs.State.{KernelState}
 use Rattle.jk_log.specs.Pending.{joined}
 use Rattle.jk_core.specs.Steps.{Takes, GivesJob, Hands, Works, without}
@@ -54,9 +54,9 @@ module _ {S T : Type 0} (spoken : Spoken S T) where
   leads_job job old new board given handed gives =
       leads_one (driven old board given handed) (GiveJob job) _ (new, gives, refl)
 
-  pub leads_hand : (p : Reading T) (used : Used (Reading T)) (old new : KernelState T) (board : List Entry) (given : List Job) (handed : List (Reading T)) → Hands p old used new → Leads spoken (driven old board given handed) (driven new board given (handed ++ p ∷ []))
-  leads_hand p used old new board given handed hands =
-      leads_one (driven old board given handed) (Hand p used) _ (new, hands, refl)
+  pub leads_hand : (p : Reading T) (used : Used (Reading T)) (old new : KernelState T) (board : List Entry) (given : List Job) (handed : List (Reading T)) → IsResult spoken p.text p.outcome → Hands p old used new → Leads spoken (driven old board given handed) (driven new board given (handed ++ p ∷ []))
+  leads_hand p used old new board given handed right hands =
+      leads_one (driven old board given handed) (Hand p used) _ (right, new, hands, refl)
 
   pub leads_work : (turns : ℕ) (answer : Worked) (old new : KernelState T) (board : List Entry) (given : List Job) (handed : List (Reading T)) → Works spoken turns old answer new → Leads spoken (driven old board given handed) (driven new board given handed)
   leads_work turns answer old new board given handed works =
@@ -76,7 +76,7 @@ module _ {S T : Type 0} (spoken : Spoken S T) where
       subst (λ (s : DriverState T). IsShown s.board s.kernel) (sym is) (shown_takes spoken d.board a d.kernel k took h)
   does_shown d (GiveJob job) e (k, (w, first, number, text, same), is) h =
       subst (λ (s : DriverState T). IsShown s.board s.kernel) (sym is) (subst (IsShown d.board) (sym same) h)
-  does_shown d (Hand p used) e (k, hands, is) h =
+  does_shown d (Hand p used) e (right, k, hands, is) h =
       subst (λ (s : DriverState T). IsShown s.board s.kernel) (sym is) (hands_shown d.board p d.kernel used k hands h)
   does_shown d (Work turns answer) e (k, works, is) h =
       subst (λ (s : DriverState T). IsShown s.board s.kernel) (sym is) (shown_works spoken d.board turns d.kernel answer k works h)
@@ -136,11 +136,11 @@ module _ {S T : Type 0} (spoken : Spoken S T) where
   results_none k handed more e board given =
       subst (λ (results : List (Reading T)). Leads spoken (driven k board given handed) (driven k board given results)) (sym e) (leads_none (driven k board given handed))
 
-  pub results_more : (start old new : KernelState T) (first handed more : List (Reading T)) (p : Reading T) (used : Used (Reading T)) → HandsResults spoken start first old handed → Hands p old used new → more ≡ handed ++ p ∷ [] → HandsResults spoken start first new more
-  results_more start old new first handed more p used before hands e board given =
+  pub results_more : (start old new : KernelState T) (first handed more : List (Reading T)) (p : Reading T) (used : Used (Reading T)) → HandsResults spoken start first old handed → IsResult spoken p.text p.outcome → Hands p old used new → more ≡ handed ++ p ∷ [] → HandsResults spoken start first new more
+  results_more start old new first handed more p used before right hands e board given =
       subst (λ (results : List (Reading T)). Leads spoken (driven start board given first) (driven new board given results)) (sym e)
       (leads_on (driven start board given first) (driven old board given handed) (driven new board given (handed ++ p ∷ []))
-      (before board given) (leads_hand p used old new board given handed hands))
+      (before board given) (leads_hand p used old new board given handed right hands))
 
   -- the board
   pub board_none : (k : KernelState T) (board more : List Entry) → more ≡ board → MovesBoard spoken k board k more

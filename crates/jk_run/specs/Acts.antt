@@ -8,7 +8,7 @@ use Rattle.jk_log.specs.declared.job.Job.{Job}
 use Rattle.jk_core.specs.declared.kernel.Used.{Used}
 use Rattle.jk_core.specs.declared.kernel.Work.{Work as Worked}
 use Rattle.jk_log.specs.Log.{ended}
-use Rattle.jk_log.specs.Results.{Reading}
+use Rattle.jk_log.specs.Results.{Reading, IsResult}
 use Rattle.jk_core.specs.State.{KernelState}
 use Rattle.jk_log.specs.Pending.{joined}
 use Rattle.jk_core.specs.Steps.{Takes, GivesJob, Hands, Works, without}
@@ -32,14 +32,16 @@ pub data Act (T : Type 0) : Type 0 where
   -- the entries of the first so many pending marks are published
   Publish : (marks : ℕ) → Act T
 
--- From one state of a driver to the next. No arrival is taken after a shutdown that does not start the kernel again.
+-- From one state of a driver to the next. No arrival is taken after a shutdown that does not start the kernel again. A result
+-- that is handed in is what came of reading its text.
 abbrev pub Does : {S T : Type 0} → Spoken S T → DriverState T → Act T → DriverState T → Type 0
 Does {T = T} spoken d (Take a) e =
     (ended d.kernel.log ≡ false) × (k : KernelState T) × Takes spoken a d.kernel k × (e ≡ driven k d.board d.given d.handed)
 Does {T = T} spoken d (GiveJob job) e =
     (k : KernelState T) × GivesJob d.kernel (Some job) k × (e ≡ driven k d.board (d.given ++ job ∷ []) d.handed)
 Does {T = T} spoken d (Hand p used) e =
-    (k : KernelState T) × Hands p d.kernel used k × (e ≡ driven k d.board d.given (d.handed ++ p ∷ []))
+    IsResult spoken p.text p.outcome
+    × (k : KernelState T) × Hands p d.kernel used k × (e ≡ driven k d.board d.given (d.handed ++ p ∷ []))
 Does {T = T} spoken d (Work turns answer) e =
     (k : KernelState T) × Works spoken turns d.kernel answer k × (e ≡ driven k d.board d.given d.handed)
 Does spoken d (Publish marks) e =

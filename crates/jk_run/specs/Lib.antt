@@ -1,4 +1,5 @@
 pub mod Hand
 pub mod Acts
 pub mod Around
+pub mod Supplied
 pub mod Driver

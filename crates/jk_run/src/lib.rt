@@ -12,6 +12,6 @@ mod round;
 mod running;
 
 pub use driver::{Driver, Parts};
-pub use law::act_law;
+pub use law::{act_law, drive_law};
 pub use round::drive_some;
 pub use running::drive;

@@ -16,7 +16,7 @@ loop-preserved-in-Some-collect g c =
       given = λ job jobs h. given_hands result c.loop.kernel used c.parsed.new.self c.parsed.ensures job jobs (c.loop.invariant.given job jobs h);
       same = (collected.same.0 ∙ c.loop.invariant.same.0, collected.same.1 ∙ c.loop.invariant.same.1, collected.same.2 ∙ c.loop.invariant.same.2);
       jobs = collected.jobs ∙ c.loop.invariant.jobs;
-      acts = results_more g.L.Language.spoken c.args.kernel.now c.loop.kernel c.parsed.new.self (collected_by c.args.pool.now) (collected_by c.loop.pool) (collected_by c.collect.new.self) result used c.loop.invariant.acts c.parsed.ensures collected.collected;
+      acts = results_more g.L.Language.spoken c.args.kernel.now c.loop.kernel c.parsed.new.self (collected_by c.args.pool.now) (collected_by c.loop.pool) (collected_by c.collect.new.self) result used c.loop.invariant.acts c.outcome.ensures.right c.parsed.ensures collected.collected;
     }
 
 pub loop-preserved-in-Some-collect-2 : goal.loop-preserved-in-Some-collect-2
@@ -29,7 +29,7 @@ loop-preserved-in-Some-collect-2 g c =
       given = λ job jobs h. given_hands result c.loop.kernel used c.parsed.new.self c.parsed.ensures job jobs (c.loop.invariant.given job jobs h);
       same = (collected.same.0 ∙ c.loop.invariant.same.0, collected.same.1 ∙ c.loop.invariant.same.1, collected.same.2 ∙ c.loop.invariant.same.2);
       jobs = collected.jobs ∙ c.loop.invariant.jobs;
-      acts = results_more g.L.Language.spoken c.args.kernel.now c.loop.kernel c.parsed.new.self (collected_by c.args.pool.now) (collected_by c.loop.pool) (collected_by c.collect.new.self) result used c.loop.invariant.acts c.parsed.ensures collected.collected;
+      acts = results_more g.L.Language.spoken c.args.kernel.now c.loop.kernel c.parsed.new.self (collected_by c.args.pool.now) (collected_by c.loop.pool) (collected_by c.collect.new.self) result used c.loop.invariant.acts c.outcome.ensures.right c.parsed.ensures collected.collected;
     }
 
 pub loop-preserved : goal.loop-preserved
@@ -42,7 +42,7 @@ loop-preserved g c =
       given = λ job jobs h. given_hands result c.loop.kernel used c.parsed.new.self c.parsed.ensures job jobs (c.loop.invariant.given job jobs h);
       same = (collected.same.0 ∙ c.loop.invariant.same.0, collected.same.1 ∙ c.loop.invariant.same.1, collected.same.2 ∙ c.loop.invariant.same.2);
       jobs = collected.jobs ∙ c.loop.invariant.jobs;
-      acts = results_more g.L.Language.spoken c.args.kernel.now c.loop.kernel c.parsed.new.self (collected_by c.args.pool.now) (collected_by c.loop.pool) (collected_by c.collect.new.self) result used c.loop.invariant.acts c.parsed.ensures collected.collected;
+      acts = results_more g.L.Language.spoken c.args.kernel.now c.loop.kernel c.parsed.new.self (collected_by c.args.pool.now) (collected_by c.loop.pool) (collected_by c.collect.new.self) result used c.loop.invariant.acts c.outcome.ensures.right c.parsed.ensures collected.collected;
     }
 
 pub returns-in-None-collect-clause-acts : goal.returns-in-None-collect-clause-acts
