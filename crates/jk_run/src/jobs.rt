@@ -88,6 +88,7 @@ pub(crate) fn hand_results<L: Language, R: Wait>(
     for _ in rt.forever() {
         match pool.collect(rt) {
             Some(result) => {
+                // That a result is of its text its type says: here clauses learn it.
                 let _ = result.outcome();
                 let _ = kernel.parsed(result);
             }
