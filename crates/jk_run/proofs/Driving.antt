@@ -74,8 +74,8 @@ module _ {S T : Type 0} (spoken : Spoken S T) where
   drives_run (Take a ∷ acts) d e w jobs near ready (mid, does, drives) supplied =
       let sent : World T = record w { sent = w.sent ++ a ∷ []; inbox = w.inbox ++ a ∷ [] } in
       let (event, v, step, around, leaves) =
-          act_steps spoken sent d mid (Take a) (record { kernel = near.kernel; board = near.board })
-          ([], ap (λ (inbox : List Arrival). inbox ++ a ∷ []) ready.inbox) does in
+      act_steps spoken sent d mid (Take a) (record { kernel = near.kernel; board = near.board })
+      ([], ap (λ (inbox : List Arrival). inbox ++ a ∷ []) ready.inbox) does in
       comes_sent w e a (arrivals_of acts) []
       (comes_after sent event v e (arrivals_of acts) [] step leaves.sent
       (drives_run acts mid e v jobs around
@@ -96,9 +96,9 @@ module _ {S T : Type 0} (spoken : Spoken S T) where
       let row : Reading T = row_of job p.outcome in
       let parsed : World T = record w { jobs = remove w.jobs which; results = w.results ++ row ∷ [] } in
       let offers : Offers parsed (Hand p used) =
-          (0, ap (λ (rows : List (Reading T)). slice_get (rows ++ row ∷ []) 0) ready.results ∙ ap (λ (r : Reading T). Some r) (same_row job p number text)) in
+      (0, ap (λ (rows : List (Reading T)). slice_get (rows ++ row ∷ []) 0) ready.results ∙ ap (λ (r : Reading T). Some r) (same_row job p number text)) in
       let (event, v, step, around, leaves) =
-          act_steps spoken parsed d mid (Hand p used) (record { kernel = near.kernel; board = near.board }) offers does in
+      act_steps spoken parsed d mid (Hand p used) (record { kernel = near.kernel; board = near.board }) offers does in
       comes_after w (world.Parse which p.outcome) parsed e (arrivals_of acts) []
       (job, ap (λ (js : List Job). slice_get js which) ready.jobs ∙ there, subst (λ (s : List ℕ). IsResult spoken s p.outcome) (sym text) does.0, refl) refl
       (comes_after parsed event v e (arrivals_of acts) [] step leaves.sent
@@ -128,10 +128,9 @@ module _ {S T : Type 0} (spoken : Spoken S T) where
   drive_runs acts d standing followers drives supplied =
       let first : World T = opening followers in
       let (events, v, run, around, sent, inbox) =
-          drives_run acts (driven fresh [] [] []) d first [] (record { kernel = refl; board = refl })
-          (record { sent = refl; inbox = refl; jobs = refl; results = refl }) drives supplied in
-      let (more, u, rest, near, all, stands) = sends v d standing around in
-      (
+      drives_run acts (driven fresh [] [] []) d first [] (record { kernel = refl; board = refl })
+      (record { sent = refl; inbox = refl; jobs = refl; results = refl }) drives supplied in
+      let (more, u, rest, near, all, stands) = sends v d standing around in (
         events ++ more,
         u,
         run_on first events v more u run rest,

@@ -24,5 +24,5 @@ pub fn drive_law<L: Language>()
     ensures { (acts : List (Act L.Tree)) (d : DriverState L.Tree) (standing : List Arrival) (followers : ℕ)
         → Drives L.spoken (driven fresh [] [] []) acts d → AreSupplied [] acts
         → (events : List (Event L.Tree)) × (w : World L.Tree) × Run L.spoken (opening followers) events w
-            × IsAround w d × (w.sent ≡ arrivals_of acts ++ standing) × (w.inbox ≡ standing) }
+        × IsAround w d × (w.sent ≡ arrivals_of acts ++ standing) × (w.inbox ≡ standing) }
 {}

@@ -19,6 +19,6 @@ returns g c =
         y,
         get_there recordings place x c.requires c.index_mut.ensures.value,
         subst (λ (es : List Entry). HasTold (take count es) x y) c.as_slice.ensures.value c.tell-count.ensures.told,
-        c.save_if_due.ensures y (set_there recordings place y c.requires),
+        c.save_if_due-tried.ensures y (set_there recordings place y c.requires),
       ),
     )

@@ -14,8 +14,8 @@ returns-in_default-copy g c = λ x h. inl (refl, c.make_room.ensures.same, (refl
 
 pub returns-then-is_ok : goal.returns-then-is_ok
 returns-then-is_ok g c = λ x h.
-    let z = c.look_and_save.new.recording in
-    let result = c.look_and_save.result in
+    let z = c.look_and_save-outcome.new.recording in
+    let result = c.look_and_save-outcome.result in
     let same = c.make_room.ensures.same in
     let recs : c.make_room.new.self.recordings.items ≡ c.args.tables.now.recordings.items = ap (λ r. r.recordings) same in
     let kernels : c.make_room.new.self.kernels.items ≡ c.args.tables.now.kernels.items = ap (λ r. r.kernels) same in
@@ -28,8 +28,8 @@ returns-then-is_ok g c = λ x h.
     let second : c.in-Ok.file ≡ spec.path_of c.make_room.new.self.kernels.items c.index.result.now = search rules in
     let file = second ∙ ap₂ (λ k y. spec.path_of k y) kernels seen in
     let after = spec.with_recording c.args.place z (rows c.args.tables.now) in
-    let looks = subst (λ (p : List ℕ). spec.LooksAndSaves (g.S.Shelf.contents c.args.shelf.now) (g.S.Shelf.contents c.look_and_save.new.shelf) (g.S.Shelf.faults c.args.shelf.now) (g.S.Shelf.faults c.look_and_save.new.shelf) p c.args.date.now result x z) path
-    (subst (λ (y : Recording). spec.LooksAndSaves (g.S.Shelf.contents c.args.shelf.now) (g.S.Shelf.contents c.look_and_save.new.shelf) (g.S.Shelf.faults c.args.shelf.now) (g.S.Shelf.faults c.look_and_save.new.shelf) c.in-Ok.path c.args.date.now result y z) item c.look_and_save.ensures) in
+    let looks = subst (λ (p : List ℕ). spec.LooksAndSaves (g.S.Shelf.contents c.args.shelf.now) (g.S.Shelf.contents c.look_and_save-outcome.new.shelf) (g.S.Shelf.faults c.args.shelf.now) (g.S.Shelf.faults c.look_and_save-outcome.new.shelf) p c.args.date.now result x z) path
+    (subst (λ (y : Recording). spec.LooksAndSaves (g.S.Shelf.contents c.args.shelf.now) (g.S.Shelf.contents c.look_and_save-outcome.new.shelf) (g.S.Shelf.faults c.args.shelf.now) (g.S.Shelf.faults c.look_and_save-outcome.new.shelf) c.in-Ok.path c.args.date.now result y z) item c.look_and_save-outcome.ensures) in
     inr (
       result,
       z,
@@ -39,10 +39,10 @@ returns-then-is_ok g c = λ x h.
       tried_where_saved result (sym c.is_ok.ensures.value ∙ c.if-is_ok.true),
     )
 
-pub returns-else-is_ok : goal.returns-else-is_ok
-returns-else-is_ok g c = λ x h.
-    let z = c.look_and_save.new.recording in
-    let result = c.look_and_save.result in
+pub returns : goal.returns
+returns g c = λ x h.
+    let z = c.look_and_save-outcome.new.recording in
+    let result = c.look_and_save-outcome.result in
     let same = c.make_room.ensures.same in
     let recs : c.make_room.new.self.recordings.items ≡ c.args.tables.now.recordings.items = ap (λ r. r.recordings) same in
     let kernels : c.make_room.new.self.kernels.items ≡ c.args.tables.now.kernels.items = ap (λ r. r.kernels) same in
@@ -53,8 +53,8 @@ returns-else-is_ok g c = λ x h.
     let first : c.in-Ok.path ≡ spec.path_of c.make_room.new.self.kernels.items c.index.result.now = search rules in
     let path = first ∙ ap₂ (λ k y. spec.path_of k y) kernels seen in
     let after = spec.with_recording c.args.place z (rows c.args.tables.now) in
-    let looks = subst (λ (p : List ℕ). spec.LooksAndSaves (g.S.Shelf.contents c.args.shelf.now) (g.S.Shelf.contents c.look_and_save.new.shelf) (g.S.Shelf.faults c.args.shelf.now) (g.S.Shelf.faults c.look_and_save.new.shelf) p c.args.date.now result x z) path
-    (subst (λ (y : Recording). spec.LooksAndSaves (g.S.Shelf.contents c.args.shelf.now) (g.S.Shelf.contents c.look_and_save.new.shelf) (g.S.Shelf.faults c.args.shelf.now) (g.S.Shelf.faults c.look_and_save.new.shelf) c.in-Ok.path c.args.date.now result y z) item c.look_and_save.ensures) in
+    let looks = subst (λ (p : List ℕ). spec.LooksAndSaves (g.S.Shelf.contents c.args.shelf.now) (g.S.Shelf.contents c.look_and_save-outcome.new.shelf) (g.S.Shelf.faults c.args.shelf.now) (g.S.Shelf.faults c.look_and_save-outcome.new.shelf) p c.args.date.now result x z) path
+    (subst (λ (y : Recording). spec.LooksAndSaves (g.S.Shelf.contents c.args.shelf.now) (g.S.Shelf.contents c.look_and_save-outcome.new.shelf) (g.S.Shelf.faults c.args.shelf.now) (g.S.Shelf.faults c.look_and_save-outcome.new.shelf) c.in-Ok.path c.args.date.now result y z) item c.look_and_save-outcome.ensures) in
     inr (
       result,
       z,
