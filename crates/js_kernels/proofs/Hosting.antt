@@ -14,6 +14,7 @@ use Rattle.jk_log.specs.declared.arrival.Arrival.{Arrival}
 use Rattle.jk_log.specs.declared.arrival.Sort.{Sort}
 use Rattle.jk_log.specs.declared.arrival.What.{What}
 use Rattle.jk_queues.specs.declared.inbox.Full.{Full}
+use Rattle.js_follow.specs.Following.{is_due}
 use Rattle.js_home.specs.Homes.{Tells, told_by, arrival_of}
 use Rattle.js_home.specs.declared.home.Home.{Home}
 use Rattle.jk_queues.specs.Ends.{seat_inbox, sent_by}
@@ -25,7 +26,7 @@ use Rattle.js_tables.specs.declared.plan.Command.{Command}
 use Rattle.js_kernels.specs.Told.{KernelState, IsToldOneMore, Tells as TellsOne, asked, outcome, told_more, place_in}
 use Rattle.js_kernels.specs.Hosting.{HasTold, TellsHome, IsPlaceOf, IsPlaceAt, state_of, state_in, home_of, kernel_of, states_of}
 use Rattle.js_kernels.specs.Boards.{inbox_in}
-use Rattle.js_kernels.specs.Recording.{ReadsAndTells, Records, RecordsAt, Tells as TellsRecorder, inbox_at, reading_in}
+use Rattle.js_kernels.specs.Recording.{ReadsAndTells, Records, RecordsAt, Tells as TellsRecorder, Waits, inbox_at, reading_in}
 use Rattle.js_drive.specs.declared.place.Place.{Place}
 use Rattle.js_kernels.specs.declared.kernels.hosted.Hosted.{Hosted}
 use Rattle.js_kernels.specs.declared.kernels.Unlent.{Unlent}
@@ -178,6 +179,13 @@ module _ {L S T M : Type 0} where
   pub told_for : (c d : Option Contents) (f g : ℕ) (kernel other date : List ℕ) (mid new : Scribe L S T M) (r s : Rows)
       → other ≡ kernel → TellsRecorder c d f g other date mid new r s → TellsRecorder c d f g kernel date mid new r s
   told_for c d f g kernel other date mid new r s same t = subst (λ (k : List ℕ). TellsRecorder c d f g k date mid new r s) same t
+
+  -- nothing is told, and it is known whether a save is due
+  pub waits_for : (c : Option Contents) (f : ℕ) (kernel other : List ℕ) (old new : Scribe L S T M) (r : Rows) (due : Bool) → new ≡ record old { tried = not due }
+      → due ≡ is_due other r → other ≡ kernel → Waits c c f f kernel old new r r
+  waits_for c f kernel other old new r due is asked same =
+      let known = asked ∙ ap (λ (k : List ℕ). is_due k r) same in
+      (is ∙ ap (λ (b : Bool). record old { tried = not b }) known, refl, (refl, refl))
 
   found_id : (ks : List (Hosted L S T M)) (place : ℕ) (was : Hosted L S T M) (id : List ℕ) → position (λ k. bytes_eq k.id id) ks ≡ Some place
       → was ≡ get_or ks place was → was.id ≡ id

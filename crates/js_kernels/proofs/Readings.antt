@@ -34,9 +34,9 @@ set_last xs place y long =
 
 -- what was set is there
 pub set_there : {X Y : Type 0} (f : X → Y) (xs : List X) (place : ℕ) (x : X) → place < length xs → slice_get (map f (set xs place x)) place ≡ Some (f x)
-set_there f [] place x low = absurd (omega low)
+set_there f [] place x low = absurd (omega (arith, low))
 set_there f (y ∷ xs) zero x low = refl
-set_there f (y ∷ xs) (suc place) x low = set_there f xs place x (omega low)
+set_there f (y ∷ xs) (suc place) x low = set_there f xs place x (omega (arith, low))
 
 at_last : {X : Type 0} (xs : List X) (y : X) → slice_get (xs ++ y ∷ []) (length xs) ≡ Some y
 at_last [] y = refl
@@ -167,10 +167,15 @@ module _ {L S T M : Type 0} where
       → place_in id old ≡ Some place
   somewhere old ks place id view first = ap (place_in id) (sym view) ∙ (id_place id ks ∙ first)
 
+  -- where it was looked for
+  pub there_is : (old : List KernelState) (ks xs : List (Hosted L S T M)) (id : List ℕ) (found : Option ℕ) → states_of ks ≡ old → xs ≡ ks
+      → found ≡ position (λ k. bytes_eq k.id id) xs → found ≡ place_in id old
+  there_is old ks xs id found view same is =
+      is ∙ (ap (position (λ (k : Hosted L S T M). bytes_eq k.id id)) same ∙ (sym (id_place id ks) ∙ ap (place_in id) view))
+
   pub nowhere : (old : List KernelState) (ks xs : List (Hosted L S T M)) (id : List ℕ) → states_of ks ≡ old → xs ≡ ks → None ≡ position (λ k. bytes_eq k.id id) xs
       → place_in id old ≡ None
-  nowhere old ks xs id view same none =
-      ap (place_in id) (sym view) ∙ (id_place id ks ∙ (ap (position (λ (k : Hosted L S T M). bytes_eq k.id id)) (sym same) ∙ sym none))
+  nowhere old ks xs id view same none = sym (there_is old ks xs id None view same none)
 
   -- whether all was read and told of it
   pub read_at : (old : List KernelState) (ks : List (Hosted L S T M)) (place : ℕ) (was : Hosted L S T M) (id : List ℕ) (b : Bool)

@@ -76,7 +76,7 @@ read_is was now more held tried read is over at = λ i. record { read = read i; 
 tells_so : (id : List ℕ) (r : Rows) (old new : List KernelState) (place : ℕ) (k : KernelState) (was now : Reading) (more told : List Entry) → place_in id old ≡ Some place
     → slice_get old place ≡ Some k → k.reading ≡ Some was → new ≡ slice_set old place (with_reading (Some now) k) → now.read ≡ was.read ++ more
     → was.held ++ more ≡ told ++ now.held → now.over ≡ (was.over || list_any is_last more) → (told ≡ []) ⊎ (has_recorder id r ≡ true)
-    → DoesSo id (Deed.Reads more told tried r) old new
+    → DoesSo id (Deed.Reads more told now.tried r) old new
 tells_so id r old new place k was now more told first there reading is read front over one =
     let its = subst (λ (x : List ℕ). (told ≡ []) ⊎ (has_recorder x r ≡ true)) (sym (id_at id old place k first there)) one in
     (place, k, with_reading (Some now) k, first, there, (was, now.held, its, reading, front, ap (λ (x : Reading). with_reading (Some x) k) (read_is was now more now.held now.tried read refl over refl)), is)
