@@ -1,6 +1,7 @@
 //! The machine: it runs stack code in slices of turns.
 #![tactic(auto)]
 
+mod calls;
 mod image;
 mod kept;
 mod machine;
