@@ -1,5 +1,6 @@
 -- Each step keeps the rule of the board.
 use Rattle.std.proofs.Common.{◌≡◌, ◌≢◌, ℕ, ◌≤◌, List, [], ◌∷◌, ◌++◌, drop, length, set, sym, refl, ap, ◌∙◌, subst, ⊎_elim, append_assoc, append-nil, fold, Result, Ok, Err, arith}
+use Rattle.std.specs.List.{AllByRecursion}
 use Rattle.std.specs.Prelude.{MatchResult}
 use mathlib.Core.Option.{some, some-ne-none}
 use lib.ListN.{get_elem?}
@@ -14,13 +15,13 @@ use Rattle.jk_board.specs.declared.publisher.Window.{Window}
 use Rattle.jk_board.specs.Posted.{held_of, Shows, Follows}
 use Rattle.jk_board.specs.Pending.{IsNext, window_of}
 use Rattle.jk_board.specs.Boards.{StartsWith, IsBoard}
-use Rattle.jk_board.specs.Rule.{Each, sees, Begins, Grows, Finds}
+use Rattle.jk_board.specs.Rule.{sees, Begins, Grows, Finds}
 use Rattle.jk_board.proofs.Lists.{same_all}
 use Rattle.jk_board.proofs.Dropping.{shows_more}
 
-Each-weaker : {X : Type 0} (P Q : X → Type 0) (xs : List X) → ((x : X) → P x → Q x) → Each P xs → Each Q xs
-Each-weaker P Q [] h a = tt
-Each-weaker P Q (x ∷ xs) h a = (h x a.0, Each-weaker P Q xs h a.1)
+All-weaker : {X : Type 0} (P Q : X → Type 0) (xs : List X) → ((x : X) → P x → Q x) → AllByRecursion P xs → AllByRecursion Q xs
+All-weaker P Q [] h a = tt
+All-weaker P Q (x ∷ xs) h a = (h x a.0, All-weaker P Q xs h a.1)
 
 -- a list that begins with all of another begins with what that one begins with
 longer : (all more first : List Entry) → StartsWith all first → StartsWith (all ++ more) first
@@ -30,7 +31,7 @@ itself : (all : List Entry) → StartsWith all all
 itself all = ([], sym (append-nil all))
 
 still_begins : (all more : List Entry) (v : Seen) → Begins all v → Begins (all ++ more) v
-still_begins all more v h = (longer all more v.seen h.0, Each-weaker _ _ v.told (λ first. longer all more first) h.1)
+still_begins all more v h = (longer all more v.seen h.0, All-weaker _ _ v.told (λ first. longer all more first) h.1)
 
 only_new : (all : List Entry) (views : List Seen) (seat : ℕ) (w : Seen) → Begins all w → ((j : ℕ) (u : Seen) → get_elem? views j ≡ some u → Begins all u)
     → (j : ℕ) (u : Seen) → get_elem? (set views seat w) j ≡ some u → Begins all u

@@ -2,6 +2,7 @@
 -- The rule of a board: what is kept is the last part of a beginning of what a legal log shows, and that begins with all that anyone
 -- has seen or was told of.
 use Rattle.std.specs.Prelude.{◌≡◌, ℕ, List, [], ◌∷◌}
+use Rattle.std.specs.List.{AllByRecursion}
 use mathlib.Core.Option.{some}
 use lib.ListN.{get_elem?}
 use Rattle.jk_language.specs.Spoken.{Spoken}
@@ -11,15 +12,11 @@ use Rattle.jk_board.specs.declared.rule.Seen.{Seen}
 use Rattle.jk_board.specs.Posted.{Shows}
 use Rattle.jk_board.specs.Boards.{StartsWith, IsBoard}
 
-abbrev pub Each : {X : Type 0} → (X → Type 0) → List X → Type 0
-Each P [] = Unit {0}
-Each P (x ∷ xs) = P x × Each P xs
-
 abbrev pub sees : List Entry → List (List Entry) → Seen
 sees s t = record { seen = s; told = t }
 
 abbrev pub Begins : List Entry → Seen → Type 0
-Begins all v = StartsWith all v.seen × Each (StartsWith all) v.told
+Begins all v = StartsWith all v.seen × AllByRecursion (StartsWith all) v.told
 
 -- there is one whole board, of which the last part is kept, and it begins with all that was seen and told of
 abbrev pub Grows : {S T : Type 0} → Spoken S T → Posted → List Seen → Type 0

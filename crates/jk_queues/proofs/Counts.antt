@@ -1,12 +1,13 @@
 -- How many arrivals stand in an inbox of which all seats are known.
 use Rattle.std.proofs.Common.{◌≡◌, ℕ, zero, suc, ◌+◌, ◌<◌, ◌≤◌, ◌==◌, Bool, true, false, cond, List, [], ◌∷◌, ◌++◌, length, sym, refl, ap, ◌∙◌, subst, arith, lit<}
+use Rattle.std.specs.List.{AllByRecursion}
 use Rattle.std.proofs.lemmas.List.{length-append}
 use Rattle.jk_log.specs.declared.arrival.Arrival.{Arrival}
 use Rattle.jk_queues.specs.declared.part.Part.{Part}
 use Rattle.jk_queues.specs.declared.part.Sender.{Sender}
 use Rattle.crossbeam_queue.specs.Fifo.{Held}
-use Rattle.jk_queues.specs.Inbox.{part, own, of, Each, SentIn, IsSeated, Stands}
-use Rattle.jk_queues.proofs.Each.{append_none, Each-left, Each-right}
+use Rattle.jk_queues.specs.Inbox.{part, own, of, SentIn, IsSeated, Stands}
+use Rattle.jk_queues.proofs.Each.{append_none, All-left, All-right}
 use Rattle.jk_queues.proofs.Inboxes.{own_first}
 
 abbrev hit : ℕ → ℕ → ℕ
@@ -38,7 +39,7 @@ count-none : (p : ℕ) → count p [] ≡ 0
 unfolding count
 count-none p = refl
 
-count_all : (xs : List Arrival) → Each IsSeated xs → length xs ≡ count 0 xs + (count 1 xs + (count 2 xs + (count 3 xs + (count 4 xs + (count 5 xs + (count 6 xs + count 7 xs))))))
+count_all : (xs : List Arrival) → AllByRecursion IsSeated xs → length xs ≡ count 0 xs + (count 1 xs + (count 2 xs + (count 3 xs + (count 4 xs + (count 5 xs + (count 6 xs + count 7 xs))))))
 count_all [] low = omega (arith, count-none 0, count-none 1, count-none 2, count-none 3, count-none 4, count-none 5, count-none 6, count-none 7)
 count_all (x ∷ xs) low =
     let rest = count_all xs low.1 in
@@ -46,9 +47,9 @@ count_all (x ∷ xs) low =
     omega (arith, count-cons 0 x xs, count-cons 1 x xs, count-cons 2 x xs, count-cons 3 x xs, count-cons 4 x xs, count-cons 5 x xs, count-cons 6 x xs, count-cons 7 x xs)
 
 abbrev pub Few : List Sender → List Arrival → Type 0
-Few ss taken = (all : List Arrival) → Each IsSeated all → Each (SentIn all) ss → length all ≤ length taken + 256
+Few ss taken = (all : List Arrival) → AllByRecursion IsSeated all → AllByRecursion (SentIn all) ss → length all ≤ length taken + 256
 
-pub few_left : (v : Part) (items : List Arrival) (n : ℕ) → v.takes ≡ true → Stands v items → ((all : List Arrival) → Each IsSeated all → Each (SentIn all) v.senders → length all ≡ n) → Few v.senders v.taken
+pub few_left : (v : Part) (items : List Arrival) (n : ℕ) → v.takes ≡ true → Stands v items → ((all : List Arrival) → AllByRecursion IsSeated all → AllByRecursion (SentIn all) v.senders → length all ≡ n) → Few v.senders v.taken
 few_left v items n may h counted all seated each =
     let here = counted all seated each in
     let then = counted (h.0 ++ items) h.3 h.1 in
@@ -58,7 +59,7 @@ few_left v items n may h counted all seated each =
 
 pub room_for : (v : Part) (ss : List Sender) (taken left : List Arrival) (x : Arrival) (items : List Arrival) → v ≡ part ss true (taken ++ left) → Stands v (x ∷ items) → Few ss taken → length left < 256
 room_for v ss taken left x items is h few =
-    let sums = few (h.0 ++ (x ∷ items)) h.3 (subst (λ (u : Part). Each (SentIn (h.0 ++ (x ∷ items))) u.senders) is h.1) in
+    let sums = few (h.0 ++ (x ∷ items)) h.3 (subst (λ (u : Part). AllByRecursion (SentIn (h.0 ++ (x ∷ items))) u.senders) is h.1) in
     let t : h.0 ≡ taken ++ left = sym (h.2 (ap (λ (u : Part). u.takes) is)) ∙ ap (λ (u : Part). u.taken) is in
     let len = ap length t in
     omega (arith, length-append h.0 (x ∷ items), length-append taken left)
@@ -67,13 +68,13 @@ none : {X : Type 0} (xs : List X) → length xs ≡ 0 → xs ≡ []
 none [] e = refl
 none (x ∷ xs) e = absurd (omega arith)
 
-pub all_left : (v : Part) (ss : List Sender) (taken left : List Arrival) → v ≡ part ss true (taken ++ left) → Held 0 (Stands v) → Each (SentIn (taken ++ left)) ss
+pub all_left : (v : Part) (ss : List Sender) (taken left : List Arrival) → v ≡ part ss true (taken ++ left) → Held 0 (Stands v) → AllByRecursion (SentIn (taken ++ left)) ss
 all_left v ss taken left is h =
     let t : h.2.0 ≡ taken ++ left = sym (h.2.2 (ap (λ (u : Part). u.takes) is)) ∙ ap (λ (u : Part). u.taken) is in
     let all : h.2.0 ++ h.0 ≡ taken ++ left = append_none h.2.0 h.0 (none h.0 h.1) ∙ t in
-    subst (λ (all : List Arrival). Each (SentIn all) ss) all (subst (λ (u : Part). Each (SentIn (h.2.0 ++ h.0)) u.senders) is h.2.1)
+    subst (λ (all : List Arrival). AllByRecursion (SentIn all) ss) all (subst (λ (u : Part). AllByRecursion (SentIn (h.2.0 ++ h.0)) u.senders) is h.2.1)
 
-own_sent : (v : Part) (p : ℕ) (all : List Arrival) → p < 8 → (own v).place ≡ p → Each (SentIn all) v.senders → (own v).sent ≡ of p all
+own_sent : (v : Part) (p : ℕ) (all : List Arrival) → p < 8 → (own v).place ≡ p → AllByRecursion (SentIn all) v.senders → (own v).sent ≡ of p all
 own_sent v p all low is each = subst (λ q. (own v).sent ≡ of q all) is (own_first (SentIn all) v.senders each (subst (λ q. q < 8) (sym is) low))
 
 count_of : Part → ℕ
@@ -88,27 +89,27 @@ module _ (t : List Sender) (v0 v1 v2 v3 v4 v5 v6 v7 : Part) (p0 : (own v0).place
   gathered = t ++ v0.senders ++ v1.senders ++ v2.senders ++ v3.senders ++ v4.senders ++ v5.senders ++ v6.senders ++ v7.senders
 
   -- each seat is among the gathered
-  pub all_sent : (all : List Arrival) → Each (SentIn all) gathered
+  pub all_sent : (all : List Arrival) → AllByRecursion (SentIn all) gathered
       → ((own v0).sent ≡ of 0 all) × ((own v1).sent ≡ of 1 all) × ((own v2).sent ≡ of 2 all) × ((own v3).sent ≡ of 3 all) × ((own v4).sent ≡ of 4 all) × ((own v5).sent ≡ of 5 all) × ((own v6).sent ≡ of 6 all) × ((own v7).sent ≡ of 7 all)
   all_sent all h8 =
-      let h7 = Each-left (SentIn all) (t ++ v0.senders ++ v1.senders ++ v2.senders ++ v3.senders ++ v4.senders ++ v5.senders ++ v6.senders) v7.senders h8 in
-      let h6 = Each-left (SentIn all) (t ++ v0.senders ++ v1.senders ++ v2.senders ++ v3.senders ++ v4.senders ++ v5.senders) v6.senders h7 in
-      let h5 = Each-left (SentIn all) (t ++ v0.senders ++ v1.senders ++ v2.senders ++ v3.senders ++ v4.senders) v5.senders h6 in
-      let h4 = Each-left (SentIn all) (t ++ v0.senders ++ v1.senders ++ v2.senders ++ v3.senders) v4.senders h5 in
-      let h3 = Each-left (SentIn all) (t ++ v0.senders ++ v1.senders ++ v2.senders) v3.senders h4 in
-      let h2 = Each-left (SentIn all) (t ++ v0.senders ++ v1.senders) v2.senders h3 in
-      let h1 = Each-left (SentIn all) (t ++ v0.senders) v1.senders h2 in (
-        own_sent v0 0 all (lit< tt) p0 (Each-right (SentIn all) (t) v0.senders h1),
-        own_sent v1 1 all (lit< tt) p1 (Each-right (SentIn all) (t ++ v0.senders) v1.senders h2),
-        own_sent v2 2 all (lit< tt) p2 (Each-right (SentIn all) (t ++ v0.senders ++ v1.senders) v2.senders h3),
-        own_sent v3 3 all (lit< tt) p3 (Each-right (SentIn all) (t ++ v0.senders ++ v1.senders ++ v2.senders) v3.senders h4),
-        own_sent v4 4 all (lit< tt) p4 (Each-right (SentIn all) (t ++ v0.senders ++ v1.senders ++ v2.senders ++ v3.senders) v4.senders h5),
-        own_sent v5 5 all (lit< tt) p5 (Each-right (SentIn all) (t ++ v0.senders ++ v1.senders ++ v2.senders ++ v3.senders ++ v4.senders) v5.senders h6),
-        own_sent v6 6 all (lit< tt) p6 (Each-right (SentIn all) (t ++ v0.senders ++ v1.senders ++ v2.senders ++ v3.senders ++ v4.senders ++ v5.senders) v6.senders h7),
-        own_sent v7 7 all (lit< tt) p7 (Each-right (SentIn all) (t ++ v0.senders ++ v1.senders ++ v2.senders ++ v3.senders ++ v4.senders ++ v5.senders ++ v6.senders) v7.senders h8),
+      let h7 = All-left (SentIn all) (t ++ v0.senders ++ v1.senders ++ v2.senders ++ v3.senders ++ v4.senders ++ v5.senders ++ v6.senders) v7.senders h8 in
+      let h6 = All-left (SentIn all) (t ++ v0.senders ++ v1.senders ++ v2.senders ++ v3.senders ++ v4.senders ++ v5.senders) v6.senders h7 in
+      let h5 = All-left (SentIn all) (t ++ v0.senders ++ v1.senders ++ v2.senders ++ v3.senders ++ v4.senders) v5.senders h6 in
+      let h4 = All-left (SentIn all) (t ++ v0.senders ++ v1.senders ++ v2.senders ++ v3.senders) v4.senders h5 in
+      let h3 = All-left (SentIn all) (t ++ v0.senders ++ v1.senders ++ v2.senders) v3.senders h4 in
+      let h2 = All-left (SentIn all) (t ++ v0.senders ++ v1.senders) v2.senders h3 in
+      let h1 = All-left (SentIn all) (t ++ v0.senders) v1.senders h2 in (
+        own_sent v0 0 all (lit< tt) p0 (All-right (SentIn all) (t) v0.senders h1),
+        own_sent v1 1 all (lit< tt) p1 (All-right (SentIn all) (t ++ v0.senders) v1.senders h2),
+        own_sent v2 2 all (lit< tt) p2 (All-right (SentIn all) (t ++ v0.senders ++ v1.senders) v2.senders h3),
+        own_sent v3 3 all (lit< tt) p3 (All-right (SentIn all) (t ++ v0.senders ++ v1.senders ++ v2.senders) v3.senders h4),
+        own_sent v4 4 all (lit< tt) p4 (All-right (SentIn all) (t ++ v0.senders ++ v1.senders ++ v2.senders ++ v3.senders) v4.senders h5),
+        own_sent v5 5 all (lit< tt) p5 (All-right (SentIn all) (t ++ v0.senders ++ v1.senders ++ v2.senders ++ v3.senders ++ v4.senders) v5.senders h6),
+        own_sent v6 6 all (lit< tt) p6 (All-right (SentIn all) (t ++ v0.senders ++ v1.senders ++ v2.senders ++ v3.senders ++ v4.senders ++ v5.senders) v6.senders h7),
+        own_sent v7 7 all (lit< tt) p7 (All-right (SentIn all) (t ++ v0.senders ++ v1.senders ++ v2.senders ++ v3.senders ++ v4.senders ++ v5.senders ++ v6.senders) v7.senders h8),
       )
 
-  pub counted : (n : ℕ) × ((all : List Arrival) → Each IsSeated all → Each (SentIn all) gathered → length all ≡ n)
+  pub counted : (n : ℕ) × ((all : List Arrival) → AllByRecursion IsSeated all → AllByRecursion (SentIn all) gathered → length all ≡ n)
   counted = (
     count_of v0 + (count_of v1 + (count_of v2 + (count_of v3 + (count_of v4 + (count_of v5 + (count_of v6 + count_of v7)))))),
     λ all seated each.

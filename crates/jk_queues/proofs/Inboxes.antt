@@ -1,5 +1,6 @@
 -- Each step keeps the rule of the inbox.
 use Rattle.std.specs.Prelude.{Option, Some, None, IfSome, MatchOption}
+use Rattle.std.specs.List.{AllByRecursion}
 use Rattle.std.proofs.Common.{◌≡◌, ◌≢◌, ℕ, zero, suc, ◌+◌, ◌-◌, ◌<◌, ◌≤◌, ◌==◌, true, false, true≢false, cond, List, [], ◌∷◌, ◌++◌, length, take, drop, slice_index_or, set, sym, refl, ap, ◌∙◌, subst, ◌⊎◌, inl, inr, ⊎_elim, append_assoc, arith, eq-eqb, ne_eqb, lit≤}
 use mathlib.Core.Option.{some, some-ne-none, some-injective}
 use lib.ListN.{get_elem?}
@@ -9,11 +10,11 @@ use Rattle.std.proofs.lemmas.List.{length-append}
 use Rattle.jk_log.specs.declared.arrival.Arrival.{Arrival}
 use Rattle.jk_queues.specs.declared.part.Part.{Part}
 use Rattle.jk_queues.specs.declared.part.Sender.{Sender}
-use Rattle.jk_queues.specs.Inbox.{sender, part, of, Each, SentIn, IsSeated, Fits, InOrder, Stands, sends, takes, nobody, own, fresh, whole}
-use Rattle.jk_queues.proofs.Each.{Each-right, Each-append, Each-map, Each-weaker, of-snoc, of_other, append_none}
+use Rattle.jk_queues.specs.Inbox.{sender, part, of, SentIn, IsSeated, Fits, InOrder, Stands, sends, takes, nobody, own, fresh, whole}
+use Rattle.jk_queues.proofs.Each.{All-right, All-append, All-map, All-weaker, of-snoc, of_other, append_none}
 
 -- what holds of each sender holds of the first
-pub own_first : (P : Sender → Type 0) (ss : List Sender) → Each P ss → (slice_index_or ss 0 nobody).place < 8 → P (slice_index_or ss 0 nobody)
+pub own_first : (P : Sender → Type 0) (ss : List Sender) → AllByRecursion P ss → (slice_index_or ss 0 nobody).place < 8 → P (slice_index_or ss 0 nobody)
 own_first P [] all low = absurd (omega arith)
 own_first P (s ∷ ss) all low = all.0
 
@@ -28,7 +29,7 @@ module _ (owner : ℕ → ℕ) (reader : ℕ) (taken items : List Arrival) (x : 
   -- the seats of another pass sent none of it
   beside : (j : ℕ) (u : Part) → j ≢ port → Fits owner reader taken items j u → Fits owner reader taken (items ++ x ∷ []) j u
   beside j u other f = (
-    Each-weaker _ _ u.senders
+    All-weaker _ _ u.senders
         (λ s (h : (owner s.place ≡ j) × SentIn (taken ++ items) s).
         let apart : x.seat ≢ s.place = λ e. other (sym h.0 ∙ ap owner (sym e) ∙ mine) in
         let none = of_other s.place x apart in
@@ -40,7 +41,7 @@ module _ (owner : ℕ → ℕ) (reader : ℕ) (taken items : List Arrival) (x : 
 
   joined : (v : Part) → Fits owner reader taken items port v → Fits owner reader taken (items ++ x ∷ []) port (sends v x)
   joined v f = (
-    Each-map _ _ (λ s. sender s.place (s.sent ++ of s.place (x ∷ []))) v.senders
+    All-map _ _ (λ s. sender s.place (s.sent ++ of s.place (x ∷ []))) v.senders
         (λ s (h : (owner s.place ≡ port) × SentIn (taken ++ items) s). (h.0, ap (λ l. l ++ of s.place (x ∷ [])) h.1 ∙ sym (of-snoc s.place taken items x)))
         f.0,
     f.1,
@@ -50,7 +51,7 @@ pub pushes : (n port : ℕ) (v : Part) (x : Arrival) → n ≡ 256 → (own v).p
 pushes n port v x full place low items views room h at =
     let owner = h.0 in
     let mine = h.5 port v at in
-    let first = own_first (λ s. owner s.place ≡ port) v.senders (Each-weaker _ _ v.senders (λ s (e : (owner s.place ≡ port) × SentIn (h.2 ++ items) s). e.0) mine.0) (subst (λ n. n < 8) (sym place) low) in
+    let first = own_first (λ s. owner s.place ≡ port) v.senders (All-weaker _ _ v.senders (λ s (e : (owner s.place ≡ port) × SentIn (h.2 ++ items) s). e.0) mine.0) (subst (λ n. n < 8) (sym place) low) in
     let is : owner x.seat ≡ port = ap owner (sym place) ∙ first in
     let fits = λ (w : Part) (f : Fits h.0 h.1 h.2 (items ++ x ∷ []) port w). all_set (Fits h.0 h.1 h.2 (items ++ x ∷ [])) views port w f (λ j u other e. beside h.0 h.1 h.2 items x port is j u other (h.5 j u e)) in (
       sends v x,
@@ -58,7 +59,7 @@ pushes n port v x full place low items views room h at =
         h.0,
         h.1,
         h.2,
-        subst (Each IsSeated) (append_assoc h.2 items (x ∷ [])) (Each-append IsSeated (h.2 ++ items) (x ∷ []) h.3 (low, tt)),
+        subst (AllByRecursion IsSeated) (append_assoc h.2 items (x ∷ [])) (All-append IsSeated (h.2 ++ items) (x ∷ []) h.3 (low, tt)),
         (let l = length-append items (x ∷ []) in omega arith),
         fits (sends v x) (joined h.0 h.1 h.2 items x port is v mine),
       ),
@@ -76,31 +77,31 @@ pops port v may x items views h at =
     let after = h.2 ++ x ∷ [] in
     let over = moved h.2 items x in
     let seats = λ (j : ℕ) (u : Part) (f : Fits h.0 h.1 h.2 (x ∷ items) j u).
-    let each : Each (λ s. (h.0 s.place ≡ j) × SentIn (after ++ items) s) u.senders = subst (λ all. Each (λ s. (h.0 s.place ≡ j) × SentIn all s) u.senders) over f.0 in each in (
+    let each : AllByRecursion (λ s. (h.0 s.place ≡ j) × SentIn (after ++ items) s) u.senders = subst (λ all. AllByRecursion (λ s. (h.0 s.place ≡ j) × SentIn all s) u.senders) over f.0 in each in (
       takes v x,
       (
         h.0,
         h.1,
         after,
-        subst (Each IsSeated) over h.3,
+        subst (AllByRecursion IsSeated) over h.3,
         (let few = h.4 in omega arith),
         all_set (Fits h.0 h.1 after items) views port (takes v x) (seats port v mine, λ _. (is.0, ap (λ l. l ++ x ∷ []) is.1))
             (λ j u other e. (seats j u (h.5 j u e), λ t. absurd (other (sym ((h.5 j u e).1 t).0 ∙ is.0)))),
       ),
       (
         refl,
-        (items, (h.2, Each-weaker _ _ v.senders (λ s (e : (h.0 s.place ≡ port) × SentIn (h.2 ++ (x ∷ items)) s). e.1) mine.0, (λ t. (mine.1 t).1), h.3, h.4)),
+        (items, (h.2, All-weaker _ _ v.senders (λ s (e : (h.0 s.place ≡ port) × SentIn (h.2 ++ (x ∷ items)) s). e.1) mine.0, (λ t. (mine.1 t).1), h.3, h.4)),
       ),
     )
 
 pub learns : (port : ℕ) (v : Part) → Learns InOrder port v (Stands v)
 learns port v items views h at =
     let mine = h.5 port v at in
-    (h.2, Each-weaker _ _ v.senders (λ s (e : (h.0 s.place ≡ port) × SentIn (h.2 ++ items) s). e.1) mine.0, (λ t. (mine.1 t).1), h.3, h.4)
+    (h.2, All-weaker _ _ v.senders (λ s (e : (h.0 s.place ≡ port) × SentIn (h.2 ++ items) s). e.1) mine.0, (λ t. (mine.1 t).1), h.3, h.4)
 
 -- the places of these are above n
 abbrev pub Above : ℕ → List Sender → Type 0
-Above n = Each (λ s. n < s.place)
+Above n = AllByRecursion (λ s. n < s.place)
 
 fresh_above : (n m : ℕ) → n ≤ 8 → m + n < 8 → Above m (fresh n)
 fresh_above zero m low sum = tt
@@ -110,7 +111,7 @@ pub fresh_first : (n : ℕ) → n < 8 → Above (7 - n) (fresh n)
 fresh_first n low = fresh_above n (7 - n) (omega arith) (omega arith)
 
 -- nothing was sent: an empty queue and one pass
-fresh_sent : (n j : ℕ) → Each (λ s. (j ≡ j) × SentIn [] s) (fresh n)
+fresh_sent : (n j : ℕ) → AllByRecursion (λ s. (j ≡ j) × SentIn [] s) (fresh n)
 fresh_sent zero j = tt
 fresh_sent (suc n) j = ((refl, refl), fresh_sent n j)
 
@@ -143,8 +144,8 @@ within (x ∷ xs) zero b e = omega arith
 within (x ∷ xs) (suc j) b e = let h = within xs j b e in omega arith
 
 -- the other seats of the pass stay with it
-stays : (owner : ℕ → ℕ) (place to port : ℕ) (all : List Arrival) (rest : List Sender) → Above place rest → Each (λ s. (owner s.place ≡ port) × SentIn all s) rest
-    → Each (λ s. (moves_to owner place to s.place ≡ port) × SentIn all s) rest
+stays : (owner : ℕ → ℕ) (place to port : ℕ) (all : List Arrival) (rest : List Sender) → Above place rest → AllByRecursion (λ s. (owner s.place ≡ port) × SentIn all s) rest
+    → AllByRecursion (λ s. (moves_to owner place to s.place ≡ port) × SentIn all s) rest
 stays owner place to port all [] above each = tt
 stays owner place to port all (s ∷ rest) above each =
     let high = above.0 in ((as_before owner place to s.place (λ e. absurd (omega arith)) ∙ each.0.0, each.0.1), stays owner place to port all rest above.1 each.1)
@@ -153,7 +154,7 @@ stays owner place to port all (s ∷ rest) above each =
 pub forks : (port : ℕ) (v : Part) (s : Sender) (rest : List Sender) → v.senders ≡ s ∷ rest → Above s.place rest → Forks InOrder port v (part (drop 1 v.senders) v.takes v.taken) (part (take 1 v.senders) false [])
 forks port v s rest is above items views h at =
     let mine = h.5 port v at in
-    let each : Each (λ s. (h.0 s.place ≡ port) × SentIn (h.2 ++ items) s) (s ∷ rest) = subst (Each (λ s. (h.0 s.place ≡ port) × SentIn (h.2 ++ items) s)) is mine.0 in
+    let each : AllByRecursion (λ s. (h.0 s.place ≡ port) × SentIn (h.2 ++ items) s) (s ∷ rest) = subst (AllByRecursion (λ s. (h.0 s.place ≡ port) × SentIn (h.2 ++ items) s)) is mine.0 in
     let l : Part = part rest v.takes v.taken in
     let r : Part = part (s ∷ []) false [] in
     let vs : List Part = set views port l in
@@ -162,7 +163,7 @@ forks port v s rest is above items views h at =
     let F = Fits owner h.1 h.2 items in
     let left : F port l = (stays h.0 s.place to port (h.2 ++ items) rest above each.1, mine.1) in
     let others : (j : ℕ) (u : Part) → j ≢ port → get_elem? views j ≡ some u → F j u = λ j u other e. (
-      Each-weaker _ _ u.senders
+      All-weaker _ _ u.senders
           (λ t (k : (h.0 t.place ≡ j) × SentIn (h.2 ++ items) t).
           (as_before h.0 s.place to t.place (λ same. other (sym k.0 ∙ ap h.0 same ∙ each.0.0)) ∙ k.0, k.1))
           (h.5 j u e).0,
@@ -193,14 +194,14 @@ merges port v other w items views h at apart at' =
     let owner : ℕ → ℕ = passes_to h.0 other port in
     let F = Fits owner h.1 h.2 items in
     let kept : (j : ℕ) (u : Part) → j ≢ other → Fits h.0 h.1 h.2 items j u → F j u = λ j u differs f. (
-      Each-weaker _ _ u.senders
+      All-weaker _ _ u.senders
           (λ t (k : (h.0 t.place ≡ j) × SentIn (h.2 ++ items) t). (ap (λ b. cond b port (h.0 t.place)) (ne_eqb (h.0 t.place) other (λ e. differs (sym k.0 ∙ e))) ∙ k.0, k.1))
           f.0,
       f.1,
     ) in
     let joins : F port both = (
-      Each-append _ v.senders w.senders (kept port v (λ e. apart (sym e)) mine).0
-          (Each-weaker _ _ w.senders
+      All-append _ v.senders w.senders (kept port v (λ e. apart (sym e)) mine).0
+          (All-weaker _ _ w.senders
           (λ t (k : (h.0 t.place ≡ other) × SentIn (h.2 ++ items) t). (ap (λ b. cond b port (h.0 t.place)) (eq-eqb (h.0 t.place) other k.0), k.1))
           theirs.0),
       mine.1,
@@ -215,4 +216,4 @@ next_seat place low = let e : 8 - place ≡ suc (7 - place) = omega arith in ap 
 -- what was popped has a seat
 pub popped_seated : (o : Option Arrival) (A : Type 0) (v : Part) (w : Part) → MatchOption o A (λ x. (w ≡ takes v x) × ((items : List Arrival) × Stands v (x ∷ items))) → IfSome o (λ x. x.seat < 8)
 popped_seated None A v w h = tt
-popped_seated (Some x) A v w h = let s = h.1.1 in (Each-right IsSeated s.0 (x ∷ h.1.0) s.3).0
+popped_seated (Some x) A v w h = let s = h.1.1 in (All-right IsSeated s.0 (x ∷ h.1.0) s.3).0

@@ -1,7 +1,7 @@
 -- To be believed.
 -- The rule of the inbox: of each seat, what was taken and then what stands in the queue is what the seat sent, in order.
 use Rattle.std.specs.Prelude.{◌≡◌, ℕ, ◌-◌, ◌<◌, ◌≤◌, ◌==◌, Bool, true, List, [], ◌∷◌, ◌++◌, map, length, slice_index_or, zero, suc}
-use Rattle.std.specs.List.{filter}
+use Rattle.std.specs.List.{AllByRecursion, filter}
 use mathlib.Core.Option.{some}
 use lib.ListN.{get_elem?}
 use Rattle.jk_log.specs.declared.arrival.Arrival.{Arrival}
@@ -18,11 +18,6 @@ part ss t xs = record { senders = ss; takes = t; taken = xs }
 abbrev pub of : ℕ → List Arrival → List Arrival
 of p = filter (λ x. x.seat == p)
 
--- P holds of each
-abbrev pub Each : {X : Type 0} → (X → Type 0) → List X → Type 0
-Each P [] = Unit {0}
-Each P (x ∷ xs) = P x × Each P xs
-
 -- what the seat of this sender sent is what these lists hold of it
 abbrev pub SentIn : List Arrival → Sender → Type 0
 SentIn all s = s.sent ≡ of s.place all
@@ -32,15 +27,15 @@ IsSeated x = x.seat < 8
 
 -- the pass j has these seats for its own, and with the taker all that was taken
 abbrev pub Fits : (ℕ → ℕ) → ℕ → List Arrival → List Arrival → ℕ → Part → Type 0
-Fits owner reader taken items j v = Each (λ s. (owner s.place ≡ j) × SentIn (taken ++ items) s) v.senders × (v.takes ≡ true → (reader ≡ j) × (v.taken ≡ taken))
+Fits owner reader taken items j v = AllByRecursion (λ s. (owner s.place ≡ j) × SentIn (taken ++ items) s) v.senders × (v.takes ≡ true → (reader ≡ j) × (v.taken ≡ taken))
 
 abbrev pub InOrder : List Arrival → List Part → Type 0
-InOrder items views = (owner : ℕ → ℕ) × (reader : ℕ) × (taken : List Arrival) × Each IsSeated (taken ++ items) × (length items ≤ 256)
+InOrder items views = (owner : ℕ → ℕ) × (reader : ℕ) × (taken : List Arrival) × AllByRecursion IsSeated (taken ++ items) × (length items ≤ 256)
     × ((j : ℕ) (v : Part) → get_elem? views j ≡ some v → Fits owner reader taken items j v)
 
 -- what the view of a pass says of the arrivals that stand in the queue
 abbrev pub Stands : Part → List Arrival → Type 0
-Stands v items = (taken : List Arrival) × Each (SentIn (taken ++ items)) v.senders × (v.takes ≡ true → v.taken ≡ taken) × Each IsSeated (taken ++ items) × (length items ≤ 256)
+Stands v items = (taken : List Arrival) × AllByRecursion (SentIn (taken ++ items)) v.senders × (v.takes ≡ true → v.taken ≡ taken) × AllByRecursion IsSeated (taken ++ items) × (length items ≤ 256)
 
 -- the view after this arrival was pushed; after it was popped
 abbrev pub sends : Part → Arrival → Part

@@ -1,5 +1,6 @@
 -- What comes of a change that somebody else made is readable, where both notebooks are.
 use Rattle.std.proofs.Common.{◌≡◌, ◌≤◌, ℕ, ◌+◌, ◌<◌, suc, List, [], ◌∷◌, ◌++◌, append_assoc, map, drop, drop-cons, get_or, length, Bool, true, false, cond, not, ◌&&◌, ◌||◌, refl, sym, ap, ap₂, ◌∙◌, subst, arith}
+use Rattle.std.specs.List.{AllByRecursion}
 use Rattle.std.proofs.lemmas.Bool.{true≢false}
 use Rattle.std.specs.Prelude.{filter, Option, Some, None}
 use Rattle.std.specs.Str.{bytes_eq}
@@ -10,7 +11,7 @@ use Rattle.nb_doc.specs.declared.notebook.Cell.{Cell}
 use Rattle.nb_doc.specs.declared.notebook.Content.{Content}
 use Rattle.nb_doc.specs.declared.notebook.Content.TheVariants as content
 use Rattle.nb_doc.specs.declared.notebook.Execution.{Execution}
-use Rattle.nb_doc.specs.Documents.{Each, IsDocument, ids}
+use Rattle.nb_doc.specs.Documents.{IsDocument, ids}
 use Rattle.nb_doc.specs.Ids.{is_among, are_distinct}
 use Rattle.nb_doc.specs.Writing.{notebook_form}
 use Rattle.nb_doc.proofs.Among.{same_itself, same_if}
@@ -23,43 +24,43 @@ use Rattle.js_follow.specs.Joining.{cell_at, run_at, has_count, joint_content, j
 
 -- ---- what holds of each
 
-each_append : {A : Type 0} (P : A → Type 0) (xs ys : List A) → Each P xs → Each P ys → Each P (xs ++ ys)
+each_append : {A : Type 0} (P : A → Type 0) (xs ys : List A) → AllByRecursion P xs → AllByRecursion P ys → AllByRecursion P (xs ++ ys)
 each_append P [] ys h k = k
 each_append P (x ∷ xs) ys h k = (h.0, each_append P xs ys h.1 k)
 
-each_filter : {A : Type 0} (P : A → Type 0) (p : A → Bool) (xs : List A) → Each P xs → Each P (filter p xs)
+each_filter : {A : Type 0} (P : A → Type 0) (p : A → Bool) (xs : List A) → AllByRecursion P xs → AllByRecursion P (filter p xs)
 each_filter P p [] h = tt
 each_filter P p (x ∷ xs) h = go (p x) (each_filter P p xs h.1)
   where
-    go : (b : Bool) → Each P (filter p xs) → Each P (cond b (x ∷ filter p xs) (filter p xs))
+    go : (b : Bool) → AllByRecursion P (filter p xs) → AllByRecursion P (cond b (x ∷ filter p xs) (filter p xs))
     go true rest = (h.0, rest)
     go false rest = rest
 
 -- ---- runs
 
-run_readable : (x : Content) → IsReadableContent x → Each IsReadableOutput (run_of x).outputs
+run_readable : (x : Content) → IsReadableContent x → AllByRecursion IsReadableOutput (run_of x).outputs
 run_readable (content.Code e) is = is
 run_readable (content.Markdown a) is = tt
 run_readable (content.Raw a) is = tt
 
-run_at_readable : (cs : List Cell) (id : List ℕ) → Each IsReadableCell cs → Each IsReadableOutput (run_at (cell_at id cs)).outputs
+run_at_readable : (cs : List Cell) (id : List ℕ) → AllByRecursion IsReadableCell cs → AllByRecursion IsReadableOutput (run_at (cell_at id cs)).outputs
 run_at_readable [] id are = tt
 run_at_readable (c ∷ cs) id are = go (bytes_eq c.id id) (run_at_readable cs id are.1)
   where
-    go : (b : Bool) → Each IsReadableOutput (run_at (cell_at id cs)).outputs → Each IsReadableOutput (run_at (cond b (Some c) (cell_at id cs))).outputs
+    go : (b : Bool) → AllByRecursion IsReadableOutput (run_at (cell_at id cs)).outputs → AllByRecursion IsReadableOutput (run_at (cond b (Some c) (cell_at id cs))).outputs
     go true rest = run_readable c.content are.0.content
     go false rest = rest
 
-content_readable : (known own : Option Cell) (x : Content) → Each IsReadableOutput (run_at own).outputs → IsReadableContent x → IsReadableContent (joint_content known own x)
+content_readable : (known own : Option Cell) (x : Content) → AllByRecursion IsReadableOutput (run_at own).outputs → IsReadableContent x → IsReadableContent (joint_content known own x)
 content_readable known own (content.Code e) were is = go (not (has_count e) && not (has_count (run_at known)) && has_count (run_at own))
   where
-    go : (b : Bool) → Each IsReadableOutput (cond b (run_at own) e).outputs
+    go : (b : Bool) → AllByRecursion IsReadableOutput (cond b (run_at own) e).outputs
     go true = were
     go false = is
 content_readable known own (content.Markdown a) were is = is
 content_readable known own (content.Raw a) were is = is
 
-cells_readable : (known own cs : List Cell) → Each IsReadableCell own → Each IsReadableCell cs → Each IsReadableCell (map (joint_cell known own) cs)
+cells_readable : (known own cs : List Cell) → AllByRecursion IsReadableCell own → AllByRecursion IsReadableCell cs → AllByRecursion IsReadableCell (map (joint_cell known own) cs)
 cells_readable known own [] were are = tt
 cells_readable known own (c ∷ cs) were are = (
   record {

@@ -1,10 +1,11 @@
 -- What a full inbox of a home is to those who see what its seat 0 has told.
 use Rattle.std.proofs.Common.{◌≡◌, inl, inr, ℕ, List, [], ◌∷◌, ◌++◌, map, slice_index_or, sym, ap, ◌∙◌, arith}
+use Rattle.std.specs.List.{AllByRecursion}
 use Rattle.std.proofs.lemmas.List.{length-map}
 use Rattle.jk_log.specs.Asked.{sort_as}
 use Rattle.jk_log.specs.declared.arrival.Arrival.{Arrival}
 use Rattle.jk_queues.specs.Ends.{seat_view}
-use Rattle.jk_queues.specs.Inbox.{Each, SentIn, nobody, of}
+use Rattle.jk_queues.specs.Inbox.{SentIn, nobody, of}
 use Rattle.jk_queues.specs.declared.part.Sender.{Sender}
 use Rattle.js_home.specs.Homes.{told_by, WasFull as HomeWasFull}
 use Rattle.js_home.specs.declared.home.Home.{Home}
@@ -12,7 +13,7 @@ use Rattle.js_kernels.specs.Told.{WasFull}
 use Rattle.js_kernels.specs.Hosting.{state_of}
 
 -- what the first seat of a pass sent, where that has the place 0
-first_sent : (all : List Arrival) (ss : List Sender) → Each (SentIn all) ss → (slice_index_or ss 0 nobody).place ≡ 0 → of 0 all ≡ (slice_index_or ss 0 nobody).sent
+first_sent : (all : List Arrival) (ss : List Sender) → AllByRecursion (SentIn all) ss → (slice_index_or ss 0 nobody).place ≡ 0 → of 0 all ≡ (slice_index_or ss 0 nobody).sent
 first_sent all [] each zero = absurd (omega arith)
 first_sent all (s ∷ ss) each zero = ap (λ (p : ℕ). of p all) (sym zero) ∙ sym each.0
 

@@ -7,8 +7,8 @@ use Rattle.std.specs.String.{string_eq}
 use Rattle.std.specs.Str.{bytes_eq}
 use Rattle.std.proofs.lemmas.Map.Keys.{IsDistinct-head, IsDistinct-tail}
 use Rattle.std.proofs.lemmas.Slice.Eq.{bytes_eq-Decides}
-use Rattle.js_shelf.specs.Paths.{only_if, goes_down, behind, following, goes, goes_by}
-use Rattle.js_shelf.proofs.PathLemmas.{behind_some, behind_some_is}
+use Rattle.js_shelf.specs.Paths.{following, goes, goes_by}
+use Rattle.js_shelf.proofs.MoveLemmas.{following_append, goes_back}
 use Rattle.js_tables.specs.Tables.{Dates}
 use Rattle.js_names.specs.Moves.{HasMoved}
 
@@ -33,38 +33,6 @@ last_there from to (e ∷ es) path =
 or_else-none : (r : Option (List ℕ)) → or_else r None ≡ r
 or_else-none None = refl
 or_else-none (Some x) = refl
-
--- ---- where a path goes, and came from
-
-following_is : (top path rest : List ℕ) → following top path ≡ Some rest → (path ≡ top ++ rest) × (goes_down rest ≡ true)
-following_is top path rest e = by_case (behind top path) refl e
-  where
-    by_case : (r : Option (List ℕ)) → behind top path ≡ r → only_if goes_down r ≡ Some rest → (path ≡ top ++ rest) × (goes_down rest ≡ true)
-    by_case None is e = absurd (cc e)
-    by_case (Some text) is e =
-        elim (goes_down text) as (λ b. goes_down text ≡ b → cond b (Some text) None ≡ Some rest → (path ≡ top ++ rest) × (goes_down rest ≡ true)) [
-          | true ↦ λ t e. (let same : text ≡ rest = cc e in (behind_some_is top path text is ∙ ap (λ r. top ++ r) same, ap goes_down (sym same) ∙ t))
-          | false ↦ λ t e. absurd (cc e)
-        ] refl e
-
-following_append : (top rest : List ℕ) → goes_down rest ≡ true → following top (top ++ rest) ≡ Some rest
-following_append top rest down =
-    ap (only_if goes_down) (behind_some top rest) ∙ ap (λ b. cond b (Some rest) None) down
-
-goes_back : (from to k q : List ℕ) → goes from to k ≡ Some q → goes to from q ≡ Some k
-goes_back from to k q e = by_case (following from k) (following to k) refl refl e
-  where
-    by_case : (r s : Option (List ℕ)) → following from k ≡ r → following to k ≡ s → goes_by to k r s ≡ Some q → goes to from q ≡ Some k
-    by_case (Some rest) s is other e =
-        let at = following_is from k rest is in
-        let there : to ++ rest ≡ q = cc e in
-        let follows : following to q ≡ Some rest = ap (following to) (sym there) ∙ following_append to rest at.1 in
-        ap (λ r. goes_by from q r (following from q)) follows ∙ ap (λ path. Some path) (sym at.0)
-    by_case None (Some rest) is other e = absurd (cc e)
-    by_case None None is other e =
-        let same : k ≡ q = cc e in
-        (λ i. goes_by from q (following to (sym same i)) (following from (sym same i)))
-        ∙ (λ i. goes_by from q (other i) (is i)) ∙ ap (λ path. Some path) (sym same)
 
 -- ---- the last that goes there is the one that comes from there
 

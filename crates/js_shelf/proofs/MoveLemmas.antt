@@ -47,11 +47,11 @@ following_is top path rest e = by_case (behind top path) refl e
           | false ↦ λ t e. absurd (cc e)
         ] refl e
 
-following_append : (top rest : List ℕ) → goes_down rest ≡ true → following top (top ++ rest) ≡ Some rest
+pub following_append : (top rest : List ℕ) → goes_down rest ≡ true → following top (top ++ rest) ≡ Some rest
 following_append top rest down =
     ap (only_if goes_down) (behind_some top rest) ∙ ap (λ b. cond b (Some rest) None) down
 
-goes_back : (from to k q : List ℕ) → goes from to k ≡ Some q → goes to from q ≡ Some k
+pub goes_back : (from to k q : List ℕ) → goes from to k ≡ Some q → goes to from q ≡ Some k
 goes_back from to k q e = by_case (following from k) (following to k) refl refl e
   where
     by_case : (r s : Option (List ℕ)) → following from k ≡ r → following to k ≡ s → goes_by to k r s ≡ Some q → goes to from q ≡ Some k

@@ -3,7 +3,7 @@ use Rattle.std.proofs.Common.{◌≡◌, ◌≤◌, ℕ, ℤ, pos, negsuc, ◌==
 use Rattle.std.proofs.lemmas.Bool.{eqb-true, or_cases, and_from}
 use Rattle.std.proofs.lemmas.Str.{IsUtf8-append, is_utf8-from_IsUtf8}
 use Rattle.json.proofs.Printed.Utf8.{IsUtf8-are_ascii}
-use Rattle.std.specs.List.{concat, list_all}
+use Rattle.std.specs.List.{AllByRecursion, concat, list_all}
 use Rattle.std.specs.Str.{bytes_eq, IsUtf8, is_utf8}
 use Rattle.serde_json.specs.Data.{Data, string, depth}
 use Rattle.serde_json.specs.Find.{as_str}
@@ -31,7 +31,7 @@ use Rattle.nb_doc.specs.Fields.{texts_at, stream_of, error_of, output_named, out
 use Rattle.nb_doc.specs.Ids.{is_allowed, are_distinct, standing, raised, raise}
 use Rattle.nb_doc.specs.Reading.{number_at, age_of, ids_of, notebook_of, json_at, notebook_at}
 use Rattle.nb_doc.specs.Writing.{lines_of, onto_first, texts_form, lines_form, join_onto, joined, stream_form, error_form, output_form, outputs_form, count_form, code_form, text_form, content_form, cell_form, cells_form, notebook_form}
-use Rattle.nb_doc.specs.Documents.{Each, IsObject, IsOutput, AreAttachments, IsContent, IsCell, ids, IsDocument, joined_content, joined_cell, joined_notebook}
+use Rattle.nb_doc.specs.Documents.{IsObject, IsOutput, AreAttachments, IsContent, IsCell, ids, IsDocument, joined_content, joined_cell, joined_notebook}
 use Rattle.nb_doc.proofs.Among.{same_if}
 use Rattle.nb_doc.proofs.Trailing.{read-end, float-end}
 
@@ -75,15 +75,15 @@ output_again (output.Stream name text) h = rw (lines_again text) refl
 output_again (output.Error ename evalue traceback) h = rw (texts_again traceback) refl
 output_again (output.Kept d) h = rw (text_at-only (codes "output_type") d h.kind h.has_kind) (kept_named h.kind d (or_cases (bytes_eq h.kind (codes "display_data")) (bytes_eq h.kind (codes "execute_result")) h.kept))
 
-outputs_again : (os : List Output) → Each IsOutput os → each output_of (items_of (map output_form os)) ≡ Ok os
+outputs_again : (os : List Output) → AllByRecursion IsOutput os → each output_of (items_of (map output_form os)) ≡ Ok os
 outputs_again [] h = refl
 outputs_again (o ∷ os) h = rw (output_again o h.0, outputs_again os h.1) refl
 
-onto_each : (o : Output) (os : List Output) → IsOutput o → Each IsOutput os → Each IsOutput (join_onto o os)
+onto_each : (o : Output) (os : List Output) → IsOutput o → AllByRecursion IsOutput os → AllByRecursion IsOutput (join_onto o os)
 onto_each (output.Stream a s) [] h k = (tt, tt)
 onto_each (output.Stream a s) (output.Stream b t ∷ os) h k = go (bytes_eq a b)
   where
-    go : (x : Bool) → Each IsOutput (cond x (output.Stream a (s ++ t) ∷ os) (output.Stream a s ∷ output.Stream b t ∷ os))
+    go : (x : Bool) → AllByRecursion IsOutput (cond x (output.Stream a (s ++ t) ∷ os) (output.Stream a s ∷ output.Stream b t ∷ os))
     go true = (tt, k.1)
     go false = (tt, k)
 onto_each (output.Stream a s) (output.Error e v t ∷ os) h k = (tt, k)
@@ -91,7 +91,7 @@ onto_each (output.Stream a s) (output.Kept d ∷ os) h k = (tt, k)
 onto_each (output.Error e v t) os h k = (h, k)
 onto_each (output.Kept d) os h k = (h, k)
 
-joined_each : (os : List Output) → Each IsOutput os → Each IsOutput (joined os)
+joined_each : (os : List Output) → AllByRecursion IsOutput os → AllByRecursion IsOutput (joined os)
 unfolding joined
 joined_each [] h = tt
 joined_each (o ∷ os) h = onto_each o (joined os) h.0 (joined_each os h.1)
@@ -108,11 +108,11 @@ count_again : (e : Execution) (id source : List ℕ) (metadata : Data) → count
 unfolding count_at code_form
 count_again e id source metadata = count_kind e.execution_count
 
-outputs_field_again : (e : Execution) (id source : List ℕ) (metadata : Data) → Each IsOutput e.outputs → outputs_at (code_form id metadata source e) ≡ Ok (joined e.outputs)
+outputs_field_again : (e : Execution) (id source : List ℕ) (metadata : Data) → AllByRecursion IsOutput e.outputs → outputs_at (code_form id metadata source e) ≡ Ok (joined e.outputs)
 unfolding outputs_at code_form outputs_form
 outputs_field_again e id source metadata h = outputs_again (joined e.outputs) (joined_each e.outputs h)
 
-execution_again : (e : Execution) (id source : List ℕ) (metadata : Data) → Each IsOutput e.outputs → execution_of (code_form id metadata source e) ≡ Ok (record e { outputs = joined e.outputs })
+execution_again : (e : Execution) (id source : List ℕ) (metadata : Data) → AllByRecursion IsOutput e.outputs → execution_of (code_form id metadata source e) ≡ Ok (record e { outputs = joined e.outputs })
 unfolding execution_of
 execution_again e id source metadata h = rw (count_again e id source metadata, outputs_field_again e id source metadata h) refl
 
@@ -140,11 +140,11 @@ code_source : (e : Execution) (id source : List ℕ) (metadata : Data) → joine
 unfolding joined_at code_form
 code_source e id source metadata = lines_again source
 
-code_content : (e : Execution) (id source : List ℕ) (metadata : Data) → Each IsOutput e.outputs → content_named (codes "code") (code_form id metadata source e) ≡ Ok (joined_content (content.Code e))
+code_content : (e : Execution) (id source : List ℕ) (metadata : Data) → AllByRecursion IsOutput e.outputs → content_named (codes "code") (code_form id metadata source e) ≡ Ok (joined_content (content.Code e))
 unfolding content_named
 code_content e id source metadata h = rw (execution_again e id source metadata h) refl
 
-code_again : (e : Execution) (id source : List ℕ) (metadata : Data) → IsObject metadata → Each IsOutput e.outputs
+code_again : (e : Execution) (id source : List ℕ) (metadata : Data) → IsObject metadata → AllByRecursion IsOutput e.outputs
     → draft_of Current (code_form id metadata source e) ≡ Ok (draft_by id metadata source (content.Code e))
 code_again e id source metadata m h =
     draft_from (code_form id metadata source e) metadata (codes "code") id source (joined_content (content.Code e)) (code_kind e id source metadata) (code_id e id source metadata) (code_metadata e id source metadata m)
@@ -201,7 +201,7 @@ cell_again : (c : Cell) → IsCell c → draft_of Current (cell_form c) ≡ Ok (
 unfolding cell_form
 cell_again c h = content_again c.content c.id c.source c.metadata h.metadata h.content
 
-cells_again : (cs : List Cell) → Each IsCell cs → each (draft_of Current) (items_of (map cell_form cs)) ≡ Ok (map draft_for cs)
+cells_again : (cs : List Cell) → AllByRecursion IsCell cs → each (draft_of Current) (items_of (map cell_form cs)) ≡ Ok (map draft_for cs)
 cells_again [] h = refl
 cells_again (c ∷ cs) h = rw (cell_again c h.0, cells_again cs h.1) refl
 
@@ -211,7 +211,7 @@ standing_again : (cs : List Cell) → standing (map draft_for cs) ≡ ids cs
 standing_again [] = refl
 standing_again (c ∷ cs) = ap (λ r. c.id ∷ r) (standing_again cs)
 
-are_allowed : (cs : List Cell) → Each IsCell cs → list_all is_allowed (ids cs) ≡ true
+are_allowed : (cs : List Cell) → AllByRecursion IsCell cs → list_all is_allowed (ids cs) ≡ true
 are_allowed [] h = refl
 are_allowed (c ∷ cs) h = and_from (is_allowed c.id) (list_all is_allowed (ids cs)) h.0.id (are_allowed cs h.1)
 
@@ -219,7 +219,7 @@ raised_again : (cs : List Cell) (taken : List (List ℕ)) → raised taken (map 
 raised_again [] taken = refl
 raised_again (c ∷ cs) taken = ap (λ r. joined_cell c ∷ r) (raised_again cs taken)
 
-ids_again : (cs : List Cell) → Each IsCell cs → are_distinct (ids cs) ≡ true → ids_of (map draft_for cs) ≡ Ok tt
+ids_again : (cs : List Cell) → AllByRecursion IsCell cs → are_distinct (ids cs) ≡ true → ids_of (map draft_for cs) ≡ Ok tt
 unfolding ids_of
 ids_again cs h d = rw (standing_again cs, are_allowed cs h, d) refl
 

@@ -1,6 +1,6 @@
 -- What is read is a document of 4.5.
 use Rattle.std.proofs.Common.{◌≡◌, ℕ, ◌<◌, ◌^◌, List, [], ◌∷◌, length, Bool, true, false, cond, ◌&&◌, codes, Option, Some, None, option_and_then, option_map, Result, Ok, Err, IfOk, refl, sym, ap, ◌∙◌, subst}
-use Rattle.std.specs.List.{list_all}
+use Rattle.std.specs.List.{AllByRecursion, list_all}
 use Rattle.serde_json.specs.Data.{Data, null, boolean, number, string, array, object, Items, no_items, item, Members as MemberList}
 use Rattle.serde_json.specs.Find.{get, as_object}
 use Rattle.json_form.specs.Forms.{Has, object_of}
@@ -12,7 +12,7 @@ use Rattle.nb_doc.specs.declared.notebook.Output.{Output}
 use Rattle.nb_doc.specs.declared.notebook.Output.TheVariants as output
 use Rattle.nb_doc.specs.declared.fault.NbBad.{NbBad}
 use Rattle.nb_doc.specs.Ids.{is_allowed, are_distinct}
-use Rattle.nb_doc.specs.Documents.{Each, IsObject, IsKept, IsOutput, AreAttachments, IsContent, IsCell, ids, IsDocument}
+use Rattle.nb_doc.specs.Documents.{IsObject, IsKept, IsOutput, AreAttachments, IsContent, IsCell, ids, IsDocument}
 use Rattle.nb_doc.specs.TextForms.{Members, IsOutputOf, HasAttachments, IsContentOf, IsCellOf, IsNotebook, IsNotebookText}
 use Rattle.nb_doc.proofs.Raised.{ids_are_good}
 
@@ -33,7 +33,7 @@ output_is d (output.Stream name text) h = tt
 output_is d (output.Error ename evalue traceback) h = tt
 output_is d (output.Kept e) h = subst IsKept (sym h.0) h.1
 
-outputs_are : (ds : Items) (os : List Output) → Members IsOutputOf ds os → Each IsOutput os
+outputs_are : (ds : Items) (os : List Output) → Members IsOutputOf ds os → AllByRecursion IsOutput os
 outputs_are no_items [] h = tt
 outputs_are no_items (o ∷ os) h = absurd h
 outputs_are (item d ds) [] h = absurd h
@@ -52,7 +52,7 @@ both : (a b : Bool) → (a && b) ≡ true → (a ≡ true) × (b ≡ true)
 both true b h = (refl, h)
 both false b h = cc
 
-cells_are : (ds : Items) (cs : List Cell) → Members IsCellOf ds cs → list_all is_allowed (ids cs) ≡ true → Each IsCell cs
+cells_are : (ds : Items) (cs : List Cell) → Members IsCellOf ds cs → list_all is_allowed (ids cs) ≡ true → AllByRecursion IsCell cs
 cells_are no_items [] h allowed = tt
 cells_are no_items (c ∷ cs) h allowed = absurd h
 cells_are (item d ds) [] h allowed = absurd h

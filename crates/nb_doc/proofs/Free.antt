@@ -4,7 +4,7 @@ use Rattle.std.proofs.lemmas.Bool.{true≢false, cases_lt, cases_eq}
 use Rattle.std.proofs.lemmas.Fmt.{decimal_is_IsNumeral_wide}
 use Rattle.std.specs.Str.{bytes_eq}
 use Rattle.std.specs.Str.Parse.{digits_value}
-use Rattle.nb_doc.specs.declared.raising.Namer.{Namer}
+use Rattle.nb_doc.specs.declared.cell_ids.Namer.{Namer}
 use Rattle.nb_doc.specs.declared.draft.Draft.{Draft}
 use Rattle.nb_doc.specs.declared.notebook.Cell.{Cell}
 use Rattle.nb_doc.specs.Ids.{is_among, name_of, is_taken, free_from, least_free, id_in, taken_after, cell_with, raised, IsSetOf}

@@ -1,6 +1,7 @@
 -- To be believed.
 -- Which notebooks are documents of 4.5: what a text can hold ("The Jupyter notebook format", nbformat 4.5).
 use Rattle.std.specs.Prelude.{◌≡◌, ℕ, List, [], ◌∷◌, map, true, codes, Option, Some, None}
+use Rattle.std.specs.List.{AllByRecursion}
 use Rattle.serde_json.specs.Data.{Data}
 use Rattle.serde_json.specs.Find.{as_str}
 use Rattle.json_form.specs.Forms.{Has, object_of}
@@ -13,10 +14,6 @@ use Rattle.nb_doc.specs.declared.notebook.Output.TheVariants as output
 use Rattle.nb_doc.specs.Fields.{is_kept}
 use Rattle.nb_doc.specs.Ids.{is_allowed, are_distinct}
 use Rattle.nb_doc.specs.Writing.{joined}
-
-abbrev pub Each : {A : Type 0} → (A → Type 0) → List A → Type 0
-Each P [] = Unit {0}
-Each P (x ∷ xs) = P x × Each P xs
 
 abbrev pub IsObject : Data → Type 0
 IsObject d = object_of d ≡ Some d
@@ -37,7 +34,7 @@ AreAttachments None = Unit {0}
 AreAttachments (Some d) = IsObject d
 
 abbrev pub IsContent : Content → Type 0
-IsContent (content.Code e) = Each IsOutput e.outputs
+IsContent (content.Code e) = AllByRecursion IsOutput e.outputs
 IsContent (content.Markdown attachments) = AreAttachments attachments
 IsContent (content.Raw attachments) = AreAttachments attachments
 
@@ -50,7 +47,7 @@ abbrev pub ids : List Cell → List (List ℕ)
 ids cs = map (λ c. c.id) cs
 
 pub record IsDocument (n : Notebook) : Type 0 where
-  pub cells : Each IsCell n.cells
+  pub cells : AllByRecursion IsCell n.cells
   pub distinct : are_distinct (ids n.cells) ≡ true
   pub metadata : IsObject n.metadata
 

@@ -1,6 +1,6 @@
 -- Names that are given one after another.
 use Rattle.std.specs.Prelude.{◌≡◌, ◌≤◌, ◌<◌, ◌+◌, ◌^◌, ℕ, List, true, length}
-use Rattle.nb_doc.specs.declared.raising.Namer.{Namer}
+use Rattle.nb_doc.specs.declared.cell_ids.Namer.{Namer}
 use Rattle.nb_doc.specs.Ids.{is_taken}
 
 -- Where these are taken: the names up to the last number are, and of later ones it is known which.

@@ -2,6 +2,7 @@
 #![tactic(auto)]
 
 mod building;
+mod cell_ids;
 mod copying;
 mod draft;
 mod fault;
@@ -13,19 +14,18 @@ mod names;
 mod notebook;
 mod output_fields;
 mod output_row;
-mod raising;
 mod reading;
 mod row;
 mod taken;
 mod version;
 mod writing;
 
+pub use cell_ids::free_name;
 pub use fault::{NbBad, NbFault, number_of};
 pub use ids::is_allowed_id;
 pub use listed::Listed;
 pub use names::Names;
 pub use notebook::{Cell, Content, Execution, Notebook, Output};
-pub use raising::free_name;
 pub use reading::{notebook_of_value, read_notebook};
 pub use row::Row;
 pub use taken::taken_field;

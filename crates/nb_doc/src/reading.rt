@@ -13,11 +13,11 @@ ghost use Rattle.nb_doc.specs.TextForms.{IsNotebook, IsNotebookText};
 ghost use Rattle.nb_doc.specs.Reading.{json_at, notebook_of, notebook_at};
 ghost use Rattle.nb_doc.specs.Writing.{notebook_form};
 
+use crate::cell_ids::raise_cells;
 use crate::fault::NbBad;
 use crate::fields::read_drafts;
 use crate::ids::read_ids;
 use crate::notebook::Notebook;
-use crate::raising::raise_cells;
 use crate::version::read_version;
 use json_form::{Bad, Json};
 use serde_json::Value;

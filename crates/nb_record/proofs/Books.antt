@@ -2,7 +2,7 @@
 use Rattle.std.proofs.Common.{◌≡◌, ℕ, zero, suc, ◌+◌, ◌<◌, ◌^◌, ℤ, pos, List, [], ◌∷◌, ◌++◌, map, length, Bool, true, false, not, ◌&&◌, ◌||◌, cond, Option, Some, None, refl, sym, ap, ap₂, ◌∙◌, subst, inl, inr, ◌⊎◌}
 use Rattle.std.proofs.lemmas.Bool.{true≢false}
 use Rattle.std.proofs.lemmas.List.Folds.{list_any-append}
-use Rattle.std.specs.List.{list_any}
+use Rattle.std.specs.List.{AllByRecursion, list_any}
 use Rattle.std.specs.Prelude.{slice_get, slice_set}
 use Rattle.std.specs.Str.{bytes_eq}
 use Rattle.nb_doc.specs.declared.notebook.Notebook.{Notebook}
@@ -12,7 +12,7 @@ use Rattle.nb_doc.specs.declared.notebook.Content.TheVariants as content
 use Rattle.nb_doc.specs.declared.notebook.Execution.{Execution}
 use Rattle.nb_doc.specs.declared.notebook.Output.{Output}
 use Rattle.nb_doc.specs.Building.{code_cell}
-use Rattle.nb_doc.specs.Documents.{Each, ids}
+use Rattle.nb_doc.specs.Documents.{ids}
 use Rattle.nb_doc.specs.Ids.{is_allowed, is_among, are_distinct, name_of, least_free}
 use Rattle.nb_doc.proofs.Among.{same_itself, same_if, swapped}
 use Rattle.nb_doc.proofs.Raised.{is_free}
@@ -66,23 +66,23 @@ own_later c cs d apart own =
       run = λ h. ap (λ b. cond (b && is_code c.content) (run_of c.content) (run_in cs d.id)) other ∙ own.run h;
     }
 
-each_later : (c : Cell) (cs ds : List Cell) → is_among (ids ds) c.id ≡ false → Each (Own cs) ds → Each (Own (c ∷ cs)) ds
+each_later : (c : Cell) (cs ds : List Cell) → is_among (ids ds) c.id ≡ false → AllByRecursion (Own cs) ds → AllByRecursion (Own (c ∷ cs)) ds
 each_later c cs [] h own = tt
 each_later c cs (d ∷ ds) h own =
     let p = neither (bytes_eq c.id d.id) (is_among (ids ds) c.id) h in
     (own_later c cs d p.0 own.0, each_later c cs ds p.1 own.1)
 
-all_own : (cs : List Cell) → are_distinct (ids cs) ≡ true → Each (Own cs) cs
+all_own : (cs : List Cell) → are_distinct (ids cs) ≡ true → AllByRecursion (Own cs) cs
 all_own [] h = tt
 all_own (c ∷ cs) h =
     let p = both (not (is_among (ids cs) c.id)) (are_distinct (ids cs)) h in
     (own_first c cs, each_later c cs cs (not_true (is_among (ids cs) c.id) p.0) (all_own cs p.1))
 
-map_same : (P : Cell → Type 0) (f g : Cell → Cell) → ((c : Cell) → P c → f c ≡ g c) → (cs : List Cell) → Each P cs → map f cs ≡ map g cs
+map_same : (P : Cell → Type 0) (f g : Cell → Cell) → ((c : Cell) → P c → f c ≡ g c) → (cs : List Cell) → AllByRecursion P cs → map f cs ≡ map g cs
 map_same P f g h [] each = refl
 map_same P f g h (c ∷ cs) each = ap₂ (λ x xs. x ∷ xs) (h c each.0) (map_same P f g h cs each.1)
 
-map_id : (P : Cell → Type 0) (f : Cell → Cell) → ((c : Cell) → P c → f c ≡ c) → (cs : List Cell) → Each P cs → map f cs ≡ cs
+map_id : (P : Cell → Type 0) (f : Cell → Cell) → ((c : Cell) → P c → f c ≡ c) → (cs : List Cell) → AllByRecursion P cs → map f cs ≡ cs
 map_id P f h [] each = refl
 map_id P f h (c ∷ cs) each = ap₂ (λ x xs. x ∷ xs) (h c each.0) (map_id P f h cs each.1)
 

@@ -1,5 +1,6 @@
 -- A notebook is readable exactly where it is a document that nests no deeper, once it is written, than JSON is read.
 use Rattle.std.proofs.Common.{◌≡◌, ℕ, suc, ◌+◌, ◌≤◌, max, ℤ, List, [], ◌∷◌, ◌++◌, map, Bool, true, false, cond, Option, Some, None, sym, ap, ◌∙◌, subst, arith}
+use Rattle.std.specs.List.{AllByRecursion}
 use Rattle.std.proofs.Math.Nat.{max-le}
 use Rattle.std.specs.Prelude.{Result, Ok, Err, OnOk}
 use Rattle.std.specs.Str.{bytes_eq}
@@ -14,7 +15,7 @@ use Rattle.nb_doc.specs.declared.notebook.Execution.{Execution}
 use Rattle.nb_doc.specs.declared.notebook.Output.{Output}
 use Rattle.nb_doc.specs.declared.notebook.Output.TheVariants as output
 use Rattle.nb_doc.specs.Building.{empty_notebook}
-use Rattle.nb_doc.specs.Documents.{Each, IsOutput, AreAttachments, IsContent, IsCell, IsDocument, joined_notebook}
+use Rattle.nb_doc.specs.Documents.{IsOutput, AreAttachments, IsContent, IsCell, IsDocument, joined_notebook}
 use Rattle.nb_doc.specs.Reading.{notebook_at}
 use Rattle.nb_doc.specs.Writing.{texts_form, lines_of, lines_form, join_onto, joined, stream_form, error_form, output_form, outputs_form, count_form, code_form, text_form, content_form, cell_form, cells_form, notebook_form, notebook_text}
 use Rattle.nb_record.specs.Readable.{IsReadableOutput, AreReadableAttachments, IsReadableContent, IsReadableCell, IsReadable}
@@ -51,11 +52,11 @@ count_low (Some z) = omega arith
 abbrev IsLow : Output → Type 0
 IsLow o = depth (output_form o) ≤ 123
 
-join_low : (o : Output) (os : List Output) → IsLow o → Each IsLow os → Each IsLow (join_onto o os)
+join_low : (o : Output) (os : List Output) → IsLow o → AllByRecursion IsLow os → AllByRecursion IsLow (join_onto o os)
 join_low (output.Stream a s) [] low rest = (low, tt)
 join_low (output.Stream a s) (output.Stream b t ∷ os) low rest = go (bytes_eq a b)
   where
-    go : (same : Bool) → Each IsLow (cond same (output.Stream a (s ++ t) ∷ os) (output.Stream a s ∷ output.Stream b t ∷ os))
+    go : (same : Bool) → AllByRecursion IsLow (cond same (output.Stream a (s ++ t) ∷ os) (output.Stream a s ∷ output.Stream b t ∷ os))
     go true = (stream_low a (s ++ t), rest.1)
     go false = (low, rest)
 join_low (output.Stream a s) (output.Error e v t ∷ os) low rest = (low, rest)
@@ -63,16 +64,16 @@ join_low (output.Stream a s) (output.Kept d ∷ os) low rest = (low, rest)
 join_low (output.Error e v t) os low rest = (low, rest)
 join_low (output.Kept d) os low rest = (low, rest)
 
-joined_low : (os : List Output) → Each IsLow os → Each IsLow (joined os)
+joined_low : (os : List Output) → AllByRecursion IsLow os → AllByRecursion IsLow (joined os)
 unfolding joined
 joined_low [] low = tt
 joined_low (o ∷ os) low = join_low o (joined os) low.0 (joined_low os low.1)
 
-apart_low : (o : Output) (os : List Output) → Each IsLow (join_onto o os) → IsLow o × Each IsLow os
+apart_low : (o : Output) (os : List Output) → AllByRecursion IsLow (join_onto o os) → IsLow o × AllByRecursion IsLow os
 apart_low (output.Stream a s) [] low = (low.0, tt)
 apart_low (output.Stream a s) (output.Stream b t ∷ os) low = (stream_low a s, (stream_low b t, go (bytes_eq a b) low))
   where
-    go : (same : Bool) → Each IsLow (cond same (output.Stream a (s ++ t) ∷ os) (output.Stream a s ∷ output.Stream b t ∷ os)) → Each IsLow os
+    go : (same : Bool) → AllByRecursion IsLow (cond same (output.Stream a (s ++ t) ∷ os) (output.Stream a s ∷ output.Stream b t ∷ os)) → AllByRecursion IsLow os
     go true h = h.1
     go false h = h.1.1
 apart_low (output.Stream a s) (output.Error e v t ∷ os) low = low
@@ -80,30 +81,30 @@ apart_low (output.Stream a s) (output.Kept d ∷ os) low = low
 apart_low (output.Error e v t) os low = low
 apart_low (output.Kept d) os low = low
 
-unjoined_low : (os : List Output) → Each IsLow (joined os) → Each IsLow os
+unjoined_low : (os : List Output) → AllByRecursion IsLow (joined os) → AllByRecursion IsLow os
 unfolding joined
 unjoined_low [] low = tt
 unjoined_low (o ∷ os) low = let split = apart_low o (joined os) low in (split.0, unjoined_low os split.1)
 
-forms_low : (os : List Output) → Each IsLow os → items_depth (items_of (map output_form os)) ≤ 123
+forms_low : (os : List Output) → AllByRecursion IsLow os → items_depth (items_of (map output_form os)) ≤ 123
 forms_low [] low = omega arith
 forms_low (o ∷ os) low = max-le low.0 (forms_low os low.1)
 
-low_forms : (os : List Output) → items_depth (items_of (map output_form os)) ≤ 123 → Each IsLow os
+low_forms : (os : List Output) → items_depth (items_of (map output_form os)) ≤ 123 → AllByRecursion IsLow os
 low_forms [] h = tt
 low_forms (o ∷ os) h = (omega arith, low_forms os (omega arith))
 
-outputs_low : (os : List Output) → Each IsLow os → depth (outputs_form os) ≤ 124
+outputs_low : (os : List Output) → AllByRecursion IsLow os → depth (outputs_form os) ≤ 124
 unfolding outputs_form
 outputs_low os low = let most = forms_low (joined os) (joined_low os low) in omega arith
 
-low_outputs : (os : List Output) → depth (outputs_form os) ≤ 124 → Each IsLow os
+low_outputs : (os : List Output) → depth (outputs_form os) ≤ 124 → AllByRecursion IsLow os
 unfolding outputs_form
 low_outputs os h = unjoined_low os (low_forms (joined os) (omega arith))
 
 -- ---- from documents
 
-outputs_from : (os : List Output) → Each IsOutput os → Each IsLow os → Each IsReadableOutput os
+outputs_from : (os : List Output) → AllByRecursion IsOutput os → AllByRecursion IsLow os → AllByRecursion IsReadableOutput os
 outputs_from [] are low = tt
 outputs_from (o ∷ os) are low = (record { document = are.0; shallow = low.0 }, outputs_from os are.1 low.1)
 
@@ -130,7 +131,7 @@ cell_from c is low =
     let split = content_from c.id c.metadata c.source c.content is.content low in
     record { id = is.id; metadata = is.metadata; shallow = split.0; content = split.1 }
 
-cells_from : (cs : List Cell) → Each IsCell cs → items_depth (items_of (map cell_form cs)) ≤ 125 → Each IsReadableCell cs
+cells_from : (cs : List Cell) → AllByRecursion IsCell cs → items_depth (items_of (map cell_form cs)) ≤ 125 → AllByRecursion IsReadableCell cs
 cells_from [] are low = tt
 cells_from (c ∷ cs) are low = (cell_from c are.0 (omega arith), cells_from cs are.1 (omega arith))
 
@@ -140,7 +141,7 @@ readable_from n is low = record { cells = cells_from n.cells is.cells (omega ari
 
 -- ---- to documents
 
-outputs_to : (os : List Output) → Each IsReadableOutput os → Each IsOutput os × Each IsLow os
+outputs_to : (os : List Output) → AllByRecursion IsReadableOutput os → AllByRecursion IsOutput os × AllByRecursion IsLow os
 outputs_to [] are = (tt, tt)
 outputs_to (o ∷ os) are = let rest = outputs_to os are.1 in ((are.0.document, rest.0), (are.0.shallow, rest.1))
 
@@ -153,7 +154,7 @@ content_to (content.Code e) is = (outputs_to e.outputs is).0
 content_to (content.Markdown a) is = attachments_to a is
 content_to (content.Raw a) is = attachments_to a is
 
-cells_to : (cs : List Cell) → Each IsReadableCell cs → Each IsCell cs
+cells_to : (cs : List Cell) → AllByRecursion IsReadableCell cs → AllByRecursion IsCell cs
 cells_to [] are = tt
 cells_to (c ∷ cs) are = (record { id = are.0.id; metadata = are.0.metadata; content = content_to c.content are.0.content }, cells_to cs are.1)
 
@@ -178,7 +179,7 @@ cell_low : (c : Cell) → IsReadableCell c → IsLowCell c
 unfolding cell_form
 cell_low c is = content_low c.id c.metadata c.source c.content is.shallow is.content
 
-cells_low : (cs : List Cell) → Each IsReadableCell cs → items_depth (items_of (map cell_form cs)) ≤ 125
+cells_low : (cs : List Cell) → AllByRecursion IsReadableCell cs → items_depth (items_of (map cell_form cs)) ≤ 125
 cells_low [] are = omega arith
 cells_low (c ∷ cs) are = max-le (cell_low c are.0) (cells_low cs are.1)
 

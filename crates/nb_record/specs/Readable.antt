@@ -3,13 +3,14 @@
 -- deeper, once they are written, than JSON is read, so that what is written reads back. JSON is read to depth 127; a
 -- notebook nests cells by two, and a cell its outputs by two.
 use Rattle.std.specs.Prelude.{◌≡◌, ◌≤◌, true, Option, Some, None}
+use Rattle.std.specs.List.{AllByRecursion}
 use Rattle.serde_json.specs.Data.{Data, depth}
 use Rattle.nb_doc.specs.declared.notebook.Notebook.{Notebook}
 use Rattle.nb_doc.specs.declared.notebook.Cell.{Cell}
 use Rattle.nb_doc.specs.declared.notebook.Content.{Content}
 use Rattle.nb_doc.specs.declared.notebook.Content.TheVariants as content
 use Rattle.nb_doc.specs.declared.notebook.Output.{Output}
-use Rattle.nb_doc.specs.Documents.{Each, IsObject, IsOutput, ids}
+use Rattle.nb_doc.specs.Documents.{IsObject, IsOutput, ids}
 use Rattle.nb_doc.specs.Ids.{is_allowed, are_distinct}
 use Rattle.nb_doc.specs.Writing.{output_form}
 
@@ -22,7 +23,7 @@ AreReadableAttachments None = Unit {0}
 AreReadableAttachments (Some d) = IsObject d × (depth d ≤ 124)
 
 abbrev pub IsReadableContent : Content → Type 0
-IsReadableContent (content.Code e) = Each IsReadableOutput e.outputs
+IsReadableContent (content.Code e) = AllByRecursion IsReadableOutput e.outputs
 IsReadableContent (content.Markdown attachments) = AreReadableAttachments attachments
 IsReadableContent (content.Raw attachments) = AreReadableAttachments attachments
 
@@ -33,7 +34,7 @@ pub record IsReadableCell (c : Cell) : Type 0 where
   pub content : IsReadableContent c.content
 
 pub record IsReadable (n : Notebook) : Type 0 where
-  pub cells : Each IsReadableCell n.cells
+  pub cells : AllByRecursion IsReadableCell n.cells
   pub distinct : are_distinct (ids n.cells) ≡ true
   pub metadata : IsObject n.metadata
   pub shallow : depth n.metadata ≤ 126

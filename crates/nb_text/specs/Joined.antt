@@ -1,5 +1,6 @@
 -- Notebooks in which no two neighbouring streams of one cell have the same name.
 use Rattle.std.specs.Prelude.{◌≡◌, ℕ, List, false, Option, Some, None}
+use Rattle.std.specs.List.{AllByRecursion}
 use Rattle.std.specs.Borrow.{Bor}
 use Rattle.std.specs.Str.{bytes_eq}
 use Rattle.nb_doc.specs.declared.notebook.Notebook.{Notebook}
@@ -8,7 +9,6 @@ use Rattle.nb_doc.specs.declared.notebook.Content.{Content}
 use Rattle.nb_doc.specs.declared.notebook.Content.TheVariants as content
 use Rattle.nb_doc.specs.declared.notebook.Output.{Output}
 use Rattle.nb_doc.specs.declared.notebook.Output.TheVariants as output
-use Rattle.nb_doc.specs.Documents.{Each}
 use Rattle.nb_doc.specs.Writing.{joined}
 
 abbrev pub IsJoinedContent : Content → Type 0
@@ -20,7 +20,7 @@ abbrev pub IsJoinedCell : Cell → Type 0
 IsJoinedCell c = IsJoinedContent c.content
 
 abbrev pub IsJoined : Notebook → Type 0
-IsJoined n = Each IsJoinedCell n.cells
+IsJoined n = AllByRecursion IsJoinedCell n.cells
 
 -- an output is no stream of this name
 abbrev pub IsOther : List ℕ → Output → Type 0

@@ -1,7 +1,7 @@
 //! The cells of a notebook, and the notebook.
 
 ghost use Rattle.std.specs.Prelude.{◌≡◌, None, Some, ◌++◌, OnOk};
-ghost use Rattle.nb_doc.specs.Documents.{Each};
+ghost use Rattle.std.specs.List.{AllByRecursion};
 ghost use Rattle.nb_doc.specs.Writing.{joined, code_form, text_form, cell_form, cells_form, notebook_form};
 ghost use Rattle.nb_text.specs.Joined.{IsJoinedCell, IsJoined};
 ghost use Rattle.nb_text.specs.Tokens.{data_tokens, member_tokens};
@@ -32,7 +32,7 @@ pub(crate) fn write_joined<W: Tokens>(out: &mut W, notebook: &Notebook) -> Resul
 
 #[tactic(auto, unfolding(nb_doc::specs::Writing::cells_form))]
 fn write_cells<W: Tokens>(out: &mut W, key: &str, cells: &[Cell]) -> Result<(), AllocError>
-    requires { Each IsJoinedCell cells.now }
+    requires { AllByRecursion IsJoinedCell cells.now }
     ensures { OnOk result (W.Tokens.written out.new ≡ W.Tokens.written out.old ++ member_tokens key.now (cells_form cells.now)) }
 {
     out.token(Token::Key(key))?;

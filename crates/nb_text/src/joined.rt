@@ -1,7 +1,7 @@
 //! Whether neighbouring streams of one name are joined already.
 
 ghost use Rattle.std.specs.Prelude.{◌≡◌, IsTrue};
-ghost use Rattle.nb_doc.specs.Documents.{Each};
+ghost use Rattle.std.specs.List.{AllByRecursion};
 ghost use Rattle.nb_doc.specs.Writing.{joined};
 ghost use Rattle.nb_text.specs.Joined.{IsOther, AreApart, MayFollow, IsJoinedContent, IsJoinedCell, IsJoined};
 
@@ -14,7 +14,7 @@ pub(crate) fn is_joined(notebook: &Notebook) -> bool
 }
 
 fn are_joined_cells(cells: &[Cell]) -> bool
-    ensures { IsTrue result → Each IsJoinedCell cells.now }
+    ensures { IsTrue result → AllByRecursion IsJoinedCell cells.now }
 {
     for cell in cells {
         if !is_joined_content(&cell.content) {

@@ -1,6 +1,7 @@
 -- What loading asks of a checked module: what keys say of it and of its imports, its commands, and that its imports don't
 -- reach it.
 use Rattle.std.proofs.Common.{◌≡◌, ◌≢◌, ℕ, zero, suc, ◌+◌, nat_eq, Bool, true, false, cond, ◌&&◌, ◌||◌, List, [], ◌∷◌, ◌++◌, length, map, Option, Some, None, is_some, option_map, if◌then◌else◌, refl, sym, ap, ◌∙◌, subst, arith}
+use Rattle.std.specs.List.{AllByRecursion}
 use Rattle.std.specs.Prelude.{slice_get, slice_index, slice_index_or}
 use Rattle.std.specs.Str.{bytes_eq}
 use Rattle.std.proofs.lemmas.Option.{slice_get-map}
@@ -50,7 +51,7 @@ use Rattle.ob_load.specs.Said.{face_said, shape_said}
 use Rattle.ob_load.specs.Words.{InterfaceWords, AllWords}
 use Rattle.ob_cell.specs.Texts as meaning
 use Rattle.ob_cell.proofs.Keys.{key_says, names_say}
-use Rattle.ob_cell.proofs.Spelled.{Each, text_words}
+use Rattle.ob_cell.proofs.Spelled.{text_words}
 use Rattle.ob_cell.proofs.WordTypes.{LoadedWords, some_same, nothing}
 use Rattle.ob_cell.proofs.WordModules.{checked_block, checked_words}
 use Rattle.ob_cell.proofs.WordScopes.{ImportRight, EntryRight, DeclaredRight}
@@ -147,13 +148,13 @@ module _ (ms : Loaded) (loaded : LoadedWords ms) (self : List ℕ) where
           (said_more (fit.face_named ms r.x.interface.name) (face_of_interface r.x.interface) (interface_text r.x.interface) [] (ap (fit.face_named ms) r.name ∙ r.face) (words_at ms place r.x loaded r.there) refl)
       by false = refl
 
-  said_behind : (is : List Imported) (ds : List Declared) → Said is → Each (DeclaredRight ms self) ds → Said (with_imports ms is ds)
+  said_behind : (is : List Imported) (ds : List Declared) → Said is → AllByRecursion (DeclaredRight ms self) ds → Said (with_imports ms is ds)
   said_behind is [] g h = g
   said_behind is (d ∷ ds) g h =
       let more = imported_by ms (length is) d.entry in
       said_behind (is ++ more) ds (said_join is more g (said_by (length is) d.entry h.0.1)) h.1
 
-  pub said_all : (ds : List Declared) → Each (DeclaredRight ms self) ds → Said (all_imported ms ds)
+  pub said_all : (ds : List Declared) → AllByRecursion (DeclaredRight ms self) ds → Said (all_imported ms ds)
   said_all ds h = said_behind [] ds refl h
 
 -- ---- imports that don't reach the module
@@ -175,12 +176,12 @@ module _ (modules : List Module) (self : List ℕ) where
       indexed (x ∷ xs) zero b e = some_same x b e
       indexed (x ∷ xs) (suc k) b e = indexed xs k b e
 
-  apart_reached : (i : Import) (is : List Import) → Each (Apart modules self) is → Reached modules i is → i.name ≢ self
+  apart_reached : (i : Import) (is : List Import) → AllByRecursion (Apart modules self) is → Reached modules i is → i.name ≢ self
   apart_reached i is h (First js) = h.0.0
   apart_reached i is h (Behind j js r) = apart_reached i js h.1 r
   apart_reached i is h (Through j js d e r) = never_reached d j.name e (h.0.1 d e) i r
 
-  pub unreached : (is : List Import) → Each (Apart modules self) is → IsUnreached modules self is
+  pub unreached : (is : List Import) → AllByRecursion (Apart modules self) is → IsUnreached modules self is
   unreached is h i r = apart_reached i is h r
 
   -- the modules as the rules for this one see them
@@ -213,12 +214,12 @@ module _ (modules : List Module) (self : List ℕ) where
   flag_of true h = absurd (let t : is_among (self ∷ []) self ≡ true = ap (λ c. c || false) (equal_name self) in let n : true ≡ false = sym t ∙ h in cc)
   flag_of false h = refl
 
-  apart_of : (place : ℕ) → ImportRight (seen modules) self place → Each (Apart modules self) (map meaning.import_of (with_key (slice_get (seen modules) place)))
+  apart_of : (place : ℕ) → ImportRight (seen modules) self place → AllByRecursion (Apart modules self) (map meaning.import_of (with_key (slice_get (seen modules) place)))
   unfolding module_place
   apart_of place h =
       let r = found_first modules h.0 place h.1 in
       let flag : reached_by modules self r.y ≡ false = flag_of _ (subst (λ o. reaches o self ≡ false) r.there h.3) in
-      subst (λ o. Each (Apart modules self) (map meaning.import_of (with_key o))) (sym r.there) (
+      subst (λ o. AllByRecursion (Apart modules self) (map meaning.import_of (with_key o))) (sym r.there) (
         (
           (λ same. let t = sym (equal_name self) ∙ ap (λ n. bytes_eq n self) (sym same ∙ r.name) ∙ h.2 in absurd (let n : true ≡ false = t in cc)),
           (λ d found. let one : r.y ≡ d = some_same r.y d (sym r.found ∙ ap (find_module modules) (sym r.name) ∙ found) in
@@ -227,7 +228,7 @@ module _ (modules : List Module) (self : List ℕ) where
         tt,
       )
 
-  apart_by : (n : ℕ) (e : Entry) → EntryRight (seen modules) self e → Each (Apart modules self) (map meaning.import_of (imported_by (seen modules) n e))
+  apart_by : (n : ℕ) (e : Entry) → EntryRight (seen modules) self e → AllByRecursion (Apart modules self) (map meaning.import_of (imported_by (seen modules) n e))
   apart_by n (entry.Constant c) h = tt
   apart_by n (entry.TypeName t) h = tt
   apart_by n (entry.Variable t v) h = tt
@@ -236,21 +237,21 @@ module _ (modules : List Module) (self : List ℕ) where
   apart_by n entry.Out h = tt
   apart_by n (entry.Module i place) h = by (nat_eq i n)
     where
-      by : (b : Bool) → Each (Apart modules self) (map meaning.import_of (cond b (with_key (slice_get (seen modules) place)) []))
+      by : (b : Bool) → AllByRecursion (Apart modules self) (map meaning.import_of (cond b (with_key (slice_get (seen modules) place)) []))
       by true = apart_of place h
       by false = tt
 
-  apart_join : (is js : List Imported) → Each (Apart modules self) (map meaning.import_of is) → Each (Apart modules self) (map meaning.import_of js) → Each (Apart modules self) (map meaning.import_of (is ++ js))
+  apart_join : (is js : List Imported) → AllByRecursion (Apart modules self) (map meaning.import_of is) → AllByRecursion (Apart modules self) (map meaning.import_of js) → AllByRecursion (Apart modules self) (map meaning.import_of (is ++ js))
   apart_join [] js h g = g
   apart_join (i ∷ is) js h g = (h.0, apart_join is js h.1 g)
 
-  apart_behind : (is : List Imported) (ds : List Declared) → Each (Apart modules self) (map meaning.import_of is) → Each (DeclaredRight (seen modules) self) ds → Each (Apart modules self) (map meaning.import_of (with_imports (seen modules) is ds))
+  apart_behind : (is : List Imported) (ds : List Declared) → AllByRecursion (Apart modules self) (map meaning.import_of is) → AllByRecursion (DeclaredRight (seen modules) self) ds → AllByRecursion (Apart modules self) (map meaning.import_of (with_imports (seen modules) is ds))
   apart_behind is [] g h = g
   apart_behind is (d ∷ ds) g h =
       let more = imported_by (seen modules) (length is) d.entry in
       apart_behind (is ++ more) ds (apart_join is more g (apart_by (length is) d.entry h.0.1)) h.1
 
-  pub all_apart : (ds : List Declared) → Each (DeclaredRight (seen modules) self) ds → Each (Apart modules self) (map meaning.import_of (all_imported (seen modules) ds))
+  pub all_apart : (ds : List Declared) → AllByRecursion (DeclaredRight (seen modules) self) ds → AllByRecursion (Apart modules self) (map meaning.import_of (all_imported (seen modules) ds))
   all_apart ds h = apart_behind [] ds tt h
 
 -- ---- commands

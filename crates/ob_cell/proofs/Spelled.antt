@@ -1,5 +1,6 @@
 -- The names that a module's text declares are words.
 use Rattle.std.proofs.Common.{ℕ, zero, suc, List, [], ◌∷◌, inl, inr, subst, sym}
+use Rattle.std.specs.List.{AllByRecursion}
 use Rattle.ob_scan.specs.declared.token.Symbol.{Symbol}
 use Rattle.ob_scan.specs.declared.token.Symbol.TheVariants as s
 use Rattle.ob_scan.specs.declared.token.Token.{Token}
@@ -37,20 +38,16 @@ use Rattle.ob_cell.proofs.Passed.{ident_def, ident_list, qualident, expr, statem
 
 -- ---- the names of a tree that others may see
 
-abbrev pub Each : {A : Type 0} → (A → Type 0) → List A → Type 0
-Each P [] = Unit {0}
-Each P (x ∷ xs) = P x × Each P xs
-
 abbrev pub NameIn : IdentDef → Type 0
 NameIn x = IsWord x.name.name
 
 abbrev pub TypedIn : (TypeExpr → Type 0) → TypedNames → Type 0
-TypedIn inner x = Each NameIn (out-TypedNames x).names × inner (out-TypedNames x).of
+TypedIn inner x = AllByRecursion NameIn (out-TypedNames x).names × inner (out-TypedNames x).of
 
 abbrev pub LayerIn : (TypeExpr → Type 0) → t.TypeLayer → Type 0
 LayerIn inner (TypeExpr-F.Named q) = Unit {0}
 LayerIn inner (TypeExpr-F.Array span lengths element) = inner element
-LayerIn inner (TypeExpr-F.Record span base fields) = Each (TypedIn inner) fields
+LayerIn inner (TypeExpr-F.Record span base fields) = AllByRecursion (TypedIn inner) fields
 
 -- of a type in which that many more constructs may nest
 abbrev pub InnerIn : ℕ → TypeExpr → Type 0
@@ -70,14 +67,14 @@ abbrev pub ProcedureIn : Procedure → Type 0
 ProcedureIn p = NameIn (out-Procedure p).name
 
 pub record DeclarationsIn (levels : ℕ) (x : Declarations) : Type 0 where
-  pub constants : Each ConstantIn (out-Declarations x).constants
-  pub types : Each (DeclaredTypeIn levels) (out-Declarations x).types
-  pub variables : Each (TypedIn (TypeIn levels)) (out-Declarations x).variables
-  pub procedures : Each ProcedureIn (out-Declarations x).procedures
+  pub constants : AllByRecursion ConstantIn (out-Declarations x).constants
+  pub types : AllByRecursion (DeclaredTypeIn levels) (out-Declarations x).types
+  pub variables : AllByRecursion (TypedIn (TypeIn levels)) (out-Declarations x).variables
+  pub procedures : AllByRecursion ProcedureIn (out-Declarations x).procedures
 
 pub record ModuleIn (m : Module) : Type 0 where
   pub name : IsWord m.name.name
-  pub imports : Each (λ (i : Import). IsWord i.name.name) m.imports
+  pub imports : AllByRecursion (λ (i : Import). IsWord i.name.name) m.imports
   pub declarations : DeclarationsIn grammar.max_nesting m.declarations
 
 -- ---- what a phrase says where names of its tokens are words
@@ -100,35 +97,35 @@ nothing_said = record { says = λ tokens rest h w. tt }
 said_name : (i : Ident) → Says (ident i) (IsWord i.name)
 said_name i = record { says = λ tokens rest h w. (subst TokenWords h w).0 }
 
-all_said : {X : Type 0} (p : X → Phrase) (A : X → Type 0) → ((x : X) → Keeps (p x)) → ((x : X) → Says (p x) (A x)) → (xs : List X) → Says (each p xs) (Each A xs)
+all_said : {X : Type 0} (p : X → Phrase) (A : X → Type 0) → ((x : X) → Keeps (p x)) → ((x : X) → Says (p x) (A x)) → (xs : List X) → Says (each p xs) (AllByRecursion A xs)
 all_said p A k f [] = nothing_said
 all_said p A k f (x ∷ xs) = both (first (f x)) (later (k x) (all_said p A k f xs))
 
-between_said : {X : Type 0} (word : Symbol) (p : X → Phrase) (A : X → Type 0) → ((x : X) → Keeps (p x)) → ((x : X) → Says (p x) (A x)) → (xs : List X) → Says (separated word p xs) (Each A xs)
+between_said : {X : Type 0} (word : Symbol) (p : X → Phrase) (A : X → Type 0) → ((x : X) → Keeps (p x)) → ((x : X) → Says (p x) (A x)) → (xs : List X) → Says (separated word p xs) (AllByRecursion A xs)
 between_said word p A k f [] = record { says = λ tokens rest h w. absurd h }
 between_said {X} word p A k f (x ∷ xs) = record { says = λ tokens rest h w. (all (x ∷ xs)).says tokens rest h w }
   where
-    others : (ys : List X) → Says (each (λ y. symbol word ⨾ p y) ys) (Each A ys)
+    others : (ys : List X) → Says (each (λ y. symbol word ⨾ p y) ys) (AllByRecursion A ys)
     others ys = all_said (λ y. symbol word ⨾ p y) A (λ y. then (mark word) (k y)) (λ y. later (mark word) (f y)) ys
 
-    all : (ys : List X) → Says (p x ⨾ each (λ y. symbol word ⨾ p y) xs) (A x × Each A xs)
+    all : (ys : List X) → Says (p x ⨾ each (λ y. symbol word ⨾ p y) xs) (A x × AllByRecursion A xs)
     all ys = both (first (f x)) (later (k x) (others xs))
 
-list_said : {X : Type 0} (word : Symbol) (p : X → Phrase) (A : X → Type 0) → ((x : X) → Keeps (p x)) → ((x : X) → Says (p x) (A x)) → (xs : List X) → Says (listed word p xs) (Each A xs)
+list_said : {X : Type 0} (word : Symbol) (p : X → Phrase) (A : X → Type 0) → ((x : X) → Keeps (p x)) → ((x : X) → Says (p x) (A x)) → (xs : List X) → Says (listed word p xs) (AllByRecursion A xs)
 list_said word p A k f [] = nothing_said
 list_said word p A k f (x ∷ xs) = between_said word p A k f (x ∷ xs)
 
-optional_said : {X : Type 0} (word : Symbol) (p : List X → Phrase) (A : X → Type 0) → ((xs : List X) → Says (p xs) (Each A xs)) → (xs : List X) → Says (optional word p xs) (Each A xs)
+optional_said : {X : Type 0} (word : Symbol) (p : List X → Phrase) (A : X → Type 0) → ((xs : List X) → Says (p xs) (AllByRecursion A xs)) → (xs : List X) → Says (optional word p xs) (AllByRecursion A xs)
 optional_said {X} word p A f xs = record { says = by }
   where
-    by : (tokens rest : List Token) → optional word p xs tokens rest → TokenWords tokens → Each A xs
-    by tokens rest (inl e) w = subst (Each A) (sym e.0) tt
+    by : (tokens rest : List Token) → optional word p xs tokens rest → TokenWords tokens → AllByRecursion A xs
+    by tokens rest (inl e) w = subst (AllByRecursion A) (sym e.0) tt
     by tokens rest (inr h) w = (later (mark word) (f xs)).says tokens rest h w
 
 said_def : (x : IdentDef) → Says (n.ident_def x) (NameIn x)
 said_def x = first (said_name x.name)
 
-said_list : (xs : List IdentDef) → Says (n.ident_list xs) (Each NameIn xs)
+said_list : (xs : List IdentDef) → Says (n.ident_list xs) (AllByRecursion NameIn xs)
 said_list xs = between_said s.Comma n.ident_def NameIn ident_def said_def xs
 
 -- ---- types
@@ -230,24 +227,24 @@ module _ (k : ℕ) (inner : Procedure → Phrase) (inside : (p : Procedure) → 
   part_says : (inner_says : (p : Procedure) → Says (inner p) (ProcedureIn p)) (p : Procedure) → Says (d.procedure_part k inner p) (ProcedureIn p)
   part_says inner_says p = later (mark s.Procedure) (later (deeper k) (first (inner_says p)))
 
-  constants_said : (x : Declarations) → Says (d.declarations_phrase k inner x) (Each ConstantIn (out-Declarations x).constants)
+  constants_said : (x : Declarations) → Says (d.declarations_phrase k inner x) (AllByRecursion ConstantIn (out-Declarations x).constants)
   constants_said x =
       first (optional_said s.Const (each (d.const_declaration k)) ConstantIn (all_said (d.const_declaration k) ConstantIn (const_keeps k) (λ c. first (said_def c.name))) (out-Declarations x).constants)
 
-  types_said : (x : Declarations) → Says (d.declarations_phrase k inner x) (Each (DeclaredTypeIn k) (out-Declarations x).types)
+  types_said : (x : Declarations) → Says (d.declarations_phrase k inner x) (AllByRecursion (DeclaredTypeIn k) (out-Declarations x).types)
   types_said x =
       later (behind_word s.Const (each (d.const_declaration k)) (every (d.const_declaration k) (const_keeps k)) (out-Declarations x).constants)
       (first (optional_said s.Type (each (d.type_declaration k)) (DeclaredTypeIn k)
       (all_said (d.type_declaration k) (DeclaredTypeIn k) (declared_type_keeps k) (λ y. both (first (said_def y.name)) (later (ident_def y.name) (later (mark s.Equal) (first (type_says k y.of)))))) (out-Declarations x).types))
 
-  variables_said : (x : Declarations) → Says (d.declarations_phrase k inner x) (Each (TypedIn (TypeIn k)) (out-Declarations x).variables)
+  variables_said : (x : Declarations) → Says (d.declarations_phrase k inner x) (AllByRecursion (TypedIn (TypeIn k)) (out-Declarations x).variables)
   variables_said x =
       later (behind_word s.Const (each (d.const_declaration k)) (every (d.const_declaration k) (const_keeps k)) (out-Declarations x).constants)
       (later (behind_word s.Type (each (d.type_declaration k)) (every (d.type_declaration k) (declared_type_keeps k)) (out-Declarations x).types)
       (first (optional_said s.Var (each (d.variables k)) (TypedIn (TypeIn k))
       (all_said (d.variables k) (TypedIn (TypeIn k)) (variables_keep k) (λ y. first (names_say k (t.type_expr k) (TypeIn k) (type_keeps k) (type_says k) y))) (out-Declarations x).variables)))
 
-  procedures_said : (inner_says : (p : Procedure) → Says (inner p) (ProcedureIn p)) (x : Declarations) → Says (d.declarations_phrase k inner x) (Each ProcedureIn (out-Declarations x).procedures)
+  procedures_said : (inner_says : (p : Procedure) → Says (inner p) (ProcedureIn p)) (x : Declarations) → Says (d.declarations_phrase k inner x) (AllByRecursion ProcedureIn (out-Declarations x).procedures)
   procedures_said inner_says x =
       later (behind_word s.Const (each (d.const_declaration k)) (every (d.const_declaration k) (const_keeps k)) (out-Declarations x).constants)
       (later (behind_word s.Type (each (d.type_declaration k)) (every (d.type_declaration k) (declared_type_keeps k)) (out-Declarations x).types)
@@ -280,13 +277,13 @@ import_keeps i = then (name i.name) (perhaps (λ m. symbol s.Becomes ⨾ ident m
 imports_keep : (xs : List Import) → Keeps (grammar.import_list xs)
 imports_keep xs = then (between s.Comma grammar.import_phrase import_keeps xs) (mark s.Semicolon)
 
-imports_said : (xs : List Import) → Says (grammar.import_list xs) (Each (λ (i : Import). IsWord i.name.name) xs)
+imports_said : (xs : List Import) → Says (grammar.import_list xs) (AllByRecursion (λ (i : Import). IsWord i.name.name) xs)
 imports_said xs = first (between_said s.Comma grammar.import_phrase (λ (i : Import). IsWord i.name.name) import_keeps (λ i. first (said_name i.name)) xs)
 
 module_name : (m : Module) → Says (grammar.module_phrase m) (IsWord m.name.name)
 module_name m = later (mark s.Module) (first (said_name m.name))
 
-module_imports : (m : Module) → Says (grammar.module_phrase m) (Each (λ (i : Import). IsWord i.name.name) m.imports)
+module_imports : (m : Module) → Says (grammar.module_phrase m) (AllByRecursion (λ (i : Import). IsWord i.name.name) m.imports)
 module_imports m =
     later (mark s.Module) (later (name m.name) (later (mark s.Semicolon)
     (first (optional_said s.Import grammar.import_list (λ (i : Import). IsWord i.name.name) imports_said m.imports))))

@@ -1,5 +1,6 @@
 -- The interface of a checked module has names that are words, and its imports don't reach it.
 use Rattle.std.proofs.Common.{◌≡◌, ℕ, zero, suc, ◌++◌, Bool, true, false, List, [], ◌∷◌, refl, sym, ap, ◌∙◌, subst}
+use Rattle.std.specs.List.{AllByRecursion}
 use Rattle.std.specs.Prelude.{◌&&◌}
 use Rattle.ob_tree.specs.declared.tree.ConstDeclaration.{ConstDeclaration}
 use Rattle.ob_tree.specs.declared.tree.Declarations.{Declarations, out-Declarations}
@@ -25,7 +26,7 @@ use Rattle.ob_check_module.specs.CheckedTree.{CheckedTree}
 use Rattle.ob_check_module.specs.Modules.{all_imported, body_rule, procedures_rule, checked_rule, module_at}
 use Rattle.ob_check_module.specs.Procedures.{Checking, procedures_in, body_of, inside_of, procedure_of, procedure_at}
 use Rattle.ob_load.specs.Words.{IsWord, InterfaceWords}
-use Rattle.ob_cell.proofs.Spelled.{Each, ProcedureIn, ModuleIn}
+use Rattle.ob_cell.proofs.Spelled.{ProcedureIn, ModuleIn}
 use Rattle.ob_cell.proofs.WordTypes.{LoadedWords, through_keeps, always}
 use Rattle.ob_cell.proofs.WordScopes.{DeclaredRight, InModule, BlockTypes, block_types, each_more, heading_words, declared_right, interface_right}
 
@@ -136,7 +137,7 @@ module _ (ms : Modules) where
       around = h.around ∙ g.around;
       enclosing = h.enclosing ∙ g.enclosing;
       name = h.name ∙ g.name;
-      block = subst (Each (DeclaredRight ms self)) (sym h.block) (each_more (DeclaredRight ms self) s.block d g.block r);
+      block = subst (AllByRecursion (DeclaredRight ms self)) (sym h.block) (each_more (DeclaredRight ms self) s.block d g.block r);
     }
 
     procedure_right : (n : ℕ) (c : Checking) (p : Procedure) (d : Checking) → ProcedureIn p → gives (procedure_at ms n c p) d → In c.0 → In d.0
@@ -145,7 +146,7 @@ module _ (ms : Modules) where
     procedure_right (suc n) c p d w h g =
         let e = (h.1).1 in
         let scope = ap (λ (x : Entered). x.scope) (sym e.2) in
-        let words = heading_words ms loaded n c.0 (block_types ms self c.0.block g.block) (subst (Each BlockTypes) (sym g.around) tt) (out-Procedure p).formals e.0 e.1 in
+        let words = heading_words ms loaded n c.0 (block_types ms self c.0.block g.block) (subst (AllByRecursion BlockTypes) (sym g.around) tt) (out-Procedure p).formals e.0 e.1 in
         one_right c.0 d.0 (declared_as c.0 p e.0.signature _)
         (inside_more n (procedure_same n) h.0 c d c.0 p (declared_as c.0 p e.0.signature _) (ap (λ (x : Scope). x.around) scope) (ap (λ (x : Scope). x.enclosing) scope) (ap (λ (x : Scope). x.module_name) scope) h.2)
         (w, words) g
@@ -155,7 +156,7 @@ module _ (ms : Modules) where
 -- its block, by which its interface and its imports are made
 pub record CheckedBlock (ms : Modules) (m : Module) (c : CheckedTree) : Type 0 where
   pub block : List Declared
-  pub right : Each (DeclaredRight ms m.name.name) block
+  pub right : AllByRecursion (DeclaredRight ms m.name.name) block
   pub interface : c.interface ≡ interface_of m.name.name block
   pub imports : c.imports ≡ all_imported ms block
 

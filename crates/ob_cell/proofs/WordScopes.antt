@@ -1,5 +1,6 @@
 -- What a module declares has names that are words, and its imports are modules that do not reach it.
 use Rattle.std.proofs.Common.{◌≡◌, ℕ, ◌++◌, length, reverse, Bool, true, false, not, cond, List, [], ◌∷◌, Option, Some, None, is_some, slice_get, refl, sym, ap, ◌∙◌, subst}
+use Rattle.std.specs.List.{AllByRecursion}
 use Rattle.std.specs.Prelude.{◌&&◌}
 use Rattle.std.specs.Str.{bytes_eq}
 use Rattle.ob_tree.specs.declared.tree.ConstDeclaration.{ConstDeclaration}
@@ -34,7 +35,7 @@ use Rattle.ob_check_scope.specs.Rule.{gives, through}
 use Rattle.ob_check_scope.specs.Scope.{seen, nearer, seen_inside, nearest, is_seen_inside, in_heading, opening, naming}
 use Rattle.ob_check_scope.specs.Stack.{is_empty}
 use Rattle.ob_load.specs.Words.{IsWord, AreWords, RecordWords, TypeWords, FormalWords, ExportWords, InterfaceWords}
-use Rattle.ob_cell.proofs.Spelled.{Each, NameIn, TypedIn, TypeIn, ConstantIn, DeclaredTypeIn, DeclarationsIn, ModuleIn}
+use Rattle.ob_cell.proofs.Spelled.{NameIn, TypedIn, TypeIn, ConstantIn, DeclaredTypeIn, DeclarationsIn, ModuleIn}
 use Rattle.ob_cell.proofs.WordTypes.{LoadedWords, TypesOf, SeenWords, through_keeps, always, some_same, nothing, type_words, formal_words}
 
 -- ---- entries and blocks
@@ -65,17 +66,17 @@ right_types ms self entry.Out h = tt
 right_types ms self (entry.Module i place) h = tt
 
 abbrev pub BlockTypes : List Declared → Type 0
-BlockTypes = Each (λ (d : Declared). TypesOf d.entry)
+BlockTypes = AllByRecursion (λ (d : Declared). TypesOf d.entry)
 
-pub each_more : {A : Type 0} (P : A → Type 0) (xs : List A) (x : A) → Each P xs → P x → Each P (xs ++ x ∷ [])
+pub each_more : {A : Type 0} (P : A → Type 0) (xs : List A) (x : A) → AllByRecursion P xs → P x → AllByRecursion P (xs ++ x ∷ [])
 each_more P [] x h g = (g, tt)
 each_more P (y ∷ xs) x h g = (h.0, each_more P xs x h.1 g)
 
-each_map : {A : Type 0} (P Q : A → Type 0) → ((x : A) → P x → Q x) → (xs : List A) → Each P xs → Each Q xs
+each_map : {A : Type 0} (P Q : A → Type 0) → ((x : A) → P x → Q x) → (xs : List A) → AllByRecursion P xs → AllByRecursion Q xs
 each_map P Q f [] h = tt
 each_map P Q f (x ∷ xs) h = (f x h.0, each_map P Q f xs h.1)
 
-pub block_types : (ms : Modules) (self : List ℕ) (ds : List Declared) → Each (DeclaredRight ms self) ds → BlockTypes ds
+pub block_types : (ms : Modules) (self : List ℕ) (ds : List Declared) → AllByRecursion (DeclaredRight ms self) ds → BlockTypes ds
 block_types ms self ds h = each_map (DeclaredRight ms self) (λ (d : Declared). TypesOf d.entry) (λ d x. right_types ms self d.entry x.1) ds h
 
 -- ---- look-ups
@@ -92,7 +93,7 @@ nearer_by : (o p : Option Entry) (e : Entry) → (o ≡ Some e → TypesOf e) �
 nearer_by None p e g h k = h k
 nearer_by (Some x) p e g h k = g k
 
-nearest_is : (bs : List (List Declared)) (name : List ℕ) (e : Entry) → Each BlockTypes bs → nearest bs name ≡ Some e → TypesOf e
+nearest_is : (bs : List (List Declared)) (name : List ℕ) (e : Entry) → AllByRecursion BlockTypes bs → nearest bs name ≡ Some e → TypesOf e
 nearest_is [] name e h k = nothing e k
 nearest_is (b ∷ bs) name e h k = nearer_by (find b name) (nearest bs name) e (found b name e h.0) (nearest_is bs name e h.1) k
 
@@ -104,7 +105,7 @@ inside_is : (o : Option Entry) (e : Entry) → seen_inside o ≡ Some e → o �
 inside_is None e k = nothing e k
 inside_is (Some x) e k = shown_by (is_seen_inside x) x e k
 
-seen_words : (s : Scope) → BlockTypes s.block → Each BlockTypes s.around → SeenWords s
+seen_words : (s : Scope) → BlockTypes s.block → AllByRecursion BlockTypes s.around → SeenWords s
 unfolding seen
 seen_words s h g name e k =
     nearer_by (find s.block name) (seen_inside (nearest s.around name)) e (found s.block name e h)
@@ -127,7 +128,7 @@ parameter_right var t p name q w h g = subst ParametersRight h.1 (
 )
 
 module _ (ms : Modules) (loaded : LoadedWords ms) where
-  module _ (n : ℕ) (s : Scope) (here : BlockTypes s.block) (round : Each BlockTypes s.around) where
+  module _ (n : ℕ) (s : Scope) (here : BlockTypes s.block) (round : AllByRecursion BlockTypes s.around) where
     heading_seen : (p : Parameters) → ParametersRight p → SeenWords (in_heading s p.block)
     unfolding in_heading
     heading_seen p g = seen_words (in_heading s p.block) g.1 (here, round)
@@ -153,10 +154,10 @@ module _ (ms : Modules) (loaded : LoadedWords ms) where
       pub around : s.around ≡ []
       pub enclosing : s.enclosing ≡ []
       pub name : s.module_name ≡ self
-      pub block : Each (DeclaredRight ms self) s.block
+      pub block : AllByRecursion (DeclaredRight ms self) s.block
 
     pub seen_here : (s : Scope) → InModule s → SeenWords s
-    seen_here s g = seen_words s (block_types ms self s.block g.block) (subst (Each BlockTypes) (sym g.around) tt)
+    seen_here s g = seen_words s (block_types ms self s.block g.block) (subst (AllByRecursion BlockTypes) (sym g.around) tt)
 
     naming_words : (s : Scope) (name : List ℕ) → InModule s → IsWord name → RecordWords (naming s name)
     naming_words s name g h = record {
@@ -171,7 +172,7 @@ module _ (ms : Modules) (loaded : LoadedWords ms) where
       around = a ∙ g.around;
       enclosing = e ∙ g.enclosing;
       name = n ∙ g.name;
-      block = subst (Each (DeclaredRight ms self)) (sym b) (each_more (DeclaredRight ms self) s.block d g.block h);
+      block = subst (AllByRecursion (DeclaredRight ms self)) (sym b) (each_more (DeclaredRight ms self) s.block d g.block h);
     }
 
     constant_right : (n : ℕ) (s : Scope) (x : ConstDeclaration) (t : Scope) → ConstantIn x → gives (constant_rule ms n s x) t → InModule s → InModule t
@@ -201,7 +202,7 @@ module _ (ms : Modules) (loaded : LoadedWords ms) where
         (subst (λ b. gives (variable_in b (has_mark x) taken x.name.name t) u) (ap is_empty g.around) (h.1).2)
         (record { around = g.around; enclosing = g.enclosing; name = g.name; block = g.block })
 
-    first_word : (xs : List IdentDef) → Each NameIn xs → IsWord (first_name xs)
+    first_word : (xs : List IdentDef) → AllByRecursion NameIn xs → IsWord (first_name xs)
     first_word [] h = refl
     first_word (x ∷ xs) h = h.0
 
@@ -259,7 +260,7 @@ module _ (ms : Modules) (loaded : LoadedWords ms) where
     opening_right : InModule (opening self)
     opening_right = record { around = refl; enclosing = refl; name = refl; block = tt }
 
-    pub imports_right : (m : Module) (s : Scope) → Each (λ (i : Import). IsWord i.name.name) m.imports → gives (through (import_rule ms) (opening self) m.imports) s → InModule s
+    pub imports_right : (m : Module) (s : Scope) → AllByRecursion (λ (i : Import). IsWord i.name.name) m.imports → gives (through (import_rule ms) (opening self) m.imports) s → InModule s
     imports_right m s w h = through_keeps InModule (λ (i : Import). IsWord i.name.name) (import_rule ms) (λ a e b u k c. import_right a e b u k c) (opening self) m.imports s w h opening_right
 
   pub declared_right : (m : Module) (s : Scope) (w : ModuleIn m) → gives (module_rule ms m) s → InModule m.name.name w.name s
@@ -290,9 +291,9 @@ one_exported ms self name false entry.In n h = tt
 one_exported ms self name false entry.Out n h = tt
 one_exported ms self name false (entry.Module i place) n h = tt
 
-exports_right : (ms : Modules) (self : List ℕ) (ds : List Declared) → Each (DeclaredRight ms self) ds → ExportWords (exports_of ds)
+exports_right : (ms : Modules) (self : List ℕ) (ds : List Declared) → AllByRecursion (DeclaredRight ms self) ds → ExportWords (exports_of ds)
 exports_right ms self [] h = tt
 exports_right ms self (d ∷ ds) h = exports_append (exported_of d.name d.exported (object_of d.entry)) (exports_of ds) (one_exported ms self d.name d.exported d.entry h.0.0 h.0.1) (exports_right ms self ds h.1)
 
-pub interface_right : (ms : Modules) (self : List ℕ) (ds : List Declared) → IsWord self → Each (DeclaredRight ms self) ds → InterfaceWords (interface_of self ds)
+pub interface_right : (ms : Modules) (self : List ℕ) (ds : List Declared) → IsWord self → AllByRecursion (DeclaredRight ms self) ds → InterfaceWords (interface_of self ds)
 interface_right ms self ds w h = record { name = w; exports = exports_right ms self ds h }

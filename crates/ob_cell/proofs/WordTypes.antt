@@ -1,5 +1,6 @@
 -- Types as they are written have names that are words, where those that they name have.
 use Rattle.std.proofs.Common.{◌≡◌, ◌<◌, ◌^◌, ℕ, zero, suc, ◌+◌, pos, negsuc, nat_le, ◌&&◌, ◌++◌, map, reverse, Bool, true, false, cond, List, [], ◌∷◌, Option, Some, None, slice_get, refl, sym, ap, ◌∙◌, subst, arith}
+use Rattle.std.specs.List.{AllByRecursion}
 use Rattle.std.proofs.lemmas.Bool.Decides.{nat_tests}
 use Rattle.std.proofs.lemmas.List.{reverse-append}
 use Rattle.std.specs.Str.{bytes_eq}
@@ -42,15 +43,15 @@ use Rattle.ob_check_scope.specs.Scope.{seen, outer}
 use Rattle.ob_check_const.specs.NamedTypes.{predeclared_type, own_type, object_type, other_type, qualified, type_named}
 use Rattle.ob_check_decl.specs.WrittenTypes.{length_of, next_length, array_of, field_of, next_fields, extended, begun, record_rule, type_layer, type_rule, inner_constant, inner_type, type_at, numbered}
 use Rattle.ob_load.specs.Words.{IsWord, RecordWords, TypeWords, RowWords, FieldWords, ObjectWords, ExportWords, InterfaceWords}
-use Rattle.ob_cell.proofs.Spelled.{Each, NameIn, TypedIn, LayerIn, InnerIn, TypeIn}
+use Rattle.ob_cell.proofs.Spelled.{NameIn, TypedIn, LayerIn, InnerIn, TypeIn}
 
 -- ---- what rules give
 
-pub through_keeps : {S A : Type 0} (P : S → Type 0) (Q : A → Type 0) (r : S → A → Rule S) → ((s : S) (a : A) (t : S) → Q a → gives (r s a) t → P s → P t) → (s : S) (xs : List A) (t : S) → Each Q xs → gives (through r s xs) t → P s → P t
+pub through_keeps : {S A : Type 0} (P : S → Type 0) (Q : A → Type 0) (r : S → A → Rule S) → ((s : S) (a : A) (t : S) → Q a → gives (r s a) t → P s → P t) → (s : S) (xs : List A) (t : S) → AllByRecursion Q xs → gives (through r s xs) t → P s → P t
 through_keeps P Q r step s [] t q h p = subst P h p
 through_keeps P Q r step s (x ∷ xs) t q h p = through_keeps P Q r step h.0 xs t q.1 h.2 (step s x h.0 q.0 h.1 p)
 
-pub always : {A : Type 0} (xs : List A) → Each (λ x. Unit {0}) xs
+pub always : {A : Type 0} (xs : List A) → AllByRecursion (λ x. Unit {0}) xs
 always [] = tt
 always (x ∷ xs) = (tt, always xs)
 
@@ -165,7 +166,7 @@ fields_append : (fs gs : List Field) → FieldWords fs → FieldWords gs → Fie
 fields_append [] gs h g = g
 fields_append (f ∷ fs) gs h g = (h.0, h.1, fields_append fs gs h.2 g)
 
-fields_of_type : (t : ObType) (names : List IdentDef) → TypeWords t → Each NameIn names → FieldWords (map (field_of t) names)
+fields_of_type : (t : ObType) (names : List IdentDef) → TypeWords t → AllByRecursion NameIn names → FieldWords (map (field_of t) names)
 fields_of_type t [] h w = tt
 fields_of_type t (n ∷ ns) h w = (w.0, h, fields_of_type t ns h w.1)
 

@@ -1,7 +1,7 @@
 //! What a follower does.
 ghost use Rattle.std.specs.Prelude.{◌≡◌, ◌<◌, ◌≤◌, ◌++◌, take, drop, length, Err, IfOk, OnOk, OnErr};
+ghost use Rattle.std.specs.List.{AllByRecursion};
 ghost use Rattle.jk_board.specs.Ends.{board_of, found_by, told_to, read_by, news_from, news_of};
-ghost use Rattle.jk_board.specs.Rule.{Each};
 ghost use Rattle.jk_board.specs.Boards.{IsBoard, StartsWith};
 ghost use Rattle.jk_board.specs.declared.follower.Refusal.TheVariants.{Lost};
 
@@ -24,7 +24,7 @@ impl<L: Language> Follower<L> {
         ensures board { board_of result.0 ≡ board_of self }
         ensures told { told_to result.0 ≡ told_to self }
         ensures later { StartsWith (found_by result.0) (found_by self) }
-        ensures found { IfOk result.1 (λ v. IsBoard L.spoken (found_by result.0) × Each (StartsWith (found_by result.0)) (told_to self)) }
+        ensures found { IfOk result.1 (λ v. IsBoard L.spoken (found_by result.0) × AllByRecursion (StartsWith (found_by result.0)) (told_to self)) }
         ensures next { IfOk result.1 (λ v. v.items ≡ take max (drop self.place (found_by result.0))) }
         ensures read { IfOk result.1 (λ v. read_by result.0 ≡ read_by self ++ v.items) }
         ensures refused { OnErr result.1 (read_by result.0 ≡ read_by self) }
@@ -95,7 +95,7 @@ impl<L: Language> Follower<L> {
         ensures board { board_of result.0 ≡ board_of self }
         ensures told { told_to result.0 ≡ told_to self }
         ensures later { StartsWith (found_by result.0) (found_by self) }
-        ensures found { OnOk result.1 (IsBoard L.spoken (found_by result.0) × Each (StartsWith (found_by result.0)) (told_to self)) }
+        ensures found { OnOk result.1 (IsBoard L.spoken (found_by result.0) × AllByRecursion (StartsWith (found_by result.0)) (told_to self)) }
         ensures passed { OnOk result.1 (read_by result.0 ≡ found_by result.0) }
         ensures more { StartsWith (read_by result.0) (read_by self) }
         ensures refused { OnErr result.1 (read_by result.0 ≡ read_by self) }
@@ -143,7 +143,7 @@ impl<L: Language> Follower<L> {
 
     /// Learns what was published: from now on it finds no less. What it has read stays as it was.
     pub fn learn(self, news: News<L>) -> Follower<L>
-        requires { StartsWith (news_of news) (found_by self) × Each (StartsWith (news_of news)) (told_to self) }
+        requires { StartsWith (news_of news) (found_by self) × AllByRecursion (StartsWith (news_of news)) (told_to self) }
         ensures board { board_of result ≡ news_from news }
         ensures found { found_by result ≡ news_of news }
         ensures read { read_by result ≡ read_by self }

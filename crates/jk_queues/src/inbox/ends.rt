@@ -1,8 +1,9 @@
 //! How an inbox is made and closed.
 ghost use Rattle.std.specs.Prelude.{◌≡◌, ℕ, ◌-◌, ◌<◌, ◌≤◌, ◌++◌, ◌∷◌, [], true, List, length, IfOk, OnOk};
+ghost use Rattle.std.specs.List.{AllByRecursion};
 ghost use Rattle.std.specs.Arc.{arc_value};
 ghost use Rattle.crossbeam_queue.specs.Passes.{view, IsPassOf, IsSamePass, ruled_capacity};
-ghost use Rattle.jk_queues.specs.Inbox.{Each, SentIn, IsSeated, part, sender, fresh};
+ghost use Rattle.jk_queues.specs.Inbox.{SentIn, IsSeated, part, sender, fresh};
 ghost use Rattle.jk_queues.specs.Ends.{seat_view, seat_inbox, sent_by, taker_view, taker_inbox, taken_by, IsAt, AreAllOf, IsNew, AreNew, AreAllSent};
 ghost use Rattle.jk_log.specs.declared.arrival.Arrival.{Arrival};
 
@@ -116,8 +117,8 @@ fn take_in(taker: Taker, seat: Seat) -> Taker
 
 /// Takes all that stands in the inbox, where the taker's seats are all that there are.
 fn take_rest<R: Wait>(rt: &R, taker: Taker) -> Left
-    requires { (n : ℕ) × ((all : List Arrival) → Each IsSeated all → Each (SentIn all) (taker_view taker).senders → length all ≡ n) }
-    ensures { Each (SentIn (taken_by taker ++ result.arrivals.items)) (taker_view taker).senders }
+    requires { (n : ℕ) × ((all : List Arrival) → AllByRecursion IsSeated all → AllByRecursion (SentIn all) (taker_view taker).senders → length all ≡ n) }
+    ensures { AllByRecursion (SentIn (taken_by taker ++ result.arrivals.items)) (taker_view taker).senders }
 {
     let Taker {
         queue,

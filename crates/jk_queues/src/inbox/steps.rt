@@ -1,7 +1,7 @@
 //! What the ends do.
 ghost use Rattle.std.specs.Prelude.{◌≡◌, ◌+◌, ◌<◌, ◌≤◌, ◌^◌, ◌⊎◌, ◌++◌, ◌∷◌, [], List, length, IfSome, MatchOption, MatchResult};
 ghost use Rattle.crossbeam_queue.specs.Fifo.{Held};
-ghost use Rattle.jk_queues.specs.Inbox.{Stands, SentIn, Each, IsSeated, sends, takes, of};
+ghost use Rattle.jk_queues.specs.Inbox.{Stands, SentIn, IsSeated, sends, takes, of};
 ghost use Rattle.jk_queues.specs.Ends.{seat_view, seat_inbox, sent_by, taker_view, taker_inbox, taken_by};
 ghost use Rattle.jk_log.specs.declared.arrival.Arrival.{Arrival};
 

@@ -1,7 +1,7 @@
 use Rattle.std.proofs.Common.{◌≡◌, ◌+◌, ℕ, List, length}
 use Rattle.nb_doc.specs.Names.{IsNamer}
 use Rattle.nb_doc.proofs.Free.{at}
-use Rattle.nb_doc.proofs.raising.next_name.Given as goal
+use Rattle.nb_doc.proofs.cell_ids.next_name.Given as goal
 
 -- each number that was passed has used up a name
 abbrev pub invariant-loop-taken : goal.invariant-loop-taken

@@ -3,7 +3,7 @@ use Rattle.std.proofs.lemmas.List.{length-append}
 use Rattle.std.specs.Vec.Iter.{into_iter_items}
 use Rattle.nb_doc.specs.Ids.{raised, taken_after}
 use Rattle.nb_doc.proofs.Free.{raised_step}
-use Rattle.nb_doc.proofs.raising.raise_cells.Goals as goal
+use Rattle.nb_doc.proofs.cell_ids.raise_cells.Goals as goal
 
 pub loop-draft-preserved : goal.loop-draft-preserved
 loop-draft-preserved c =

@@ -2,7 +2,7 @@ use Rattle.std.proofs.Common.{◌≡◌, ◌+◌, ◌&&◌, not, false, true, sy
 use Rattle.std.specs.Str.{bytes_eq}
 use Rattle.nb_doc.specs.Ids.{is_among, name_of}
 use Rattle.nb_doc.proofs.Free.{passes, is_least, gives}
-use Rattle.nb_doc.proofs.raising.next_name.Goals as goal
+use Rattle.nb_doc.proofs.cell_ids.next_name.Goals as goal
 
 pub returns-then-not-remove-clause-id : goal.returns-then-not-remove-clause-id
 returns-then-not-remove-clause-id c =

@@ -3,7 +3,7 @@ use Rattle.std.specs.Str.{bytes_eq}
 use Rattle.nb_doc.specs.Documents.{ids}
 use Rattle.nb_doc.specs.Ids.{is_among}
 use Rattle.nb_doc.proofs.Distinct.{IsReading, begins, more_cells}
-use Rattle.nb_doc.proofs.raising.ids_of.Goals as goal
+use Rattle.nb_doc.proofs.cell_ids.ids_of.Goals as goal
 
 pub loop-cell-init : goal.loop-cell-init
 loop-cell-init c =

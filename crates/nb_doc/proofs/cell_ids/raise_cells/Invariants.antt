@@ -2,7 +2,7 @@ use Rattle.std.proofs.Common.{◌≡◌, ◌≤◌, ◌+◌, ◌++◌, ◌^◌, 
 use Rattle.std.specs.Vec.Iter.{into_iter_items}
 use Rattle.nb_doc.specs.Ids.{standing, raised}
 use Rattle.nb_doc.specs.Names.{IsNamer}
-use Rattle.nb_doc.proofs.raising.raise_cells.Given as goal
+use Rattle.nb_doc.proofs.cell_ids.raise_cells.Given as goal
 
 -- the cells so far, before those that are left, are those of the notebook
 abbrev pub invariant-loop-draft : goal.invariant-loop-draft
