@@ -1,10 +1,12 @@
-//! Constants.
+//! Constants. Terms of a sum and factors of a product each have a loop and a step of their own, as in ob_check_expr and for the
+//! same reason.
 
 ghost use Rattle.std.specs.Prelude.{◌≡◌, suc, option_copied, OnErr, IfErr, IfOk};
 ghost use Rattle.ob_check_scope.specs.declared.rule.RuleCode.TheVariants as code;
 ghost use Rattle.ob_tree.specs.declared.tree.Designator.{out-Designator};
 ghost use Rattle.ob_tree.specs.declared.tree.Selector.{out-Selector};
 ghost use Rattle.ob_check_scope.specs.Rule.{Judges, IsBroken, there, through};
+ghost use Rattle.ob_check_scope.specs.Sites.{on};
 ghost use Rattle.ob_check_const.specs.Constants as spec;
 ghost use Rattle.ob_check_const.specs.Folding as folding;
 
@@ -265,7 +267,7 @@ fn signed(sign: Option<(Sign, Span)>, value: Folded) -> Result<Folded, Rejected>
 #[cycle(constant)]
 #[tactic(auto, unfolding(crate::specs::Constants::expr_rule, crate::specs::Constants::expr_at, crate::specs::Constants::related))]
 fn expr(site: Site<'_>, e: &Expr) -> Result<Folded, Rejected>
-    ensures { Judges (spec.expr_at site.entry.imports.now site.entry.scope.now site.entry.levels e.now) result }
+    ensures { Judges (on spec.expr_at site.entry e.now) result }
 {
     match &e.right {
         None => simple(site, &e.left),
@@ -291,7 +293,7 @@ fn related(
     span: Span,
     right: &Simple,
 ) -> Result<Folded, Rejected>
-    ensures { Judges (spec.relation (spec.inner_at site.entry.imports.now site.entry.scope.now site.entry.levels) (spec.deeper_at site.entry.imports.now site.entry.scope.now site.entry.levels) site.entry.imports.now site.entry.scope.now left relation right.now) result }
+    ensures { Judges (spec.relation (on spec.inner_at site.entry) (on spec.deeper_at site.entry) site.entry.imports.now site.entry.scope.now left relation right.now) result }
 {
     if !relates(relation, &left) {
         return Err(Rejected::Rule(broken(RuleCode::Types, span)));
@@ -303,7 +305,7 @@ fn related(
 #[cycle(constant)]
 #[tactic(auto, unfolding(crate::specs::Constants::simple_rule))]
 fn simple(site: Site<'_>, x: &Simple) -> Result<Folded, Rejected>
-    ensures { Judges (spec.simple_rule (spec.inner_at site.entry.imports.now site.entry.scope.now site.entry.levels) (spec.deeper_at site.entry.imports.now site.entry.scope.now site.entry.levels) site.entry.imports.now site.entry.scope.now x.now) result }
+    ensures { Judges (spec.simple_rule (on spec.inner_at site.entry) (on spec.deeper_at site.entry) site.entry.imports.now site.entry.scope.now x.now) result }
 {
     let first = term(site, &x.first)?;
     let first = signed(x.sign, first)?;
@@ -312,7 +314,7 @@ fn simple(site: Site<'_>, x: &Simple) -> Result<Folded, Rejected>
 
 #[cycle(constant)]
 fn added_terms(site: Site<'_>, first: Folded, others: &[AddedTerm]) -> Result<Folded, Rejected>
-    ensures { Judges (through (spec.added_term (spec.inner_at site.entry.imports.now site.entry.scope.now site.entry.levels) (spec.deeper_at site.entry.imports.now site.entry.scope.now site.entry.levels) site.entry.imports.now site.entry.scope.now) first others.now) result }
+    ensures { Judges (through (spec.added_term (on spec.inner_at site.entry) (on spec.deeper_at site.entry) site.entry.imports.now site.entry.scope.now) first others.now) result }
 {
     let mut so_far = first;
     for x in others {
@@ -324,7 +326,7 @@ fn added_terms(site: Site<'_>, first: Folded, others: &[AddedTerm]) -> Result<Fo
 #[cycle(constant)]
 #[tactic(auto, unfolding(crate::specs::Constants::added_term))]
 fn added_term(site: Site<'_>, left: Folded, x: &AddedTerm) -> Result<Folded, Rejected>
-    ensures { Judges (spec.added_term (spec.inner_at site.entry.imports.now site.entry.scope.now site.entry.levels) (spec.deeper_at site.entry.imports.now site.entry.scope.now site.entry.levels) site.entry.imports.now site.entry.scope.now left x.now) result }
+    ensures { Judges (spec.added_term (on spec.inner_at site.entry) (on spec.deeper_at site.entry) site.entry.imports.now site.entry.scope.now left x.now) result }
 {
     if !adds(x.operator, &left) {
         return Err(Rejected::Rule(broken(RuleCode::Types, x.span)));
@@ -336,7 +338,7 @@ fn added_term(site: Site<'_>, left: Folded, x: &AddedTerm) -> Result<Folded, Rej
 #[cycle(constant)]
 #[tactic(auto, unfolding(crate::specs::Constants::term_rule))]
 fn term(site: Site<'_>, t: &Term) -> Result<Folded, Rejected>
-    ensures { Judges (spec.term_rule (spec.inner_at site.entry.imports.now site.entry.scope.now site.entry.levels) (spec.deeper_at site.entry.imports.now site.entry.scope.now site.entry.levels) site.entry.imports.now site.entry.scope.now t.now) result }
+    ensures { Judges (spec.term_rule (on spec.inner_at site.entry) (on spec.deeper_at site.entry) site.entry.imports.now site.entry.scope.now t.now) result }
 {
     let first = factor(site, &t.first)?;
     next_factors(site, first, t.others.as_slice())
@@ -344,7 +346,7 @@ fn term(site: Site<'_>, t: &Term) -> Result<Folded, Rejected>
 
 #[cycle(constant)]
 fn next_factors(site: Site<'_>, first: Folded, others: &[NextFactor]) -> Result<Folded, Rejected>
-    ensures { Judges (through (spec.next_factor (spec.inner_at site.entry.imports.now site.entry.scope.now site.entry.levels) (spec.deeper_at site.entry.imports.now site.entry.scope.now site.entry.levels) site.entry.imports.now site.entry.scope.now) first others.now) result }
+    ensures { Judges (through (spec.next_factor (on spec.inner_at site.entry) (on spec.deeper_at site.entry) site.entry.imports.now site.entry.scope.now) first others.now) result }
 {
     let mut so_far = first;
     for x in others {
@@ -356,7 +358,7 @@ fn next_factors(site: Site<'_>, first: Folded, others: &[NextFactor]) -> Result<
 #[cycle(constant)]
 #[tactic(auto, unfolding(crate::specs::Constants::next_factor))]
 fn next_factor(site: Site<'_>, left: Folded, x: &NextFactor) -> Result<Folded, Rejected>
-    ensures { Judges (spec.next_factor (spec.inner_at site.entry.imports.now site.entry.scope.now site.entry.levels) (spec.deeper_at site.entry.imports.now site.entry.scope.now site.entry.levels) site.entry.imports.now site.entry.scope.now left x.now) result }
+    ensures { Judges (spec.next_factor (on spec.inner_at site.entry) (on spec.deeper_at site.entry) site.entry.imports.now site.entry.scope.now left x.now) result }
 {
     if !multiplies(x.operator, &left) {
         return Err(Rejected::Rule(broken(RuleCode::Types, x.span)));
@@ -372,7 +374,7 @@ fn next_factor(site: Site<'_>, left: Folded, x: &NextFactor) -> Result<Folded, R
 #[cycle(constant)]
 #[tactic(auto, unfolding(crate::specs::Constants::factor_rule))]
 fn factor(site: Site<'_>, f: &Factor) -> Result<Folded, Rejected>
-    ensures { Judges (spec.factor_rule (spec.inner_at site.entry.imports.now site.entry.scope.now site.entry.levels) (spec.deeper_at site.entry.imports.now site.entry.scope.now site.entry.levels) site.entry.imports.now site.entry.scope.now f.now) result }
+    ensures { Judges (spec.factor_rule (on spec.inner_at site.entry) (on spec.deeper_at site.entry) site.entry.imports.now site.entry.scope.now f.now) result }
 {
     match f {
         Factor::Integer(number, _) => Ok(Folded::Integer(Some(*number))),
@@ -401,7 +403,7 @@ fn called(
     actuals: &[Expr],
     span: Span,
 ) -> Result<Folded, Rejected>
-    ensures { Judges (spec.called (spec.inner_at site.entry.imports.now site.entry.scope.now site.entry.levels) function actuals.now) result }
+    ensures { Judges (spec.called (on spec.inner_at site.entry) function actuals.now) result }
 {
     match (function, actuals) {
         (Function::Len, _) => Err(Rejected::Rule(broken(RuleCode::NotConstant, span))),
@@ -426,7 +428,7 @@ fn one_called(
     actuals: &[Expr],
     span: Span,
 ) -> Result<Folded, Rejected>
-    ensures { Judges (spec.one_called (spec.inner_at site.entry.imports.now site.entry.scope.now site.entry.levels) function left.now actuals.now) result }
+    ensures { Judges (spec.one_called (on spec.inner_at site.entry) function left.now actuals.now) result }
 {
     match actuals {
         [] => fitting(one_of(function, left), RuleCode::Parameters, span),
@@ -453,7 +455,7 @@ fn one_called(
 #[cycle(constant)]
 #[tactic(auto, unfolding(crate::specs::Constants::inner_at, crate::specs::Constants::expr_at))]
 fn nested(site: Site<'_>, span: Span, e: &Expr) -> Result<Folded, Rejected>
-    ensures { Judges (spec.inner_at site.entry.imports.now site.entry.scope.now site.entry.levels e.now) result }
+    ensures { Judges (on spec.inner_at site.entry e.now) result }
 {
     let inside = open(site.levels, span)?;
     expr(
@@ -468,7 +470,7 @@ fn nested(site: Site<'_>, span: Span, e: &Expr) -> Result<Folded, Rejected>
 #[cycle(constant)]
 #[tactic(auto, unfolding(crate::specs::Constants::deeper_at))]
 fn deeper(site: Site<'_>, span: Span, f: &Factor) -> Result<Folded, Rejected>
-    ensures { Judges (spec.deeper_at site.entry.imports.now site.entry.scope.now site.entry.levels f.now) result }
+    ensures { Judges (on spec.deeper_at site.entry f.now) result }
 {
     let inside = open(site.levels, span)?;
     factor(
@@ -483,7 +485,7 @@ fn deeper(site: Site<'_>, span: Span, f: &Factor) -> Result<Folded, Rejected>
 /// The constant that an expression is, whose evaluation doesn't trap. The fault stands at its first token where it does.
 #[tactic(auto, unfolding(crate::specs::Constants::constant_at))]
 pub fn constant(site: Site<'_>, e: &Expr) -> Result<Constant, Rejected>
-    ensures { Judges (spec.constant_at site.entry.imports.now site.entry.scope.now site.entry.levels e.now) result }
+    ensures { Judges (on spec.constant_at site.entry e.now) result }
 {
     let value = expr(site, e)?;
     match constant_of(value) {

@@ -1,7 +1,8 @@
 //! Imports and declarations.
 //!
 //! Constants, types, and variables each have a loop of their own, as procedures have in ob_check_module: the loops are alike
-//! but for the rule of one more, and one loop for all would have to take that rule as a closure.
+//! but for the rule of one more, and one loop for all would have to take that rule as a closure. One variable more is declared in
+//! three ways, each of which counts in a number of its own.
 
 ghost use Rattle.std.specs.Prelude.{◌≡◌, ◌≤◌, [], false, None, IfOk};
 ghost use Rattle.ob_check_scope.specs.declared.rule.RuleCode.TheVariants as code;

@@ -3,6 +3,7 @@
 ghost use Rattle.std.specs.Prelude.{◌≡◌, ◌<◌, ◌++◌, [], length, map, reverse, option_copied, IfOk};
 ghost use Rattle.ob_check_scope.specs.Rule.{Judges, through};
 ghost use Rattle.ob_check_scope.specs.Scope.{in_heading};
+ghost use Rattle.ob_check_scope.specs.Sites.{on};
 ghost use Rattle.ob_check_const.specs.NamedTypes.{type_named};
 ghost use Rattle.ob_check_decl.specs.WrittenTypes as spec;
 ghost use Rattle.ob_types.specs.declared.structure.ObType.{out-ObType};
@@ -83,7 +84,7 @@ fn length_of(constant: &Constant, span: Span) -> Result<u32, Rejected>
 
 #[tactic(auto, unfolding(crate::specs::WrittenTypes::inner_constant))]
 fn inner_constant(site: Site<'_>, e: &Expr) -> Result<Constant, Rejected>
-    ensures { Judges (spec.inner_constant site.entry.imports.now site.entry.scope.now site.entry.levels e.now) result }
+    ensures { Judges (on spec.inner_constant site.entry e.now) result }
 {
     let inside = open(site.levels, e.first_token())?;
     constant(
@@ -98,7 +99,7 @@ fn inner_constant(site: Site<'_>, e: &Expr) -> Result<Constant, Rejected>
 /// One length more.
 #[tactic(auto, unfolding(crate::specs::WrittenTypes::next_length))]
 fn next_length(site: Site<'_>, so_far: Items<u32>, e: &Expr) -> Result<Items<u32>, Rejected>
-    ensures { Judges (spec.next_length (spec.inner_constant site.entry.imports.now site.entry.scope.now site.entry.levels) so_far e.now) result }
+    ensures { Judges (spec.next_length (on spec.inner_constant site.entry) so_far e.now) result }
 {
     let mut so_far = so_far;
     let value = inner_constant(site, e)?;
@@ -108,7 +109,7 @@ fn next_length(site: Site<'_>, so_far: Items<u32>, e: &Expr) -> Result<Items<u32
 }
 
 fn lengths_of(site: Site<'_>, list: &[Expr]) -> Result<Items<u32>, Rejected>
-    ensures { Judges (through (spec.next_length (spec.inner_constant site.entry.imports.now site.entry.scope.now site.entry.levels)) [] list.now) result }
+    ensures { Judges (through (spec.next_length (on spec.inner_constant site.entry)) [] list.now) result }
 {
     let mut so_far = Items::new(site.alloc);
     for e in list {

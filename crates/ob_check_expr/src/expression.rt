@@ -6,6 +6,7 @@
 
 ghost use Rattle.std.specs.Prelude.{◌≡◌, suc, false, [], option_map, is_some, IfOk, OnErr, IfErr};
 ghost use Rattle.ob_check_scope.specs.Rule.{Judges, Given, Then, through};
+ghost use Rattle.ob_check_scope.specs.Sites.{on};
 ghost use Rattle.ob_mean.specs.declared.expression.Designator.TheVariants as designator;
 ghost use Rattle.ob_tree.specs.declared.tree.Expr.{out-Expr};
 ghost use Rattle.ob_check_const.specs.NamedTypes.{written};
@@ -52,7 +53,7 @@ pub fn expr(
     variables: Variables,
     e: &Expr,
 ) -> Result<(Operand, Variables), Rejected>
-    ensures { Judges (spec.expr_at site.entry.imports.now site.entry.scope.now site.entry.levels variables e.now) result }
+    ensures { Judges (on spec.expr_at site.entry variables e.now) result }
 {
     match &e.right {
         None => simple(site, variables, &e.left),
@@ -79,7 +80,7 @@ fn relation(
     span: Span,
     right: &Simple,
 ) -> Result<(Operand, Variables), Rejected>
-    ensures { Judges (spec.relation_at site.entry.imports.now site.entry.scope.now site.entry.levels left by span right.now) result }
+    ensures { Judges (on spec.relation_at site.entry left by span right.now) result }
 {
     let (left, variables) = left;
     let by = relation_of(by);
@@ -101,7 +102,7 @@ fn test(
     tested: Option<Lone<'_>>,
     name: &Qualident,
 ) -> Result<(Operand, Variables), Rejected>
-    ensures { Judges (spec.test_at site.entry.imports.now site.entry.scope.now site.entry.levels variables (out-Expr e.now).left (option_map lone tested.entry) name.now) result }
+    ensures { Judges (on spec.test_at site.entry variables (out-Expr e.now).left (option_map lone tested.entry) name.now) result }
 {
     let span = e.first_token();
     match tested {
@@ -125,7 +126,7 @@ fn simple(
     variables: Variables,
     x: &Simple,
 ) -> Result<(Operand, Variables), Rejected>
-    ensures { Judges (spec.simple_at site.entry.imports.now site.entry.scope.now site.entry.levels variables x.now) result }
+    ensures { Judges (on spec.simple_at site.entry variables x.now) result }
 {
     let (first, variables) = term(site, variables, &x.first)?;
     let first = Joined::One(signed(site.alloc, x.sign, first)?);
@@ -140,7 +141,7 @@ fn added_terms(
     variables: Variables,
     others: &[AddedTerm],
 ) -> Result<(Joined, Variables), Rejected>
-    ensures { Judges (through (spec.added_term_at site.entry.imports.now site.entry.scope.now site.entry.levels) (first, variables) others.now) (result_map (λ p. (p.0, p.1)) result) }
+    ensures { Judges (through (on spec.added_term_at site.entry) (first, variables) others.now) (result_map (λ p. (p.0, p.1)) result) }
 {
     let mut so_far = (first, variables);
     for x in others {
@@ -158,7 +159,7 @@ fn added_term(
     variables: Variables,
     x: &AddedTerm,
 ) -> Result<(Joined, Variables), Rejected>
-    ensures { Judges (spec.added_term_at site.entry.imports.now site.entry.scope.now site.entry.levels (left, variables) x.now) (result_map (λ p. (p.0, p.1)) result) }
+    ensures { Judges (on spec.added_term_at site.entry (left, variables) x.now) (result_map (λ p. (p.0, p.1)) result) }
 {
     if !may_join(add_joining(x.operator), &left) {
         drop(left);
@@ -172,7 +173,7 @@ fn added_term(
 #[cycle(expression)]
 #[tactic(auto, unfolding(crate::specs::Expressions::term_rule))]
 fn term(site: Site<'_>, variables: Variables, t: &Term) -> Result<(Operand, Variables), Rejected>
-    ensures { Judges (spec.term_at site.entry.imports.now site.entry.scope.now site.entry.levels variables t.now) result }
+    ensures { Judges (on spec.term_at site.entry variables t.now) result }
 {
     let (first, variables) = factor(site, variables, &t.first)?;
     let (all, variables) = next_factors(site, Joined::One(first), variables, t.others.as_slice())?;
@@ -186,7 +187,7 @@ fn next_factors(
     variables: Variables,
     others: &[NextFactor],
 ) -> Result<(Joined, Variables), Rejected>
-    ensures { Judges (through (spec.next_factor_at site.entry.imports.now site.entry.scope.now site.entry.levels) (first, variables) others.now) (result_map (λ p. (p.0, p.1)) result) }
+    ensures { Judges (through (on spec.next_factor_at site.entry) (first, variables) others.now) (result_map (λ p. (p.0, p.1)) result) }
 {
     let mut so_far = (first, variables);
     for x in others {
@@ -204,7 +205,7 @@ fn next_factor(
     variables: Variables,
     x: &NextFactor,
 ) -> Result<(Joined, Variables), Rejected>
-    ensures { Judges (spec.next_factor_at site.entry.imports.now site.entry.scope.now site.entry.levels (left, variables) x.now) (result_map (λ p. (p.0, p.1)) result) }
+    ensures { Judges (on spec.next_factor_at site.entry (left, variables) x.now) (result_map (λ p. (p.0, p.1)) result) }
 {
     if !may_join(mul_joining(x.operator), &left) {
         drop(left);
@@ -222,7 +223,7 @@ fn factor(
     variables: Variables,
     f: &Factor,
 ) -> Result<(Operand, Variables), Rejected>
-    ensures { Judges (spec.factor_at site.entry.imports.now site.entry.scope.now site.entry.levels variables f.now) result }
+    ensures { Judges (on spec.factor_at site.entry variables f.now) result }
 {
     match f {
         Factor::Integer(number, _) => {
@@ -262,7 +263,7 @@ fn call_or_guard(
     actuals: &[Expr],
     guard: Option<NameOfType<'_>>,
 ) -> Result<(Operand, Variables), Rejected>
-    ensures { Judges (spec.call_or_guard_at site.entry.imports.now site.entry.scope.now site.entry.levels variables d.now actuals.now (option_map written guard.entry)) result }
+    ensures { Judges (on spec.call_or_guard_at site.entry variables d.now actuals.now (option_map written guard.entry)) result }
 {
     match guard {
         None => {
@@ -288,7 +289,7 @@ fn value_named(
     variables: Variables,
     named: Named,
 ) -> Result<(Operand, Variables), Rejected>
-    ensures { Judges (spec.meant_at site.entry.imports.now site.entry.scope.now site.entry.levels (meant named.entry) variables) result }
+    ensures { Judges (on spec.meant_at site.entry (meant named.entry) variables) result }
 {
     match named {
         Named::Constant(constant) => Ok((operand_of_constant(site.alloc, constant)?, variables)),
@@ -313,7 +314,7 @@ fn variable_named(
     named: Named,
     span: Span,
 ) -> Result<Selected, Rejected>
-    ensures { Judges (spec.variable_at site.entry.imports.now site.entry.scope.now site.entry.levels (meant named.entry) variables) result }
+    ensures { Judges (on spec.variable_at site.entry (meant named.entry) variables) result }
 {
     match named {
         Named::Constant(_) | Named::InputDone => {
@@ -333,7 +334,7 @@ fn after_guard(
     guard: Option<NameOfType<'_>>,
     at: Selected,
 ) -> Result<Selected, Rejected>
-    ensures { Judges (spec.after_guard_at site.entry.imports.now site.entry.scope.now site.entry.levels (option_map written guard.entry) at) result }
+    ensures { Judges (on spec.after_guard_at site.entry (option_map written guard.entry) at) result }
 {
     match guard {
         None => Ok(at),
@@ -345,7 +346,7 @@ fn after_guard(
 #[cycle(expression)]
 #[tactic(auto, unfolding(crate::specs::Expressions::lone_read))]
 fn lone_read(site: Site<'_>, variables: Variables, x: Lone<'_>) -> Result<Selected, Rejected>
-    ensures { Judges (spec.lone_read_at site.entry.imports.now site.entry.scope.now site.entry.levels variables (lone x.entry)) result }
+    ensures { Judges (on spec.lone_read_at site.entry variables (lone x.entry)) result }
 {
     let named = read(site.imports, site.scope, x.variable)?;
     let at = variable_named(site, variables, named, x.variable.name.span)?;
@@ -355,7 +356,7 @@ fn lone_read(site: Site<'_>, variables: Variables, x: Lone<'_>) -> Result<Select
 /// What selectors select.
 #[cycle(expression)]
 fn selected(site: Site<'_>, whole: Selected, selectors: &[Selector]) -> Result<Selected, Rejected>
-    ensures { Judges (through (spec.selected_at site.entry.imports.now site.entry.scope.now site.entry.levels) whole selectors.now) result }
+    ensures { Judges (through (on spec.selected_at site.entry) whole selectors.now) result }
 {
     let mut so_far = whole;
     for selector in selectors {
@@ -396,7 +397,7 @@ fn field_selected(site: Site<'_>, at: Selected, name: &Ident) -> Result<Selected
 #[cycle(expression)]
 #[tactic(auto, unfolding(ob_check_operand::specs::Selecting::selected))]
 fn next_selected(site: Site<'_>, at: Selected, selector: &Selector) -> Result<Selected, Rejected>
-    ensures { Judges (spec.selected_at site.entry.imports.now site.entry.scope.now site.entry.levels at selector.now) result }
+    ensures { Judges (on spec.selected_at site.entry at selector.now) result }
 {
     match selector {
         Selector::Field(name) => field_selected(site, at, name),
@@ -408,7 +409,7 @@ fn next_selected(site: Site<'_>, at: Selected, selector: &Selector) -> Result<Se
 /// What indexes select.
 #[cycle(expression)]
 fn elements(site: Site<'_>, at: Selected, indexes: &[Expr]) -> Result<Selected, Rejected>
-    ensures { Judges (through (spec.indexed_at site.entry.imports.now site.entry.scope.now site.entry.levels) at indexes.now) result }
+    ensures { Judges (through (on spec.indexed_at site.entry) at indexes.now) result }
 {
     let mut so_far = at;
     for e in indexes {
@@ -434,7 +435,7 @@ fn element_at(
 #[cycle(expression)]
 #[tactic(auto, unfolding(ob_check_operand::specs::Selecting::indexed))]
 fn element(site: Site<'_>, at: Selected, e: &Expr) -> Result<Selected, Rejected>
-    ensures { Judges (spec.indexed_at site.entry.imports.now site.entry.scope.now site.entry.levels at e.now) result }
+    ensures { Judges (on spec.indexed_at site.entry at e.now) result }
 {
     let (array, place, variables, _) = at;
     let span = e.first_token();
@@ -463,7 +464,7 @@ fn call(
     span: Span,
     actuals: &[Expr],
 ) -> Result<(Operand, Variables), Rejected>
-    ensures { Judges (spec.call_at site.entry.imports.now site.entry.scope.now site.entry.levels (callable function.entry) span.line variables actuals.now) result }
+    ensures { Judges (on spec.call_at site.entry (callable function.entry) span.line variables actuals.now) result }
 {
     match function {
         Called::Procedure(signature, callee) => {
@@ -486,7 +487,7 @@ fn function_call(
     span: Span,
     actuals: &[Expr],
 ) -> Result<(Operand, Variables), Rejected>
-    ensures { Judges (spec.function_at site.entry.imports.now site.entry.scope.now site.entry.levels signature.now.result callee signature.now.formals span.line variables actuals.now) result }
+    ensures { Judges (on spec.function_at site.entry signature.now.result callee signature.now.formals span.line variables actuals.now) result }
 {
     match signature.result {
         None => Err(Rejected::Rule(broken(RuleCode::Parameters, span))),
@@ -508,7 +509,7 @@ fn predeclared_call(
     span: Span,
     actuals: &[Expr],
 ) -> Result<(Operand, Variables), Rejected>
-    ensures { Judges (spec.predeclared_at site.entry.imports.now site.entry.scope.now site.entry.levels function span.line variables actuals.now) result }
+    ensures { Judges (on spec.predeclared_at site.entry function span.line variables actuals.now) result }
 {
     match actuals {
         [] => Err(Rejected::Rule(broken(RuleCode::Parameters, span))),
@@ -535,7 +536,7 @@ fn one_taken(
     span: Span,
     actuals: &[Expr],
 ) -> Result<(Operand, Variables), Rejected>
-    ensures { Judges (spec.one_taken_at site.entry.imports.now site.entry.scope.now site.entry.levels function span.line alone first actuals.now) result }
+    ensures { Judges (on spec.one_taken_at site.entry function span.line alone first actuals.now) result }
 {
     let (left, variables) = first;
     match actuals {
@@ -576,7 +577,7 @@ pub fn all_passed(
     variables: Variables,
     actuals: &[Expr],
 ) -> Result<(Items<Argument>, Variables), Rejected>
-    ensures { Judges (spec.all_passed (spec.passed_at site.entry.imports.now site.entry.scope.now site.entry.levels) variables formals.now actuals.now) result }
+    ensures { Judges (spec.all_passed (on spec.passed_at site.entry) variables formals.now actuals.now) result }
 {
     let (passed, variables, left) = passed_in_turn(site, formals, span, variables, actuals)?;
     match left {
@@ -594,7 +595,7 @@ fn passed_in_turn<'a>(
     variables: Variables,
     actuals: &[Expr],
 ) -> Result<(Items<Argument>, Variables, &'a [Formal]), Rejected>
-    ensures { Judges (through (spec.next_passed_at site.entry.imports.now site.entry.scope.now site.entry.levels) ([], variables, formals.now) actuals.now) (result_map (λ p. (p.0, p.1, p.2.now)) result) }
+    ensures { Judges (through (on spec.next_passed_at site.entry) ([], variables, formals.now) actuals.now) (result_map (λ p. (p.0, p.1, p.2.now)) result) }
 {
     let mut so_far = (Items::new(site.alloc), variables, formals);
     for e in actuals {
@@ -615,7 +616,7 @@ fn next_passed<'a>(
     span: Span,
     e: &Expr,
 ) -> Result<(Items<Argument>, Variables, &'a [Formal]), Rejected>
-    ensures { Judges (spec.next_passed_at site.entry.imports.now site.entry.scope.now site.entry.levels (so_far, variables, formals.now) e.now) (result_map (λ p. (p.0, p.1, p.2.now)) result) }
+    ensures { Judges (on spec.next_passed_at site.entry (so_far, variables, formals.now) e.now) (result_map (λ p. (p.0, p.1, p.2.now)) result) }
 {
     match formals {
         [] => Err(Rejected::Rule(broken(RuleCode::Parameters, e.first_token()))),
@@ -638,7 +639,7 @@ pub fn actual(
     span: Span,
     e: &Expr,
 ) -> Result<(Argument, Variables), Rejected>
-    ensures { Judges (spec.passed_at site.entry.imports.now site.entry.scope.now site.entry.levels formal.now variables e.now) result }
+    ensures { Judges (on spec.passed_at site.entry formal.now variables e.now) result }
 {
     let inside = open(site.levels, span)?;
     actual_of_kind(
@@ -662,7 +663,7 @@ fn actual_of_kind(
     formal: &ObType,
     e: &Expr,
 ) -> Result<(Argument, Variables), Rejected>
-    ensures { Judges (spec.actual_rule (spec.expr_within site.entry.imports.now site.entry.scope.now site.entry.levels) (spec.target_within site.entry.imports.now site.entry.scope.now site.entry.levels) site.entry.scope.now kind formal.now variables e.now) result }
+    ensures { Judges (spec.actual_rule (on spec.expr_within site.entry) (on spec.target_within site.entry) site.entry.scope.now kind formal.now variables e.now) result }
 {
     match kind {
         FormalKind::Variable => {
@@ -682,7 +683,7 @@ fn variable_actual(
     variable: Option<Lone<'_>>,
     span: Span,
 ) -> Result<(Argument, Variables), Rejected>
-    ensures { Judges (spec.variable_actual (spec.target_within site.entry.imports.now site.entry.scope.now site.entry.levels) formal.now variables (option_map lone variable.entry)) result }
+    ensures { Judges (spec.variable_actual (on spec.target_within site.entry) formal.now variables (option_map lone variable.entry)) result }
 {
     match variable {
         None => Err(Rejected::Rule(broken(RuleCode::ReadOnly, span))),
@@ -701,7 +702,7 @@ fn value_actual(
     formal: &ObType,
     e: &Expr,
 ) -> Result<(Argument, Variables), Rejected>
-    ensures { Judges (spec.value_actual (spec.expr_within site.entry.imports.now site.entry.scope.now site.entry.levels) site.entry.scope.now formal.now variables e.now) result }
+    ensures { Judges (spec.value_actual (on spec.expr_within site.entry) site.entry.scope.now formal.now variables e.now) result }
 {
     let (operand, variables) = expr(site, variables, e)?;
     value_passed(
@@ -718,7 +719,7 @@ fn value_actual(
 #[cycle(expression)]
 #[tactic(auto, unfolding(crate::specs::Expressions::target_at, crate::specs::Expressions::target_rule))]
 pub fn target(site: Site<'_>, variables: Variables, d: &Written) -> Result<Selected, Rejected>
-    ensures { Judges (spec.target_at site.entry.imports.now site.entry.scope.now site.entry.levels variables d.now) result }
+    ensures { Judges (on spec.target_at site.entry variables d.now) result }
 {
     let target = written(site.imports, site.scope, d)?;
     let whole = (
@@ -734,7 +735,7 @@ pub fn target(site: Site<'_>, variables: Variables, d: &Written) -> Result<Selec
 #[cycle(expression)]
 #[tactic(auto, unfolding(crate::specs::Expressions::lone_written, crate::specs::Expressions::target_at))]
 fn lone_written(site: Site<'_>, variables: Variables, x: Lone<'_>) -> Result<Selected, Rejected>
-    ensures { Judges (spec.target_within site.entry.imports.now site.entry.scope.now site.entry.levels variables (lone x.entry)) result }
+    ensures { Judges (on spec.target_within site.entry variables (lone x.entry)) result }
 {
     let at = target(site, variables, x.variable)?;
     after_guard(site, x.guard, at)
@@ -748,7 +749,7 @@ fn nested(
     variables: Variables,
     e: &Expr,
 ) -> Result<(Operand, Variables), Rejected>
-    ensures { Judges (spec.inner_at site.entry.imports.now site.entry.scope.now site.entry.levels variables e.now) result }
+    ensures { Judges (on spec.inner_at site.entry variables e.now) result }
 {
     let inside = open(site.levels, span)?;
     expr(
@@ -769,7 +770,7 @@ fn deeper(
     variables: Variables,
     f: &Factor,
 ) -> Result<(Operand, Variables), Rejected>
-    ensures { Judges (spec.deeper_at site.entry.imports.now site.entry.scope.now site.entry.levels variables f.now) result }
+    ensures { Judges (on spec.deeper_at site.entry variables f.now) result }
 {
     let inside = open(site.levels, span)?;
     factor(

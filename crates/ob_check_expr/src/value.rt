@@ -6,6 +6,7 @@
 
 ghost use Rattle.std.specs.Prelude.{◌≡◌};
 ghost use Rattle.ob_check_scope.specs.Rule.{Judges};
+ghost use Rattle.ob_check_scope.specs.Sites.{on};
 ghost use Rattle.ob_check_expr.specs.Expressions as spec;
 
 use crate::expression::{all_passed, expr};
@@ -29,7 +30,7 @@ pub fn actuals(
     variables: Variables,
     es: &[Expr],
 ) -> Result<(Items<Argument>, Variables), Rejected>
-    ensures { Judges (spec.actuals_at site.entry.imports.now site.entry.scope.now site.entry.levels formals.now variables es.now) result }
+    ensures { Judges (on spec.actuals_at site.entry formals.now variables es.now) result }
 {
     all_passed(site, formals, span, variables, es)
 }
@@ -50,7 +51,7 @@ pub fn basic_value(
     variables: Variables,
     e: &Expr,
 ) -> Result<(Basic, TypedExpr, Variables), Rejected>
-    ensures { Judges (spec.value_at site.entry.imports.now site.entry.scope.now site.entry.levels variables e.now) result }
+    ensures { Judges (on spec.value_at site.entry variables e.now) result }
 {
     let (operand, variables) = expr(site, variables, e)?;
     let (basic, value) = fitting(is_value(operand), RuleCode::Types, e.first_token())?;
@@ -65,7 +66,7 @@ pub fn assigned_value(
     variables: Variables,
     e: &Expr,
 ) -> Result<(TypedExpr, Variables), Rejected>
-    ensures { Judges (spec.value_for_at site.entry.imports.now site.entry.scope.now site.entry.levels basic variables e.now) result }
+    ensures { Judges (on spec.value_for_at site.entry basic variables e.now) result }
 {
     let (operand, variables) = expr(site, variables, e)?;
     let value = value_for(site.alloc, basic, operand, e.first_token())?;
@@ -79,7 +80,7 @@ pub fn guard(
     variables: Variables,
     e: &Expr,
 ) -> Result<(TypedExpr, Variables), Rejected>
-    ensures { Judges (spec.guard_at site.entry.imports.now site.entry.scope.now site.entry.levels variables e.now) result }
+    ensures { Judges (on spec.guard_at site.entry variables e.now) result }
 {
     let (operand, variables) = expr(site, variables, e)?;
     let value = fitting(truth_of(operand), RuleCode::Types, e.first_token())?;
@@ -93,7 +94,7 @@ pub fn number(
     variables: Variables,
     e: &Expr,
 ) -> Result<(TypedExpr, Variables), Rejected>
-    ensures { Judges (spec.number_at site.entry.imports.now site.entry.scope.now site.entry.levels variables e.now) result }
+    ensures { Judges (on spec.number_at site.entry variables e.now) result }
 {
     let (operand, variables) = expr(site, variables, e)?;
     let value = fitting(number_of(operand), RuleCode::Parameters, e.first_token())?;
@@ -107,7 +108,7 @@ pub fn truth(
     variables: Variables,
     e: &Expr,
 ) -> Result<(TypedExpr, Variables), Rejected>
-    ensures { Judges (spec.truth_at site.entry.imports.now site.entry.scope.now site.entry.levels variables e.now) result }
+    ensures { Judges (on spec.truth_at site.entry variables e.now) result }
 {
     let (operand, variables) = expr(site, variables, e)?;
     let value = fitting(truth_of(operand), RuleCode::Parameters, e.first_token())?;

@@ -3,6 +3,7 @@
 ghost use Rattle.std.specs.Prelude.{◌≡◌, ◌++◌, ◌+◌, suc, sum, map, length, IfOk, IfSome, IfNone};
 ghost use Rattle.ob_tree.specs.declared.tree.Procedure.{out-Procedure};
 ghost use Rattle.ob_check_scope.specs.Rule.{Judges, through};
+ghost use Rattle.ob_check_scope.specs.Sites.{on};
 ghost use Rattle.ob_check_module.specs.Procedures as spec;
 
 use ob_base::Items;
@@ -121,7 +122,7 @@ fn returned(
     value: &Option<Returned>,
     span: Span,
 ) -> Result<(Option<TypedExpr>, Variables), Rejected>
-    ensures { Judges (spec.result_at site.entry.imports.now site.entry.scope.now site.entry.levels basic variables value.now) result }
+    ensures { Judges (on spec.result_at site.entry basic variables value.now) result }
 {
     match (basic, value) {
         (None, None) => Ok((None, variables)),

@@ -10,3 +10,4 @@ pub mod Predeclared
 pub mod Scope
 pub mod Imports
 pub mod Tables
+pub mod Sites

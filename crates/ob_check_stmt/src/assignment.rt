@@ -2,6 +2,7 @@
 
 ghost use Rattle.std.specs.Prelude.{◌≡◌};
 ghost use Rattle.ob_check_scope.specs.Rule.{Judges};
+ghost use Rattle.ob_check_scope.specs.Sites.{on};
 ghost use Rattle.ob_check_stmt.specs.Assignments as spec;
 
 use ob_check_expr::{assigned_value, expr, target};
@@ -96,7 +97,7 @@ fn assigned(
     variables: Variables,
     e: &Expr,
 ) -> Result<(Action, Variables), Rejected>
-    ensures { Judges (spec.assigned site.entry.imports.now site.entry.scope.now site.entry.levels basic of.now to variables e.now) result }
+    ensures { Judges (on spec.assigned site.entry basic of.now to variables e.now) result }
 {
     match basic {
         Some(basic) => {
@@ -119,7 +120,7 @@ pub fn assignment(
     d: &Designator,
     e: &Expr,
 ) -> Result<(Action, Variables), Rejected>
-    ensures { Judges (spec.assignment site.entry.imports.now site.entry.scope.now site.entry.levels variables d.now e.now) result }
+    ensures { Judges (on spec.assignment site.entry variables d.now e.now) result }
 {
     let (of, to, variables, _) = target(site, variables, d)?;
     assigned(site, basic_of(&of), &of, to, variables, e)

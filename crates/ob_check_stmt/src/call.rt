@@ -2,6 +2,7 @@
 
 ghost use Rattle.std.specs.Prelude.{◌≡◌};
 ghost use Rattle.ob_check_scope.specs.Rule.{Judges};
+ghost use Rattle.ob_check_scope.specs.Sites.{on};
 ghost use Rattle.ob_check_operand.specs.Named.{callable};
 ghost use Rattle.ob_check_stmt.specs.Calls as spec;
 
@@ -36,7 +37,7 @@ fn call_with(
     actuals: &Option<Items<Expr>>,
     span: Span,
 ) -> Result<(Action, Variables), Rejected>
-    ensures { Judges (spec.call_with site.entry.imports.now site.entry.scope.now site.entry.levels to formals.now span.line variables actuals.now) result }
+    ensures { Judges (on spec.call_with site.entry to formals.now span.line variables actuals.now) result }
 {
     match actuals {
         None => {
@@ -71,7 +72,7 @@ fn procedure_call(
     actuals: &Option<Items<Expr>>,
     span: Span,
 ) -> Result<(Action, Variables), Rejected>
-    ensures { Judges (spec.procedure_call site.entry.imports.now site.entry.scope.now site.entry.levels signature.now to span.line variables actuals.now) result }
+    ensures { Judges (on spec.procedure_call site.entry signature.now to span.line variables actuals.now) result }
 {
     if signature.result.is_some() {
         return Err(Rejected::Rule(broken(RuleCode::Parameters, span)));
@@ -89,7 +90,7 @@ fn call_of(
     actuals: &Option<Items<Expr>>,
     span: Span,
 ) -> Result<(Action, Variables), Rejected>
-    ensures { Judges (spec.call_of site.entry.imports.now site.entry.scope.now site.entry.levels (callable what.entry) span.line variables actuals.now) result }
+    ensures { Judges (on spec.call_of site.entry (callable what.entry) span.line variables actuals.now) result }
 {
     match what {
         Called::Procedure(signature, to) => procedure_call(
@@ -110,7 +111,7 @@ pub fn call(
     d: &Designator,
     actuals: &Option<Items<Expr>>,
 ) -> Result<(Action, Variables), Rejected>
-    ensures { Judges (spec.call site.entry.imports.now site.entry.scope.now site.entry.levels variables d.now actuals.now) result }
+    ensures { Judges (on spec.call site.entry variables d.now actuals.now) result }
 {
     let what = procedure(site.imports, site.scope, d)?;
     call_of(site, what, variables, actuals, d.name.span)

@@ -2,6 +2,7 @@
 
 ghost use Rattle.std.specs.Prelude.{◌≡◌, option_copied};
 ghost use Rattle.ob_check_scope.specs.Rule.{Judges};
+ghost use Rattle.ob_check_scope.specs.Sites.{on};
 ghost use Rattle.ob_check_stmt.specs.Statements as spec;
 
 use ob_base::Boxed;
@@ -103,7 +104,7 @@ fn step_of(constant: &Constant, span: Span) -> Result<i32, Rejected>
 
 #[tactic(auto, unfolding(crate::specs::Statements::step_at))]
 fn step(site: Site<'_>, e: &Option<Boxed<Expr>>) -> Result<i32, Rejected>
-    ensures { Judges (spec.step_at site.entry.imports.now site.entry.scope.now site.entry.levels e.now) result }
+    ensures { Judges (on spec.step_at site.entry e.now) result }
 {
     match e {
         None => Ok(1),
@@ -123,7 +124,7 @@ pub fn for_head(
     variables: Variables,
     h: &ForHead,
 ) -> Result<(TypedHead, Variables), Rejected>
-    ensures { Judges (spec.for_head site.entry.imports.now site.entry.scope.now site.entry.levels variables h.now) result }
+    ensures { Judges (on spec.for_head site.entry variables h.now) result }
 {
     let variable = counter_named(site.scope, &h.variable)?;
     let integer = Basic::Integer;

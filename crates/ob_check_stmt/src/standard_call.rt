@@ -1,7 +1,11 @@
 //! Calls of In and Out, and of the procedures that are declared before any module.
+//!
+//! A procedure of Out has a function of its own, with the name of its rule in specs/StandardCalls. They take their actual
+//! parameters in the same lines, and differ in what each parameter has to be.
 
 ghost use Rattle.std.specs.Prelude.{◌≡◌, IfOk};
 ghost use Rattle.ob_check_scope.specs.Rule.{Judges};
+ghost use Rattle.ob_check_scope.specs.Sites.{on};
 ghost use Rattle.ob_mean.specs.declared.statement.OutputCall.TheVariants as output;
 ghost use Rattle.ob_check_stmt.specs.StandardCalls as spec;
 
@@ -133,7 +137,7 @@ fn number_inside(
     variables: Variables,
     e: &Expr,
 ) -> Result<(TypedExpr, Variables), Rejected>
-    ensures { Judges (spec.number_inside site.entry.imports.now site.entry.scope.now site.entry.levels variables e.now) result }
+    ensures { Judges (on spec.number_inside site.entry variables e.now) result }
 {
     let inside = open(site.levels, e.first_token())?;
     number(
@@ -152,7 +156,7 @@ fn truth_inside(
     variables: Variables,
     e: &Expr,
 ) -> Result<(TypedExpr, Variables), Rejected>
-    ensures { Judges (spec.truth_inside site.entry.imports.now site.entry.scope.now site.entry.levels variables e.now) result }
+    ensures { Judges (on spec.truth_inside site.entry variables e.now) result }
 {
     let inside = open(site.levels, e.first_token())?;
     truth(
@@ -173,7 +177,7 @@ fn place(
     formal: &Formal,
     e: &Expr,
 ) -> Result<(Designator, Variables), Rejected>
-    ensures { Judges (spec.place_at site.entry.imports.now site.entry.scope.now site.entry.levels variables formal.now e.now) result }
+    ensures { Judges (on spec.place_at site.entry variables formal.now e.now) result }
 {
     let (argument, variables) = actual(site, variables, formal, e.first_token(), e)?;
     let place = place_passed(argument, e.first_token())?;
@@ -188,7 +192,7 @@ fn scalar(
     basic: Basic,
     e: &Expr,
 ) -> Result<(TypedExpr, Variables), Rejected>
-    ensures { Judges (spec.scalar_at site.entry.imports.now site.entry.scope.now site.entry.levels variables basic e.now) result }
+    ensures { Judges (on spec.scalar_at site.entry variables basic e.now) result }
 {
     let formal = value_formal(basic);
     let (argument, variables) = actual(site, variables, &formal, e.first_token(), e)?;
@@ -205,7 +209,7 @@ fn read_call(
     actuals: &Option<Items<Expr>>,
     span: Span,
 ) -> Result<(Action, Variables), Rejected>
-    ensures { Judges (spec.read_call site.entry.imports.now site.entry.scope.now site.entry.levels reader variables actuals.now) result }
+    ensures { Judges (on spec.read_call site.entry reader variables actuals.now) result }
 {
     let Some(actuals) = actuals else {
         return Err(Rejected::Rule(broken(RuleCode::Parameters, span)));
@@ -233,7 +237,7 @@ pub fn in_call(
     actuals: &Option<Items<Expr>>,
     span: Span,
 ) -> Result<(Action, Variables), Rejected>
-    ensures { Judges (spec.in_call site.entry.imports.now site.entry.scope.now site.entry.levels name variables actuals.now) result }
+    ensures { Judges (on spec.in_call site.entry name variables actuals.now) result }
 {
     match name {
         InputName::Open => without_actuals(Action::Input(InputCall::Open), variables, actuals),
@@ -254,7 +258,7 @@ fn out_char(
     actuals: &Option<Items<Expr>>,
     span: Span,
 ) -> Result<(Action, Variables), Rejected>
-    ensures { Judges (spec.out_char site.entry.imports.now site.entry.scope.now site.entry.levels variables actuals.now) result }
+    ensures { Judges (on spec.out_char site.entry variables actuals.now) result }
 {
     let Some(actuals) = actuals else {
         return Err(Rejected::Rule(broken(RuleCode::Parameters, span)));
@@ -276,7 +280,7 @@ fn out_string(
     actuals: &Option<Items<Expr>>,
     span: Span,
 ) -> Result<(Action, Variables), Rejected>
-    ensures { Judges (spec.out_string site.entry.imports.now site.entry.scope.now site.entry.levels variables actuals.now) result }
+    ensures { Judges (on spec.out_string site.entry variables actuals.now) result }
 {
     let Some(actuals) = actuals else {
         return Err(Rejected::Rule(broken(RuleCode::Parameters, span)));
@@ -309,7 +313,7 @@ fn out_width(
     actuals: &[Expr],
     span: Span,
 ) -> Result<(Action, Variables), Rejected>
-    ensures { Judges (spec.out_width site.entry.imports.now site.entry.scope.now site.entry.levels value variables actuals.now) result }
+    ensures { Judges (on spec.out_width site.entry value variables actuals.now) result }
 {
     match actuals {
         [] => Err(Rejected::Rule(broken(RuleCode::Parameters, span))),
@@ -329,7 +333,7 @@ fn out_int(
     actuals: &Option<Items<Expr>>,
     span: Span,
 ) -> Result<(Action, Variables), Rejected>
-    ensures { Judges (spec.out_int site.entry.imports.now site.entry.scope.now site.entry.levels variables actuals.now) result }
+    ensures { Judges (on spec.out_int site.entry variables actuals.now) result }
 {
     let Some(actuals) = actuals else {
         return Err(Rejected::Rule(broken(RuleCode::Parameters, span)));
@@ -352,7 +356,7 @@ pub fn out_call(
     actuals: &Option<Items<Expr>>,
     span: Span,
 ) -> Result<(Action, Variables), Rejected>
-    ensures { Judges (spec.out_call site.entry.imports.now site.entry.scope.now site.entry.levels name variables actuals.now) result }
+    ensures { Judges (on spec.out_call site.entry name variables actuals.now) result }
 {
     match name {
         OutputName::Open => without_actuals(Action::Output(OutputCall::Open), variables, actuals),
@@ -373,7 +377,7 @@ fn adjusted_by(
     variables: Variables,
     actuals: &[Expr],
 ) -> Result<(Action, Variables), Rejected>
-    ensures { Judges (spec.adjusted_by site.entry.imports.now site.entry.scope.now site.entry.levels adjustment place variables actuals.now) result }
+    ensures { Judges (on spec.adjusted_by site.entry adjustment place variables actuals.now) result }
 {
     match actuals {
         [] => {
@@ -396,7 +400,7 @@ fn adjusted(
     actuals: &Option<Items<Expr>>,
     span: Span,
 ) -> Result<(Action, Variables), Rejected>
-    ensures { Judges (spec.adjusted site.entry.imports.now site.entry.scope.now site.entry.levels adjustment variables actuals.now) result }
+    ensures { Judges (on spec.adjusted site.entry adjustment variables actuals.now) result }
 {
     let Some(actuals) = actuals else {
         return Err(Rejected::Rule(broken(RuleCode::Parameters, span)));
@@ -419,7 +423,7 @@ fn asserted(
     actuals: &Option<Items<Expr>>,
     span: Span,
 ) -> Result<(Action, Variables), Rejected>
-    ensures { Judges (spec.asserted site.entry.imports.now site.entry.scope.now site.entry.levels span.line variables actuals.now) result }
+    ensures { Judges (on spec.asserted site.entry span.line variables actuals.now) result }
 {
     let Some(actuals) = actuals else {
         return Err(Rejected::Rule(broken(RuleCode::Parameters, span)));
@@ -446,7 +450,7 @@ pub fn predeclared_call(
     actuals: &Option<Items<Expr>>,
     span: Span,
 ) -> Result<(Action, Variables), Rejected>
-    ensures { Judges (spec.predeclared_call site.entry.imports.now site.entry.scope.now site.entry.levels procedure span.line variables actuals.now) result }
+    ensures { Judges (on spec.predeclared_call site.entry procedure span.line variables actuals.now) result }
 {
     match procedure {
         ProperProcedure::Inc => adjusted(site, Adjustment::Increase, variables, actuals, span),

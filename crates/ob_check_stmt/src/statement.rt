@@ -4,6 +4,7 @@ ghost use Rattle.std.specs.Prelude.{◌≡◌, []};
 ghost use Rattle.ob_tree.specs.declared.tree.Branch.{out-Branch};
 ghost use Rattle.ob_tree.specs.declared.tree.Case.{out-Case};
 ghost use Rattle.ob_check_scope.specs.Rule.{Given, Judges, through};
+ghost use Rattle.ob_check_scope.specs.Sites.{on};
 ghost use Rattle.ob_mean.specs.declared.statement.TypedStatement.TheVariants as typed;
 ghost use Rattle.ob_check_stmt.specs.Statements as spec;
 
@@ -36,7 +37,7 @@ pub fn optional(
     xs: &[Statement],
     span: Span,
 ) -> Result<(Items<TypedStatement>, Variables), Rejected>
-    ensures { Judges (spec.optional site.entry.imports.now site.entry.scope.now site.entry.levels (spec.statements_at site.entry.imports.now site.entry.scope.now site.entry.levels) variables xs.now) result }
+    ensures { Judges (on spec.optional site.entry (on spec.statements_at site.entry) variables xs.now) result }
 {
     match xs {
         [] => Ok((Items::new(site.alloc), variables)),
@@ -53,7 +54,7 @@ fn next_branch(
     variables: Variables,
     b: &Branch,
 ) -> Result<(Items<TypedBranch>, Variables), Rejected>
-    ensures { Judges (spec.next_branch site.entry.imports.now site.entry.scope.now site.entry.levels (spec.statements_at site.entry.imports.now site.entry.scope.now site.entry.levels) (before, variables) b.now) result }
+    ensures { Judges (on spec.next_branch site.entry (on spec.statements_at site.entry) (before, variables) b.now) result }
 {
     let mut before = before;
     let condition = b.guard.get();
@@ -75,7 +76,7 @@ fn more_branches(
     variables: Variables,
     others: &[Branch],
 ) -> Result<(Items<TypedBranch>, Variables), Rejected>
-    ensures { Judges (through (spec.next_branch site.entry.imports.now site.entry.scope.now site.entry.levels (spec.statements_at site.entry.imports.now site.entry.scope.now site.entry.levels)) (first, variables) others.now) result }
+    ensures { Judges (through (on spec.next_branch site.entry (on spec.statements_at site.entry)) (first, variables) others.now) result }
 {
     let mut done = first;
     let mut so_far = variables;
@@ -95,7 +96,7 @@ fn branches(
     first: &Branch,
     others: &[Branch],
 ) -> Result<(Items<TypedBranch>, Variables), Rejected>
-    ensures { Judges (spec.branches site.entry.imports.now site.entry.scope.now site.entry.levels (spec.statements_at site.entry.imports.now site.entry.scope.now site.entry.levels) variables first.now others.now) result }
+    ensures { Judges (on spec.branches site.entry (on spec.statements_at site.entry) variables first.now others.now) result }
 {
     let none = Items::new(site.alloc);
     let (done, variables) = next_branch(site, none, variables, first)?;
@@ -111,7 +112,7 @@ fn if_statement(
     others: &[Branch],
     rest: &[Statement],
 ) -> Result<(TypedStatement, Variables), Rejected>
-    ensures { Judges (spec.if_rule site.entry.imports.now site.entry.scope.now site.entry.levels (spec.statements_at site.entry.imports.now site.entry.scope.now site.entry.levels) variables first.now others.now rest.now) result }
+    ensures { Judges (on spec.if_rule site.entry (on spec.statements_at site.entry) variables first.now others.now rest.now) result }
 {
     let span = first.guard.get().first_token();
     let (done, variables) = branches(site, variables, first, others)?;
@@ -127,7 +128,7 @@ fn while_statement(
     first: &Branch,
     others: &[Branch],
 ) -> Result<(TypedStatement, Variables), Rejected>
-    ensures { Judges (spec.while_rule site.entry.imports.now site.entry.scope.now site.entry.levels (spec.statements_at site.entry.imports.now site.entry.scope.now site.entry.levels) variables first.now others.now) result }
+    ensures { Judges (on spec.while_rule site.entry (on spec.statements_at site.entry) variables first.now others.now) result }
 {
     let (done, variables) = branches(site, variables, first, others)?;
     Ok((TypedStatement::While(done), variables))
@@ -144,7 +145,7 @@ fn arm_of(
     body: &[Statement],
     span: Span,
 ) -> Result<Arms, Rejected>
-    ensures { Judges (spec.arm_of site.entry.imports.now site.entry.scope.now site.entry.levels (spec.statements_at site.entry.imports.now site.entry.scope.now site.entry.levels) labelling arms variables body.now) result }
+    ensures { Judges (on spec.arm_of site.entry (on spec.statements_at site.entry) labelling arms variables body.now) result }
 {
     let (all, labels) = labelling;
     let mut arms = arms;
@@ -164,7 +165,7 @@ fn case_of(
     body: &[Statement],
     span: Span,
 ) -> Result<Arms, Rejected>
-    ensures { Judges (spec.case_of site.entry.imports.now site.entry.scope.now site.entry.levels (spec.statements_at site.entry.imports.now site.entry.scope.now site.entry.levels) character before list.now body.now) result }
+    ensures { Judges (on spec.case_of site.entry (on spec.statements_at site.entry) character before list.now body.now) result }
 {
     match list {
         [] => Ok(before),
@@ -185,7 +186,7 @@ fn next_case(
     x: &Case,
     span: Span,
 ) -> Result<Arms, Rejected>
-    ensures { Judges (spec.next_case site.entry.imports.now site.entry.scope.now site.entry.levels (spec.statements_at site.entry.imports.now site.entry.scope.now site.entry.levels) character before x.now) result }
+    ensures { Judges (on spec.next_case site.entry (on spec.statements_at site.entry) character before x.now) result }
 {
     case_of(
         site,
@@ -205,7 +206,7 @@ fn all_cases(
     cases: &[Case],
     span: Span,
 ) -> Result<Arms, Rejected>
-    ensures { Judges (through (spec.next_case site.entry.imports.now site.entry.scope.now site.entry.levels (spec.statements_at site.entry.imports.now site.entry.scope.now site.entry.levels) character) ([], [], variables) cases.now) result }
+    ensures { Judges (through (on spec.next_case site.entry (on spec.statements_at site.entry) character) ([], [], variables) cases.now) result }
 {
     let mut so_far = (Labels::new(site.alloc), Items::new(site.alloc), variables);
     for x in cases {
@@ -225,7 +226,7 @@ fn arms_of(
     variables: Variables,
     cases: &[Case],
 ) -> Result<(TypedStatement, Variables), Rejected>
-    ensures { Judges (spec.arms_of site.entry.imports.now site.entry.scope.now site.entry.levels (spec.statements_at site.entry.imports.now site.entry.scope.now site.entry.levels) span.line (basic, value, variables) cases.now) result }
+    ensures { Judges (on spec.arms_of site.entry (on spec.statements_at site.entry) span.line (basic, value, variables) cases.now) result }
 {
     match is_character(basic) {
         Some(character) => {
@@ -248,7 +249,7 @@ fn case_statement(
     e: &Expr,
     cases: &[Case],
 ) -> Result<(TypedStatement, Variables), Rejected>
-    ensures { Judges (spec.case_rule site.entry.imports.now site.entry.scope.now site.entry.levels (spec.statements_at site.entry.imports.now site.entry.scope.now site.entry.levels) variables span.line e.now cases.now) result }
+    ensures { Judges (on spec.case_rule site.entry (on spec.statements_at site.entry) variables span.line e.now cases.now) result }
 {
     let (basic, value, variables) = basic_value(site, variables, e)?;
     arms_of(site, span, basic, value, variables, cases)
@@ -262,7 +263,7 @@ fn repeat_statement(
     body: &[Statement],
     e: &Expr,
 ) -> Result<(TypedStatement, Variables), Rejected>
-    ensures { Judges (spec.repeat_rule site.entry.imports.now site.entry.scope.now site.entry.levels (spec.statements_at site.entry.imports.now site.entry.scope.now site.entry.levels) variables body.now e.now) result }
+    ensures { Judges (on spec.repeat_rule site.entry (on spec.statements_at site.entry) variables body.now e.now) result }
 {
     let (body, variables) = statements(site, variables, body, e.first_token())?;
     let (condition, variables) = guard(site, variables, e)?;
@@ -290,7 +291,7 @@ fn for_statement(
     h: &ForHead,
     body: &[Statement],
 ) -> Result<(TypedStatement, Variables), Rejected>
-    ensures { Judges (spec.for_rule site.entry.imports.now site.entry.scope.now site.entry.levels (spec.statements_at site.entry.imports.now site.entry.scope.now site.entry.levels) variables h.now body.now) result }
+    ensures { Judges (on spec.for_rule site.entry (on spec.statements_at site.entry) variables h.now body.now) result }
 {
     let (head, variables) = for_head(site, variables, h)?;
     match statements(site, variables, body, h.variable.span) {
@@ -310,7 +311,7 @@ fn statement(
     variables: Variables,
     x: &Statement,
 ) -> Result<(Option<TypedStatement>, Variables), Rejected>
-    ensures { Judges (spec.statement_of site.entry.imports.now site.entry.scope.now site.entry.levels (spec.statements_at site.entry.imports.now site.entry.scope.now site.entry.levels) variables x.now) result }
+    ensures { Judges (on spec.statement_of site.entry (on spec.statements_at site.entry) variables x.now) result }
 {
     match x {
         Statement::Empty => Ok((None, variables)),
@@ -360,7 +361,7 @@ fn next_statement(
     variables: Variables,
     x: &Statement,
 ) -> Result<(Items<TypedStatement>, Variables), Rejected>
-    ensures { Judges (spec.next_statement site.entry.imports.now site.entry.scope.now site.entry.levels (spec.statements_at site.entry.imports.now site.entry.scope.now site.entry.levels) (before, variables) x.now) result }
+    ensures { Judges (on spec.next_statement site.entry (on spec.statements_at site.entry) (before, variables) x.now) result }
 {
     let mut all = before;
     let (one, variables) = statement(site, variables, x)?;
@@ -379,7 +380,7 @@ fn sequence(
     variables: Variables,
     xs: &[Statement],
 ) -> Result<(Items<TypedStatement>, Variables), Rejected>
-    ensures { Judges (through (spec.next_statement site.entry.imports.now site.entry.scope.now site.entry.levels (spec.statements_at site.entry.imports.now site.entry.scope.now site.entry.levels)) ([], variables) xs.now) result }
+    ensures { Judges (through (on spec.next_statement site.entry (on spec.statements_at site.entry)) ([], variables) xs.now) result }
 {
     let mut done = Items::new(site.alloc);
     let mut so_far = variables;
@@ -400,7 +401,7 @@ pub fn statements(
     xs: &[Statement],
     span: Span,
 ) -> Result<(Items<TypedStatement>, Variables), Rejected>
-    ensures { Judges (spec.statements_at site.entry.imports.now site.entry.scope.now site.entry.levels variables xs.now) result }
+    ensures { Judges (on spec.statements_at site.entry variables xs.now) result }
 {
     let inside = open(site.levels, span)?;
     sequence(

@@ -1,4 +1,8 @@
 //! The code of expressions, of places and of what is passed.
+//!
+//! `&` and OR each have a function of their own beside their definition: one skips where a side is FALSE and the other where it
+//! is TRUE, and what stands at the end is not the same. Operands are numbered from the operands and names that stand below them,
+//! so each function takes both numbers.
 
 ghost use Rattle.std.specs.Prelude.{◌≡◌, ◌+◌, ◌≤◌, [], ◌∷◌, ◌++◌, vec_len, IfOk, OnOk};
 ghost use Rattle.ob_mean.specs.WellFormed.{object_of};
