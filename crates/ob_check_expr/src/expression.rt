@@ -10,7 +10,7 @@ ghost use Rattle.ob_check_scope.specs.Sites.{on};
 ghost use Rattle.ob_mean.specs.declared.expression.Designator.TheVariants as designator;
 ghost use Rattle.ob_tree.specs.declared.tree.Expr.{out-Expr};
 ghost use Rattle.ob_check_const.specs.NamedTypes.{written};
-ghost use Rattle.ob_check_operand.specs.Judging.{result_map};
+ghost use Rattle.ob_check_operand.specs.Mapped.{result_map};
 ghost use Rattle.ob_check_operand.specs.Named.{meant, callable};
 ghost use Rattle.ob_check_operand.specs.Selecting as selecting;
 ghost use Rattle.ob_check_expr.specs.Alone.{lone};
@@ -470,7 +470,7 @@ fn call(
         Called::Procedure(signature, callee) => {
             function_call(site, variables, signature, callee, span, actuals)
         }
-        Called::Function(function) => { predeclared_call(site, variables, function, span, actuals) }
+        Called::Function(function) => predeclared_call(site, variables, function, span, actuals),
         Called::Proper(_) | Called::Input(_) | Called::Output(_) => {
             Err(Rejected::Rule(broken(RuleCode::Parameters, span)))
         }

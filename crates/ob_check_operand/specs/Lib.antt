@@ -1,4 +1,4 @@
-pub mod Judging
+pub mod Mapped
 pub mod Operands
 pub mod Joining
 pub mod Relations

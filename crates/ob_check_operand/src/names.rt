@@ -5,7 +5,7 @@
 
 ghost use Rattle.std.specs.Prelude.{◌≡◌, option_copied};
 ghost use Rattle.ob_check_scope.specs.Rule.{Judges, Breaks};
-ghost use Rattle.ob_check_operand.specs.Judging.{result_map};
+ghost use Rattle.ob_check_operand.specs.Mapped.{result_map};
 ghost use Rattle.ob_check_operand.specs.Named.{meant, writable, callable};
 ghost use Rattle.ob_check_operand.specs.Names as spec;
 

@@ -6,7 +6,7 @@ ghost use Rattle.ob_check_scope.specs.Rule.{Judges, there};
 ghost use Rattle.ob_types.specs.declared.structure.ObType.{out-ObType};
 ghost use Rattle.ob_types.specs.Types.{chain};
 ghost use Rattle.ob_check_const.specs.NamedTypes.{written};
-ghost use Rattle.ob_check_operand.specs.Judging.{result_map};
+ghost use Rattle.ob_check_operand.specs.Mapped.{result_map};
 ghost use Rattle.ob_check_operand.specs.Selecting as spec;
 
 use crate::operand::Operand;

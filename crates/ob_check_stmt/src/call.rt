@@ -98,8 +98,8 @@ fn call_of(
         ),
         Called::Function(_) => Err(Rejected::Rule(broken(RuleCode::Parameters, span))),
         Called::Proper(procedure) => predeclared_call(site, procedure, variables, actuals, span),
-        Called::Input(name) => { in_call(site, name, variables, actuals, span) }
-        Called::Output(name) => { out_call(site, name, variables, actuals, span) }
+        Called::Input(name) => in_call(site, name, variables, actuals, span),
+        Called::Output(name) => out_call(site, name, variables, actuals, span),
     }
 }
 

@@ -241,10 +241,10 @@ pub fn in_call(
 {
     match name {
         InputName::Open => without_actuals(Action::Input(InputCall::Open), variables, actuals),
-        InputName::Char => { read_call(site, Reader::Char, variables, actuals, span) }
-        InputName::Int => { read_call(site, Reader::Int, variables, actuals, span) }
-        InputName::String => { read_call(site, Reader::String, variables, actuals, span) }
-        InputName::Name => { read_call(site, Reader::Name, variables, actuals, span) }
+        InputName::Char => read_call(site, Reader::Char, variables, actuals, span),
+        InputName::Int => read_call(site, Reader::Int, variables, actuals, span),
+        InputName::String => read_call(site, Reader::String, variables, actuals, span),
+        InputName::Name => read_call(site, Reader::Name, variables, actuals, span),
         InputName::Done => Err(Rejected::Rule(broken(RuleCode::Types, span))),
         InputName::Unknown => Err(Rejected::Rule(broken(RuleCode::NotExported, span))),
     }
@@ -455,6 +455,6 @@ pub fn predeclared_call(
     match procedure {
         ProperProcedure::Inc => adjusted(site, Adjustment::Increase, variables, actuals, span),
         ProperProcedure::Dec => adjusted(site, Adjustment::Decrease, variables, actuals, span),
-        ProperProcedure::Assert => { asserted(site, variables, actuals, span) }
+        ProperProcedure::Assert => asserted(site, variables, actuals, span),
     }
 }

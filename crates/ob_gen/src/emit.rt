@@ -74,7 +74,7 @@ pub fn emit_expr<'a>(
             emit_expr(alloc, code, known, operands, names, first.get())?;
             emit_operations(alloc, code, known, operands, names, others.as_slice())
         }
-        TypedExpr::Every(all) => { emit_every(alloc, code, known, operands, names, all.as_slice()) }
+        TypedExpr::Every(all) => emit_every(alloc, code, known, operands, names, all.as_slice()),
         TypedExpr::Either(all) => {
             emit_either(alloc, code, known, operands, names, all.as_slice())
         }

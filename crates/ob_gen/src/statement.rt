@@ -57,7 +57,7 @@ fn emit_statement<'a>(
             emit_expr(alloc, code, known, 0, 0, e)?;
             emit_arms(alloc, code, known, *line, arms.as_slice())
         }
-        TypedStatement::While(branches) => { emit_loop(alloc, code, known, branches.as_slice()) }
+        TypedStatement::While(branches) => emit_loop(alloc, code, known, branches.as_slice()),
         TypedStatement::Repeat(body, until) => {
             emit_repeat(alloc, code, known, body.as_slice(), until)
         }

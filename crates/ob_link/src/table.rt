@@ -92,6 +92,7 @@ impl Table {
     fn module_at(&self, number: usize) -> Option<&SessionModule>
         ensures { option_copied result ≡ slice_get self.now number }
     {
+        // By cases, as `option_copied` is.
         match self.modules.get(number) {
             Some(found) => Some(found),
             None => None,

@@ -67,7 +67,7 @@ pub fn variable_path(
 {
     match variable {
         Variable::OfModule(x) => path_of(alloc, at.home, x),
-        Variable::OfImport(import, x) => { path_of(alloc, import_of(program, at.home, import), x) }
+        Variable::OfImport(import, x) => path_of(alloc, import_of(program, at.home, import), x),
         Variable::OfProcedure(x) => path_of(alloc, at.frame, x),
         Variable::ByParameter(x) => named_by(alloc, store, at.frame, x),
     }

@@ -73,7 +73,7 @@ pub(crate) fn either(first: Kind, second: Kind) -> Kind
         (_, Kind::Absent) => first,
         (Kind::UpTo(most), Kind::UpTo(k)) => Kind::UpTo(larger(most, k)),
         (Kind::Inside(name, size, most), Kind::Inside(other, cells, k))
-            if name == other && size == cells => { Kind::Inside(name, size, larger(most, k)) }
+            if name == other && size == cells => Kind::Inside(name, size, larger(most, k)),
         (Kind::Guarded(name, cells, most), Kind::Guarded(other, more, k)) if name == other => {
             Kind::Guarded(name, smaller(cells, more), larger(most, k))
         }
