@@ -40,6 +40,32 @@ fn a_put_is_the_recorders(rt: HostRuntime) -> Result<(), Fail> {
     Ok(())
 }
 
+/// Where one of the looks before it fails, the recorder has nothing of the put, and no save is due.
+#[test]
+fn a_put_whose_look_fails(rt: HostRuntime) -> Result<(), Fail> {
+    let alloc = rt.alloc();
+    for fault in 1..3 {
+        let mut server = start(alloc)?;
+        let _ = asked(&rt, alloc, &mut server, SESSION)?;
+        server.shelf.fail_at(fault);
+        let refused = asked(&rt, alloc, &mut server, PUT)?;
+        assert_eq!(rt; refused.as_str(), "500 Internal Server Error\n", "{fault}");
+        let kept = server
+            .manager
+            .tables
+            .recordings
+            .first()
+            .ok_or("a recorder")?;
+        assert_eq!(rt;
+            kept.recorder.notebook().cells.as_slice().len(),
+            0,
+            "{fault}"
+        );
+        assert_eq!(rt; kept.due, false, "{fault}");
+    }
+    Ok(())
+}
+
 const PUT_OF_ANOTHER_DATE: &str =
     r#"PUT /api/contents/n.ipynb {"type":"notebook","last_modified":"2001-09-08T01:46:40.123456Z","content":{"cells":[],"metadata":{},"nbformat":4,"nbformat_minor":5}}"#;
 

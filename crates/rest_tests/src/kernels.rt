@@ -17,6 +17,8 @@ the page
 the page
 > GET //
 404 Not Found
+> GET http://127.0.0.1/api
+404 Not Found
 > GET /favicon.ico
 404 Not Found
 > GET /%61pi
