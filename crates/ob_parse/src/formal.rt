@@ -1,4 +1,7 @@
 //! Formal parameters.
+//!
+//! The sections have a loop like that over the fields of a record; the head of structure.rt says why the two stand beside each
+//! other.
 
 ghost use Rattle.std.specs.Prelude.{◌≡◌, ◌≤◌, ◌<◌, length, IfOk, OnSome};
 ghost use Rattle.ob_scan.specs.declared.token.Symbol.TheVariants as s;

@@ -1,4 +1,8 @@
 //! Types, by recursive descent.
+//!
+//! The fields of a record have a loop of their own, beside that over the sections of formal parameters. Types and fields stand in
+//! one circle of calls, where what is repeated can't be handed to a common loop: the proof that the circle ends follows calls by
+//! name alone.
 
 ghost use Rattle.std.specs.Prelude.{◌≡◌, ◌≤◌, ◌<◌, length, IfOk, OnSome};
 ghost use Rattle.ob_scan.specs.declared.token.Symbol.TheVariants as s;

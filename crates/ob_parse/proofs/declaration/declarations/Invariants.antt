@@ -1,14 +1,13 @@
 use Rattle.std.proofs.Common.{◌≤◌, length}
-use Rattle.ob_parse.specs.DeclarationReading as spec
 use Rattle.ob_parse_expression.specs.Reading.{if_ident}
 use Rattle.ob_parse_expression.proofs.Loop.{Looped}
-use Rattle.ob_parse.proofs.declaration.type_declarations.Given as goal
+use Rattle.ob_parse.proofs.declaration.declarations.Given as goal
 
 abbrev pub invariant-loop-items : goal.invariant-loop-items
-invariant-loop-items l = record {
-  read : Looped (if_ident (spec.type_declaration l.levels)) l.items l.parser.rest.now l.initial.items l.initial.parser.rest.now;
+invariant-loop-items g l = record {
+  read : Looped (if_ident (g.D.Declaration.reader l.levels)) l.items l.parser.rest.now l.initial.items l.initial.parser.rest.now;
   shorter : length l.parser.rest.now ≤ length l.initial.parser.rest.now;
 }
 
 abbrev pub decreases-loop-items : goal.decreases-loop-items
-decreases-loop-items l = length l.parser.rest.now
+decreases-loop-items g l = length l.parser.rest.now
