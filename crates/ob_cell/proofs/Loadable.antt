@@ -37,6 +37,7 @@ use Rattle.ob_check_laws.specs.Fitting.{procedure_heading, procedure_headings, h
 use Rattle.ob_check_laws.specs.Solid.{EachSolid}
 use Rattle.ob_check_laws.proofs.Modules.{each_tree_agrees}
 use Rattle.ob_check_laws.proofs.Rules.{joined_thrice}
+use Rattle.ob_check_laws.proofs.Suiting.{some_same, nothing}
 use Rattle.ob_gen.specs.TypesAgree.{TypesAgree}
 use Rattle.ob_session.specs.Session.{Import, Module, name_of, find_module, place_of}
 use Rattle.ob_session.specs.Links.{Reached, First, Behind, Through}
@@ -52,7 +53,7 @@ use Rattle.ob_load.specs.Words.{InterfaceWords, AllWords}
 use Rattle.ob_cell.specs.Texts as meaning
 use Rattle.ob_cell.proofs.Keys.{key_says, names_say}
 use Rattle.ob_cell.proofs.Spelled.{text_words}
-use Rattle.ob_cell.proofs.WordTypes.{LoadedWords, some_same, nothing}
+use Rattle.ob_cell.proofs.WordTypes.{LoadedWords}
 use Rattle.ob_cell.proofs.WordModules.{checked_block, checked_words}
 use Rattle.ob_cell.proofs.WordScopes.{ImportRight, EntryRight, DeclaredRight}
 

@@ -34,9 +34,10 @@ use Rattle.ob_check_decl.specs.Interfaces.{object_of, exported_of, exports_of, i
 use Rattle.ob_check_scope.specs.Rule.{gives, through}
 use Rattle.ob_check_scope.specs.Scope.{seen, nearer, seen_inside, nearest, is_seen_inside, in_heading, opening, naming}
 use Rattle.ob_check_scope.specs.Stack.{is_empty}
+use Rattle.ob_check_laws.proofs.Suiting.{some_same, nothing}
 use Rattle.ob_load.specs.Words.{IsWord, AreWords, RecordWords, TypeWords, FormalWords, ExportWords, InterfaceWords}
 use Rattle.ob_cell.proofs.Spelled.{NameIn, TypedIn, TypeIn, ConstantIn, DeclaredTypeIn, DeclarationsIn, ModuleIn}
-use Rattle.ob_cell.proofs.WordTypes.{LoadedWords, TypesOf, SeenWords, through_keeps, always, some_same, nothing, type_words, formal_words}
+use Rattle.ob_cell.proofs.WordTypes.{LoadedWords, TypesOf, SeenWords, through_keeps, always, type_words, formal_words}
 
 -- ---- entries and blocks
 

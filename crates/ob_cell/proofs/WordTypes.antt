@@ -1,15 +1,9 @@
 -- Types as they are written have names that are words, where those that they name have.
-use Rattle.std.proofs.Common.{◌≡◌, ◌<◌, ◌^◌, ℕ, zero, suc, ◌+◌, pos, negsuc, nat_le, ◌&&◌, ◌++◌, map, reverse, Bool, true, false, cond, List, [], ◌∷◌, Option, Some, None, slice_get, refl, sym, ap, ◌∙◌, subst, arith}
+use Rattle.std.proofs.Common.{◌≡◌, ◌<◌, ◌^◌, ℕ, zero, suc, ◌+◌, pos, negsuc, nat_le, ◌&&◌, ◌++◌, map, Bool, true, false, List, [], ◌∷◌, Option, Some, None, slice_get, refl, sym, ap, ◌∙◌, subst, arith}
 use Rattle.std.specs.List.{AllByRecursion}
 use Rattle.std.proofs.lemmas.Bool.Decides.{nat_tests}
-use Rattle.std.proofs.lemmas.List.{reverse-append}
-use Rattle.std.specs.Str.{bytes_eq}
-use Rattle.ob_check_scope.specs.declared.rule.RuleCode.{RuleCode}
-use Rattle.ob_check_scope.specs.declared.rule.RuleCode.TheVariants as code
 use Rattle.ob_tree.specs.declared.tree.Expr.{Expr}
-use Rattle.ob_tree.specs.declared.tree.FormalType.{FormalType, out-FormalType}
-use Rattle.ob_tree.specs.declared.tree.FormalType.TheOpen.{FormalType-F}
-use Rattle.ob_tree.specs.declared.tree.Ident.{Ident}
+use Rattle.ob_tree.specs.declared.tree.FormalType.{FormalType}
 use Rattle.ob_tree.specs.declared.tree.IdentDef.{IdentDef}
 use Rattle.ob_tree.specs.declared.tree.Qualident.{Qualident}
 use Rattle.ob_tree.specs.declared.tree.TypeExpr.{TypeExpr, out-TypeExpr}
@@ -17,8 +11,6 @@ use Rattle.ob_tree.specs.declared.tree.TypedNames.{TypedNames, out-TypedNames}
 use Rattle.ob_tree.specs.declared.tree.TypeExpr.TheOpen.{TypeExpr-F}
 use Rattle.ob_types.specs.declared.exports.Constant.{Constant}
 use Rattle.ob_types.specs.declared.exports.Constant.TheVariants as constant
-use Rattle.ob_types.specs.declared.exports.Exported.{Exported}
-use Rattle.ob_types.specs.declared.exports.Object.{Object}
 use Rattle.ob_types.specs.declared.exports.Object.TheVariants as object
 use Rattle.ob_types.specs.declared.structure.Field.{Field}
 use Rattle.ob_types.specs.declared.structure.ObType.{ObType}
@@ -29,19 +21,18 @@ use Rattle.ob_types.specs.declared.structure.RecordName.{RecordName}
 use Rattle.ob_types.specs.declared.structure.RecordType.{RecordType, RecordType', out-RecordType, roll-RecordType, out-roll-RecordType}
 use Rattle.ob_check_scope.specs.declared.block.Entry.{Entry}
 use Rattle.ob_check_scope.specs.declared.block.Entry.TheVariants as entry
-use Rattle.ob_check_scope.specs.declared.predeclared.Predeclared.{Predeclared}
-use Rattle.ob_check_scope.specs.declared.predeclared.Predeclared.TheVariants as predeclared
 use Rattle.ob_check_scope.specs.declared.scope.Scope.{Scope}
 use Rattle.ob_check_decl.specs.declared.written_type.Written.{Written}
 use Rattle.ob_check_decl.specs.declared.written_type.Fields.{Fields}
-use Rattle.ob_check_scope.specs.Exports.{Modules, exported_in}
-use Rattle.ob_check_decl.specs.Headings.{open_of, formal_layer, formal_rule, inner_formal, formal_at}
-use Rattle.ob_check_scope.specs.Imports.{exported_at, exported_by}
+use Rattle.ob_check_scope.specs.Exports.{Modules}
+use Rattle.ob_check_decl.specs.Headings.{formal_at}
+use Rattle.ob_check_scope.specs.Imports.{exported_at}
 use Rattle.ob_check_scope.specs.LoadedTree.{LoadedTree}
-use Rattle.ob_check_scope.specs.Rule.{Rule, gives, there, through}
-use Rattle.ob_check_scope.specs.Scope.{seen, outer}
-use Rattle.ob_check_const.specs.NamedTypes.{predeclared_type, own_type, object_type, other_type, qualified, type_named}
-use Rattle.ob_check_decl.specs.WrittenTypes.{length_of, next_length, array_of, field_of, next_fields, extended, begun, record_rule, type_layer, type_rule, inner_constant, inner_type, type_at, numbered}
+use Rattle.ob_check_scope.specs.Rule.{Rule, gives, through}
+use Rattle.ob_check_scope.specs.Scope.{seen}
+use Rattle.ob_check_const.specs.NamedTypes.{type_named}
+use Rattle.ob_check_decl.specs.WrittenTypes.{length_of, field_of, next_fields, extended, begun, record_rule, type_layer, type_rule, inner_constant, inner_type, type_at, numbered}
+use Rattle.ob_check_laws.proofs.NamedTypes.{object_keeps, named_keeps, formal_keeps, arrays_keep}
 use Rattle.ob_load.specs.Words.{IsWord, RecordWords, TypeWords, RowWords, FieldWords, ObjectWords, ExportWords, InterfaceWords}
 use Rattle.ob_cell.proofs.Spelled.{NameIn, TypedIn, LayerIn, InnerIn, TypeIn}
 
@@ -54,16 +45,6 @@ through_keeps P Q r step s (x ∷ xs) t q h p = through_keeps P Q r step h.0 xs 
 pub always : {A : Type 0} (xs : List A) → AllByRecursion (λ x. Unit {0}) xs
 always [] = tt
 always (x ∷ xs) = (tt, always xs)
-
-pub there_is : {A : Type 0} (o : Option A) (c : RuleCode) (a : A) → gives (there o c) a → o ≡ Some a
-there_is None c a h = absurd h
-there_is (Some x) c a h = ap Some h
-
-pub some_same : {A : Type 0} (x y : A) → Some x ≡ Some y → x ≡ y
-some_same x y e = cc
-
-pub nothing : {A : Type 0} {B : Type 0} (x : A) → None ≡ Some x → B
-nothing x e = absurd (let f : None ≡ Some x = e in cc)
 
 -- ---- parts of types
 
@@ -89,25 +70,9 @@ abbrev pub LoadedWords : Modules → Type 0
 LoadedWords [] = Unit {0}
 LoadedWords (m ∷ ms) = InterfaceWords m.interface × LoadedWords ms
 
-exported_by_name : (e : Exported) (es : List Exported) (name : List ℕ) (o : Object) (b : Bool) → ObjectWords e.object → (exported_in es name ≡ Some o → ObjectWords o) → cond b (Some e.object) (exported_in es name) ≡ Some o → ObjectWords o
-exported_by_name e es name o true h g k = subst ObjectWords (some_same e.object o k) h
-exported_by_name e es name o false h g k = g k
-
-exported_words : (es : List Exported) (name : List ℕ) (o : Object) → ExportWords es → exported_in es name ≡ Some o → ObjectWords o
-exported_words [] name o h k = nothing o k
-exported_words (e ∷ es) name o h k = exported_by_name e es name o (bytes_eq e.name name) h.1 (exported_words es name o h.2) k
-
 abbrev OptionWords : Option LoadedTree → Type 0
 OptionWords None = Unit {0}
 OptionWords (Some m) = InterfaceWords m.interface
-
-object_words : (ms : Modules) (place : ℕ) (name : List ℕ) (o : Object) → OptionWords (slice_get ms place) → exported_at ms place name ≡ Some o → ObjectWords o
-unfolding exported_at
-object_words ms place name o h k = by (slice_get ms place) h k
-  where
-    by : (m : Option LoadedTree) → OptionWords m → exported_by m name ≡ Some o → ObjectWords o
-    by None w e = nothing o e
-    by (Some m) w e = exported_words m.interface.exports name o w.exports e
 
 loaded_words : (ms : Modules) (place : ℕ) → LoadedWords ms → OptionWords (slice_get ms place)
 loaded_words [] place h = tt
@@ -129,18 +94,6 @@ TypesOf (entry.Module i place) = Unit {0}
 abbrev pub SeenWords : Scope → Type 0
 SeenWords s = (name : List ℕ) (e : Entry) → seen s name ≡ Some e → TypesOf e
 
-abbrev AllSmall : List ℕ → Type 0
-AllSmall [] = Unit {0}
-AllSmall (n ∷ ns) = (n < 2 ^ 64) × AllSmall ns
-
-small_more : (ns : List ℕ) (n : ℕ) → AllSmall ns → n < 2 ^ 64 → AllSmall (ns ++ n ∷ [])
-small_more [] n h g = (g, tt)
-small_more (m ∷ ns) n h g = (h.0, small_more ns n h.1 g)
-
-small_reversed : (ns : List ℕ) → AllSmall ns → AllSmall (reverse ns)
-small_reversed [] h = tt
-small_reversed (n ∷ ns) h = subst AllSmall (sym (reverse-append (n ∷ []) ns)) (small_more (reverse ns) n (small_reversed ns h.1) h.0)
-
 second_holds : (a b : Bool) → (a && b) ≡ true → b ≡ true
 second_holds true b h = h
 second_holds false b h = absurd (let n : false ≡ true = h in cc)
@@ -156,11 +109,11 @@ length_small (constant.Boolean b) n h = absurd h
 length_small (constant.Char c) n h = absurd h
 length_small (constant.Text t) n h = absurd h
 
-arrays_words : (t : ObType) (ns : List ℕ) (u : ObType) → gives (through array_of t ns) u → TypeWords t → AllSmall ns → TypeWords u
-unfolding array_of
-arrays_words t [] u h w p = subst TypeWords h w
-arrays_words t (n ∷ ns) u h w p =
-    arrays_words h.0 ns u h.2 (subst TypeWords (h.1).1 (subst (λ x. x) (sym (array_words n t)) (p.0, w))) p.1
+array_of_words : (n : ℕ) (e : ObType) → n < 2 ^ 64 → TypeWords e → TypeWords (Array n e)
+array_of_words n e h w = subst (λ x. x) (sym (array_words n e)) (h, w)
+
+open_of_words : (e : ObType) → TypeWords e → TypeWords (Open e)
+open_of_words e w = subst (λ x. x) (sym (open_words e)) w
 
 fields_append : (fs gs : List Field) → FieldWords fs → FieldWords gs → FieldWords (fs ++ gs)
 fields_append [] gs h g = g
@@ -174,51 +127,15 @@ numbered_words : (naming : RecordName) (k : ℕ) → RecordWords naming → Reco
 numbered_words naming k h = record { home = h.home; enclosing = h.enclosing; declared = h.declared }
 
 module _ (ms : Modules) (loaded : LoadedWords ms) (s : Scope) (scope : SeenWords s) where
-  predeclared_words : (p : Predeclared) (t : ObType) → gives (predeclared_type p) t → TypeWords t
-  unfolding predeclared_type
-  predeclared_words (predeclared.Basic b) t h = subst TypeWords h tt
-  predeclared_words (predeclared.Function f) t h = absurd h
-  predeclared_words (predeclared.Procedure f) t h = absurd h
-  predeclared_words predeclared.LeftOut t h = absurd h
-  predeclared_words predeclared.Unknown t h = absurd h
+  exported_type : (place : ℕ) (name : List ℕ) (t : ObType) → exported_at ms place name ≡ Some (object.TypeName t) → TypeWords t
+  exported_type place name t e =
+      object_keeps ObjectWords ExportWords (λ x xs h. (h.1, h.2)) ms place name (object.TypeName t) (λ m is. (subst OptionWords is (loaded_words ms place loaded)).exports) e
 
-  own_type_words : (o : Option Entry) (p : Predeclared) (t : ObType) → ((e : Entry) → o ≡ Some e → TypesOf e) → gives (own_type o p) t → TypeWords t
-  unfolding own_type
-  own_type_words (Some (entry.TypeName u)) p t g h = subst TypeWords h (g (entry.TypeName u) refl)
-  own_type_words (Some (entry.Constant c)) p t g h = absurd h
-  own_type_words (Some (entry.Variable u v)) p t g h = absurd h
-  own_type_words (Some (entry.Procedure u v)) p t g h = absurd h
-  own_type_words (Some entry.In) p t g h = absurd h
-  own_type_words (Some entry.Out) p t g h = absurd h
-  own_type_words (Some (entry.Module u v)) p t g h = absurd h
-  own_type_words None p t g h = predeclared_words p t h
-
-  object_type_words : (o : Object) (t : ObType) → ObjectWords o → gives (object_type o) t → TypeWords t
-  object_type_words (object.TypeName u) t g h = subst TypeWords h g
-  object_type_words (object.Constant c) t g h = absurd h
-  object_type_words (object.Variable u) t g h = absurd h
-  object_type_words (object.Procedure u) t g h = absurd h
-
-  other_type_words : (o : Option Entry) (p : Predeclared) (name : List ℕ) (t : ObType) → gives (other_type ms o p name) t → TypeWords t
-  unfolding other_type
-  other_type_words (Some (entry.Module i place)) p name t h =
-      object_type_words h.0 t (object_words ms place name h.0 (loaded_words ms place loaded) (there_is (exported_at ms place name) code.NotExported h.0 h.1)) h.2
-  other_type_words (Some (entry.TypeName u)) p name t h = absurd h
-  other_type_words (Some (entry.Constant c)) p name t h = absurd h
-  other_type_words (Some (entry.Variable u v)) p name t h = absurd h
-  other_type_words (Some (entry.Procedure u v)) p name t h = absurd h
-  other_type_words (Some entry.In) p name t h = absurd h
-  other_type_words (Some entry.Out) p name t h = absurd h
-  other_type_words None p name t h = absurd h
-
-  qualified_words : (o : Option Entry) (p : Predeclared) (second : Option Ident) (t : ObType) → ((e : Entry) → o ≡ Some e → TypesOf e) → gives (qualified ms o p second) t → TypeWords t
-  unfolding qualified
-  qualified_words o p None t g h = own_type_words o p t g h
-  qualified_words o p (Some second) t g h = other_type_words o p second.name t h
+  seen_type : (name : List ℕ) (t : ObType) → seen s name ≡ Some (entry.TypeName t) → TypeWords t
+  seen_type name t e = scope name (entry.TypeName t) e
 
   named_words : (q : Qualident) (t : ObType) → gives (type_named ms s q) t → TypeWords t
-  unfolding type_named
-  named_words q t h = qualified_words (seen s q.first.name) (outer s q.first.name) q.second t (scope q.first.name) h
+  named_words q t h = named_keeps TypeWords (λ b. tt) ms exported_type s seen_type q t h
 
   -- ---- arrays and records
 
@@ -240,14 +157,13 @@ module _ (ms : Modules) (loaded : LoadedWords ms) (s : Scope) (scope : SeenWords
       subst (λ y. FieldWords y.fields) e.2 (refl, named_words q h.0 h.1, tt)
 
   layer_words : (In : TypeExpr → Type 0) (constants : Expr → Rule Constant) (inner : ℕ → TypeExpr → Rule Written) → Inner In inner → (naming : RecordName) → RecordWords naming → (k : ℕ) (l : TypeExpr-F TypeExpr TypedNames) (w : Written) → LayerIn In l → gives (type_layer constants inner ms s naming k l) w → TypeWords w.of
-  unfolding record_rule next_length
+  unfolding record_rule
   layer_words In constants inner inside naming named k (TypeExpr-F.Named q) w spelled h = subst (λ x. TypeWords x.of) h.2 (named_words q h.0 h.1)
   layer_words In constants inner inside naming named k (TypeExpr-F.Array span lengths element) w spelled h =
       let e = h.2 in
       let t = e.2 in
       subst (λ x. TypeWords x.of) t.2
-      (arrays_words e.0.of (reverse h.0) t.0 t.1 (inside k element e.0 spelled e.1)
-      (small_reversed h.0 (through_keeps AllSmall (λ x. Unit {0}) (next_length constants) (λ a b c u d f. subst AllSmall (d.2).2 (small_more a (d.2).0 f (length_small d.0 (d.2).0 (d.2).1))) [] lengths h.0 (always lengths) h.1 tt)))
+      (arrays_keep TypeWords (λ n. n < 2 ^ 64) array_of_words length_small constants lengths h.0 e.0.of t.0 h.1 t.1 (inside k element e.0 spelled e.1))
   layer_words In constants inner inside naming named k (TypeExpr-F.Record span base fields) w spelled h =
       let f = h.1 in
       let r = f.2 in
@@ -268,16 +184,5 @@ module _ (ms : Modules) (loaded : LoadedWords ms) (s : Scope) (scope : SeenWords
 
   -- ---- types of formal parameters
 
-  formal_layer_words : (inner : FormalType → Rule ObType) → ((f : FormalType) (t : ObType) → gives (inner f) t → TypeWords t) → (l : FormalType-F FormalType) (t : ObType) → gives (formal_layer inner ms s l) t → TypeWords t
-  unfolding open_of
-  formal_layer_words inner inside (FormalType-F.Named q) t h = named_words q t h
-  formal_layer_words inner inside (FormalType-F.Open span element) t h = subst TypeWords (h.2).1 (subst (λ x. x) (sym (open_words h.0)) (inside element h.0 h.1))
-
-  inner_formal_words : (n : ℕ) (f : FormalType) (t : ObType) → gives (inner_formal ms s n f) t → TypeWords t
-  unfolding inner_formal formal_rule
-  inner_formal_words zero f t h = absurd h
-  inner_formal_words (suc n) f t h = formal_layer_words (inner_formal ms s n) (inner_formal_words n) (out-FormalType f) t h
-
   pub formal_words : (n : ℕ) (f : FormalType) (t : ObType) → gives (formal_at ms s n f) t → TypeWords t
-  unfolding formal_at formal_rule
-  formal_words n f t h = formal_layer_words (inner_formal ms s n) (inner_formal_words n) (out-FormalType f) t h
+  formal_words n f t h = formal_keeps TypeWords (λ b. tt) ms exported_type s seen_type open_of_words n f t h

@@ -11,6 +11,7 @@ pub mod Blocks
 pub mod Locals
 pub mod Procedures
 pub mod Modules
+pub mod NamedTypes
 pub mod Solid
 pub mod Sizes
 pub mod Bases

@@ -1,13 +1,9 @@
 -- Types as they are written have cells, where those that they name do.
-use Rattle.std.proofs.Common.{◌≡◌, ◌⊎◌, inl, inr, ◌<◌, ℕ, zero, suc, ◌+◌, pos, negsuc, nat_le, ◌&&◌, ◌++◌, map, reverse, Bool, true, false, cond, List, [], ◌∷◌, Option, Some, None, slice_get, refl, sym, ap, ◌∙◌, subst, arith}
+use Rattle.std.proofs.Common.{◌≡◌, ◌⊎◌, inl, inr, ◌<◌, ℕ, zero, suc, ◌+◌, pos, negsuc, nat_le, ◌&&◌, ◌++◌, map, Bool, true, false, cond, List, [], ◌∷◌, Option, Some, None, slice_get, refl, sym, ap, ◌∙◌, subst, arith}
 use Rattle.std.proofs.lemmas.Bool.Decides.{nat_tests}
-use Rattle.std.proofs.lemmas.List.{reverse-append}
 use Rattle.std.specs.Str.{bytes_eq}
-use Rattle.ob_check_scope.specs.declared.rule.RuleCode.TheVariants as code
 use Rattle.ob_tree.specs.declared.tree.Expr.{Expr}
-use Rattle.ob_tree.specs.declared.tree.FormalType.{FormalType, out-FormalType}
-use Rattle.ob_tree.specs.declared.tree.FormalType.TheOpen.{FormalType-F}
-use Rattle.ob_tree.specs.declared.tree.Ident.{Ident}
+use Rattle.ob_tree.specs.declared.tree.FormalType.{FormalType}
 use Rattle.ob_tree.specs.declared.tree.IdentDef.{IdentDef}
 use Rattle.ob_tree.specs.declared.tree.Qualident.{Qualident}
 use Rattle.ob_tree.specs.declared.tree.TypeExpr.{TypeExpr, out-TypeExpr}
@@ -15,7 +11,6 @@ use Rattle.ob_tree.specs.declared.tree.TypedNames.{TypedNames, out-TypedNames}
 use Rattle.ob_tree.specs.declared.tree.TypeExpr.TheOpen.{TypeExpr-F}
 use Rattle.ob_types.specs.declared.exports.Constant.{Constant}
 use Rattle.ob_types.specs.declared.exports.Constant.TheVariants as constant
-use Rattle.ob_types.specs.declared.exports.Exported.{Exported}
 use Rattle.ob_types.specs.declared.exports.Object.{Object}
 use Rattle.ob_types.specs.declared.exports.Object.TheVariants as object
 use Rattle.ob_types.specs.declared.structure.Field.{Field}
@@ -31,19 +26,16 @@ use Rattle.ob_mean.proofs.Zeros.{array_zero, record_zero}
 use Rattle.ob_mean.specs.Values.{Value, size, row}
 use Rattle.ob_check_scope.specs.declared.block.Entry.{Entry}
 use Rattle.ob_check_scope.specs.declared.block.Entry.TheVariants as entry
-use Rattle.ob_check_scope.specs.declared.predeclared.Predeclared.{Predeclared}
-use Rattle.ob_check_scope.specs.declared.predeclared.Predeclared.TheVariants as predeclared
 use Rattle.ob_check_scope.specs.declared.scope.Scope.{Scope}
 use Rattle.ob_check_decl.specs.declared.written_type.Written.{Written}
 use Rattle.ob_check_decl.specs.declared.written_type.Fields.{Fields}
-use Rattle.ob_check_scope.specs.Exports.{Modules, exported_in}
-use Rattle.ob_check_decl.specs.Headings.{open_of, formal_layer, formal_rule, inner_formal, formal_at}
-use Rattle.ob_check_scope.specs.Imports.{exported_at, exported_by}
-use Rattle.ob_check_scope.specs.LoadedTree.{LoadedTree}
-use Rattle.ob_check_scope.specs.Rule.{Rule, gives, through}
-use Rattle.ob_check_scope.specs.Scope.{seen, outer}
-use Rattle.ob_check_const.specs.NamedTypes.{predeclared_type, own_type, object_type, other_type, qualified, type_named}
-use Rattle.ob_check_decl.specs.WrittenTypes.{length_of, next_length, array_of, field_of, next_fields, extended, begun, record_rule, type_layer, type_rule, inner_constant, inner_type, type_at, numbered}
+use Rattle.ob_check_scope.specs.Exports.{Modules}
+use Rattle.ob_check_decl.specs.Headings.{formal_at}
+use Rattle.ob_check_scope.specs.Imports.{exported_at}
+use Rattle.ob_check_scope.specs.Rule.{Rule, gives}
+use Rattle.ob_check_scope.specs.Scope.{seen}
+use Rattle.ob_check_const.specs.NamedTypes.{type_named}
+use Rattle.ob_check_decl.specs.WrittenTypes.{length_of, field_of, next_fields, extended, begun, record_rule, type_layer, type_rule, inner_constant, inner_type, type_at, numbered}
 use Rattle.ob_check_operand.specs.Selecting.{element_of, field_from}
 use Rattle.ob_check_kinds.specs.Shapes.{shape_of, shapes_of}
 use Rattle.ob_mean.specs.WellFormed.{Object as Object', elements_in}
@@ -51,7 +43,8 @@ use Rattle.ob_check_operand.specs.Functions.{is_array}
 use Rattle.ob_check_laws.specs.Fitting.{Suits}
 use Rattle.ob_types.specs.Solid.{IsSolid, AreSolid, FieldsSolid, ObjectSolid, ExportsSolid}
 use Rattle.ob_check_laws.specs.Solid.{LoadedSolid, EachSolid}
-use Rattle.ob_check_laws.proofs.Rules.{through_keeps, there_is}
+use Rattle.ob_check_laws.proofs.NamedTypes.{object_keeps, named_keeps, formal_keeps, arrays_keep}
+use Rattle.ob_check_laws.proofs.Rules.{through_keeps}
 use Rattle.ob_check_laws.proofs.Suiting.{never, nothing, some_same, array_forms, elements_suit}
 
 -- ---- cells
@@ -114,21 +107,8 @@ found_solid n (f ∷ fs) name q s h = found_by n f fs name q (bytes_eq f.name na
 
 -- ---- what is imported
 
-exported_by_name : (e : Exported) (es : List Exported) (name : List ℕ) (o : Object) (b : Bool) → ObjectSolid e.object → (exported_in es name ≡ Some o → ObjectSolid o) → cond b (Some e.object) (exported_in es name) ≡ Some o → ObjectSolid o
-exported_by_name e es name o true h g k = subst ObjectSolid (some_same e.object o k) h
-exported_by_name e es name o false h g k = g k
-
-exported_solid : (es : List Exported) (name : List ℕ) (o : Object) → ExportsSolid es → exported_in es name ≡ Some o → ObjectSolid o
-exported_solid [] name o h k = nothing o k
-exported_solid (e ∷ es) name o h k = exported_by_name e es name o (bytes_eq e.name name) h.0 (exported_solid es name o h.1) k
-
 pub object_solid : (ms : Modules) (place : ℕ) (name : List ℕ) (o : Object) → LoadedSolid (slice_get ms place) → exported_at ms place name ≡ Some o → ObjectSolid o
-unfolding exported_at
-object_solid ms place name o h k = by (slice_get ms place) h k
-  where
-    by : (m : Option LoadedTree) → LoadedSolid m → exported_by m name ≡ Some o → ObjectSolid o
-    by None s e = nothing o e
-    by (Some m) s e = exported_solid m.interface.exports name o s e
+object_solid ms place name o h k = object_keeps ObjectSolid ExportsSolid (λ e es g. g) ms place name o (λ m e. subst LoadedSolid e h) k
 
 pub loaded_solid : (ms : Modules) (place : ℕ) → EachSolid ms → LoadedSolid (slice_get ms place)
 loaded_solid [] place h = tt
@@ -150,18 +130,6 @@ SolidEntry (entry.Module i place) = Unit {0}
 abbrev pub SeenSolid : Scope → Type 0
 SeenSolid s = (name : List ℕ) (e : Entry) → seen s name ≡ Some e → SolidEntry e
 
-abbrev AllPositive : List ℕ → Type 0
-AllPositive [] = Unit {0}
-AllPositive (n ∷ ns) = (0 < n) × AllPositive ns
-
-positive_more : (ns : List ℕ) (n : ℕ) → AllPositive ns → 0 < n → AllPositive (ns ++ n ∷ [])
-positive_more [] n h g = (g, tt)
-positive_more (m ∷ ns) n h g = (h.0, positive_more ns n h.1 g)
-
-positive_reversed : (ns : List ℕ) → AllPositive ns → AllPositive (reverse ns)
-positive_reversed [] h = tt
-positive_reversed (n ∷ ns) h = subst AllPositive (sym (reverse-append (n ∷ []) ns)) (positive_more (reverse ns) n (positive_reversed ns h.1) h.0)
-
 first_holds : (a b : Bool) → (a && b) ≡ true → a ≡ true
 first_holds true b h = refl
 first_holds false b h = never h
@@ -177,11 +145,11 @@ length_positive (constant.Boolean b) n h = absurd h
 length_positive (constant.Char c) n h = absurd h
 length_positive (constant.Text t) n h = absurd h
 
-arrays_solid : (t : ObType) (ns : List ℕ) (u : ObType) → gives (through array_of t ns) u → IsSolid t → AllPositive ns → IsSolid u
-unfolding array_of
-arrays_solid t [] u h s p = subst IsSolid h s
-arrays_solid t (n ∷ ns) u h s p =
-    arrays_solid h.0 ns u h.2 (subst IsSolid (h.1).1 (subst (λ x. x) (sym (array_solid n t)) (p.0, s))) p.1
+array_of_solid : (n : ℕ) (e : ObType) → 0 < n → IsSolid e → IsSolid (Array n e)
+array_of_solid n e h s = subst (λ x. x) (sym (array_solid n e)) (h, s)
+
+open_of_solid : (e : ObType) → IsSolid e → IsSolid (Open e)
+open_of_solid e s = subst (λ x. x) (sym (open_solid e)) s
 
 fields_append : (fs gs : List Field) → FieldsSolid fs → FieldsSolid gs → FieldsSolid (fs ++ gs)
 fields_append [] gs h g = g
@@ -192,51 +160,14 @@ fields_of_type t [] h = tt
 fields_of_type t (n ∷ ns) h = (h, fields_of_type t ns h)
 
 module _ (ms : Modules) (loaded : EachSolid ms) (s : Scope) (scope : SeenSolid s) where
-  predeclared_solid : (p : Predeclared) (t : ObType) → gives (predeclared_type p) t → IsSolid t
-  unfolding predeclared_type
-  predeclared_solid (predeclared.Basic b) t h = subst IsSolid h tt
-  predeclared_solid (predeclared.Function f) t h = absurd h
-  predeclared_solid (predeclared.Procedure f) t h = absurd h
-  predeclared_solid predeclared.LeftOut t h = absurd h
-  predeclared_solid predeclared.Unknown t h = absurd h
+  exported_type : (place : ℕ) (name : List ℕ) (t : ObType) → exported_at ms place name ≡ Some (object.TypeName t) → IsSolid t
+  exported_type place name t e = object_solid ms place name (object.TypeName t) (loaded_solid ms place loaded) e
 
-  own_type_solid : (o : Option Entry) (p : Predeclared) (t : ObType) → ((e : Entry) → o ≡ Some e → SolidEntry e) → gives (own_type o p) t → IsSolid t
-  unfolding own_type
-  own_type_solid (Some (entry.TypeName u)) p t g h = subst IsSolid h (g (entry.TypeName u) refl)
-  own_type_solid (Some (entry.Constant c)) p t g h = absurd h
-  own_type_solid (Some (entry.Variable u v)) p t g h = absurd h
-  own_type_solid (Some (entry.Procedure u v)) p t g h = absurd h
-  own_type_solid (Some entry.In) p t g h = absurd h
-  own_type_solid (Some entry.Out) p t g h = absurd h
-  own_type_solid (Some (entry.Module u v)) p t g h = absurd h
-  own_type_solid None p t g h = predeclared_solid p t h
-
-  object_type_solid : (o : Object) (t : ObType) → ObjectSolid o → gives (object_type o) t → IsSolid t
-  object_type_solid (object.TypeName u) t g h = subst IsSolid h g
-  object_type_solid (object.Constant c) t g h = absurd h
-  object_type_solid (object.Variable u) t g h = absurd h
-  object_type_solid (object.Procedure u) t g h = absurd h
-
-  other_type_solid : (o : Option Entry) (p : Predeclared) (name : List ℕ) (t : ObType) → gives (other_type ms o p name) t → IsSolid t
-  unfolding other_type
-  other_type_solid (Some (entry.Module i place)) p name t h =
-      object_type_solid h.0 t (object_solid ms place name h.0 (loaded_solid ms place loaded) (there_is (exported_at ms place name) code.NotExported h.0 h.1)) h.2
-  other_type_solid (Some (entry.TypeName u)) p name t h = absurd h
-  other_type_solid (Some (entry.Constant c)) p name t h = absurd h
-  other_type_solid (Some (entry.Variable u v)) p name t h = absurd h
-  other_type_solid (Some (entry.Procedure u v)) p name t h = absurd h
-  other_type_solid (Some entry.In) p name t h = absurd h
-  other_type_solid (Some entry.Out) p name t h = absurd h
-  other_type_solid None p name t h = absurd h
-
-  qualified_solid : (o : Option Entry) (p : Predeclared) (second : Option Ident) (t : ObType) → ((e : Entry) → o ≡ Some e → SolidEntry e) → gives (qualified ms o p second) t → IsSolid t
-  unfolding qualified
-  qualified_solid o p None t g h = own_type_solid o p t g h
-  qualified_solid o p (Some second) t g h = other_type_solid o p second.name t h
+  seen_type : (name : List ℕ) (t : ObType) → seen s name ≡ Some (entry.TypeName t) → IsSolid t
+  seen_type name t e = scope name (entry.TypeName t) e
 
   named_solid : (q : Qualident) (t : ObType) → gives (type_named ms s q) t → IsSolid t
-  unfolding type_named
-  named_solid q t h = qualified_solid (seen s q.first.name) (outer s q.first.name) q.second t (scope q.first.name) h
+  named_solid q t h = named_keeps IsSolid (λ b. tt) ms exported_type s seen_type q t h
 
   -- ---- arrays and records
 
@@ -258,14 +189,13 @@ module _ (ms : Modules) (loaded : EachSolid ms) (s : Scope) (scope : SeenSolid s
       subst (λ y. FieldsSolid y.fields) e.2 (named_solid q h.0 h.1, tt)
 
   layer_solid : (constants : Expr → Rule Constant) (inner : ℕ → TypeExpr → Rule Written) → Inner inner → (naming : RecordName) (k : ℕ) (l : TypeExpr-F TypeExpr TypedNames) (w : Written) → gives (type_layer constants inner ms s naming k l) w → IsSolid w.of
-  unfolding record_rule next_length
+  unfolding record_rule
   layer_solid constants inner inside naming k (TypeExpr-F.Named q) w h = subst (λ x. IsSolid x.of) h.2 (named_solid q h.0 h.1)
   layer_solid constants inner inside naming k (TypeExpr-F.Array span lengths element) w h =
       let e = h.2 in
       let t = e.2 in
       subst (λ x. IsSolid x.of) t.2
-      (arrays_solid e.0.of (reverse h.0) t.0 t.1 (inside k element e.0 e.1)
-      (positive_reversed h.0 (through_keeps AllPositive (next_length constants) (λ a b c d f. subst AllPositive (d.2).2 (positive_more a (d.2).0 f (length_positive d.0 (d.2).0 (d.2).1))) [] lengths h.0 h.1 tt)))
+      (arrays_keep IsSolid (λ n. 0 < n) array_of_solid length_positive constants lengths h.0 e.0.of t.0 h.1 t.1 (inside k element e.0 e.1))
   layer_solid constants inner inside naming k (TypeExpr-F.Record span base fields) w h =
       let f = h.1 in
       let r = f.2 in
@@ -285,16 +215,5 @@ module _ (ms : Modules) (loaded : EachSolid ms) (s : Scope) (scope : SeenSolid s
 
   -- ---- types of formal parameters
 
-  formal_layer_solid : (inner : FormalType → Rule ObType) → ((f : FormalType) (t : ObType) → gives (inner f) t → IsSolid t) → (l : FormalType-F FormalType) (t : ObType) → gives (formal_layer inner ms s l) t → IsSolid t
-  unfolding open_of
-  formal_layer_solid inner inside (FormalType-F.Named q) t h = named_solid q t h
-  formal_layer_solid inner inside (FormalType-F.Open span element) t h = subst IsSolid (h.2).1 (subst (λ x. x) (sym (open_solid h.0)) (inside element h.0 h.1))
-
-  inner_formal_solid : (n : ℕ) (f : FormalType) (t : ObType) → gives (inner_formal ms s n f) t → IsSolid t
-  unfolding inner_formal formal_rule
-  inner_formal_solid zero f t h = absurd h
-  inner_formal_solid (suc n) f t h = formal_layer_solid (inner_formal ms s n) (inner_formal_solid n) (out-FormalType f) t h
-
   pub formal_solid : (n : ℕ) (f : FormalType) (t : ObType) → gives (formal_at ms s n f) t → IsSolid t
-  unfolding formal_at formal_rule
-  formal_solid n f t h = formal_layer_solid (inner_formal ms s n) (inner_formal_solid n) (out-FormalType f) t h
+  formal_solid n f t h = formal_keeps IsSolid (λ b. tt) ms exported_type s seen_type open_of_solid n f t h
