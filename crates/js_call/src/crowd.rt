@@ -68,7 +68,6 @@ pub struct Turned {
 }
 
 impl Turned {
-    /// None yet.
     pub fn new(alloc: Global) -> Turned {
         Turned {
             streams: Vec::new(alloc),
