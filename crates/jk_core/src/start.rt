@@ -69,7 +69,8 @@ fn allows_at<T: Drop>(script: &Script<T>, at: usize, request: &Arrival) -> bool
     }
 }
 
-/// What comes of the first request that waits.
+/// What comes of the first request that waits. `begin` of the language makes the machine, `open` asks it to, and `begin` here
+/// shows it.
 #[derive(Drop)]
 pub(crate) enum Opening<S, M> {
     /// Its parse found no memory.

@@ -68,6 +68,7 @@ pub struct Turned {
 }
 
 impl Turned {
+    /// No connection is kept. It allocates nothing.
     pub fn new(alloc: Global) -> Turned {
         Turned {
             streams: Vec::new(alloc),
