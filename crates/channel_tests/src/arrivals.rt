@@ -3,6 +3,8 @@
 use crate::scene::play;
 use crate::socket::{End, Socket};
 use js_ws::Protocol;
+use std::alloc::{AllocError, Global};
+use std::sync::Wait;
 use std::test::Fail;
 use test_language::TestLanguage;
 
@@ -10,9 +12,10 @@ use test_language::TestLanguage;
 pub(crate) const ASKS: &[u8] =
     b"\x81\xd77\xfa!=L\xd8IXV\x9eDO\x15\xc0Z\x1fZ\x89Fb^\x9e\x03\x07\x15\x97\x10\x1f\x1b\xd8RXD\x89HRY\xd8\x1b\x1fD\xcb\x03\x11\x15\x97RZh\x8eXMR\xd8\x1b\x1f\x5c\x9fSSR\x96~TY\x9cNbE\x9fPHR\x89U\x1fJ\xd6\x03^X\x94UXY\x8e\x03\x07L\x87\x5c";
 
-/// A frame of the same request as a binary message, made by serialize_msg_to_ws_v1 of Jupyter Server 1.23.3, masked by zeros.
+/// A frame of the same request as a binary message, made by serialize_msg_to_ws_v1 of Jupyter Server 1.23.3, masked by the same key.
+/// Its length takes two bytes more.
 const ASKS_V1: &[u8] =
-    b"\x82\xfe\x00\x82\x00\x00\x00\x00\x06\x00\x00\x00\x00\x00\x00\x008\x00\x00\x00\x00\x00\x00\x00=\x00\x00\x00\x00\x00\x00\x00|\x00\x00\x00\x00\x00\x00\x00~\x00\x00\x00\x00\x00\x00\x00\x80\x00\x00\x00\x00\x00\x00\x00\x82\x00\x00\x00\x00\x00\x00\x00shell{\"msg_id\":\"m1\",\"session\":\"s1\",\"msg_type\":\"kernel_info_request\"}{}{}{}";
+    b"\x82\xfe\x00\x827\xfa!=1\xfa!=7\xfa!=\x0f\xfa!=7\xfa!=\x0a\xfa!=7\xfa!=K\xfa!=7\xfa!=I\xfa!=7\xfa!=\xb7\xfa!=7\xfa!=\xb5\xfa!=7\xfa!=D\x92DQ[\x81\x03PD\x9d~TS\xd8\x1b\x1fZ\xcb\x03\x11\x15\x89DND\x93NS\x15\xc0\x03N\x06\xd8\x0d\x1fZ\x89FbC\x83QX\x15\xc0\x03VR\x88OX[\xa5HSQ\x95~OR\x8bTXD\x8e\x03@L\x87Z@L\x87";
 
 /// The text "Hello" of RFC 6455, section 5.7, masked; and the same bytes as a binary message, a ping and a pong.
 const NO_MESSAGES: &[u8] =
@@ -125,31 +128,31 @@ fn frames_that_come_at_once(rt: HostRuntime) -> Result<(), Fail> {
     Ok(())
 }
 
+const FRAMES: [(Protocol, &[u8]); 2] = [(Protocol::Default, ASKS), (Protocol::V1, ASKS_V1)];
+
+/// What comes of turns over a stream in that protocol.
+fn played<R: Wait>(
+    rt: &R,
+    alloc: Global,
+    protocol: Protocol,
+    socket: Socket<'_>,
+    steps: &str,
+) -> Result<String, AllocError> {
+    play::<_, _, TestLanguage>(rt, alloc, protocol, socket, false, steps)
+}
+
 /// One message is one arrival, wherever its frame is cut by the stream's time limit. A frame that the stream's end cuts is no
 /// arrival.
 #[test]
 fn a_frame_cut_at_every_byte(rt: HostRuntime) -> Result<(), Fail> {
-    for cut in 0..ASKS.len() {
-        let socket = Socket::cut(ASKS, cut);
-        let text = play::<_, _, TestLanguage>(
-            &rt,
-            rt.alloc(),
-            Protocol::Default,
-            socket,
-            false,
-            "ttt",
-        )?;
-        assert_eq!(rt; text.as_str(), "qoqJ1S2", "{cut}");
-        let socket = Socket::new(&ASKS[..cut], End::Ends);
-        let text = play::<_, _, TestLanguage>(
-            &rt,
-            rt.alloc(),
-            Protocol::Default,
-            socket,
-            false,
-            "tt",
-        )?;
-        assert_eq!(rt; text.as_str(), "ccJ1L2", "{cut}");
+    for (protocol, frame) in FRAMES {
+        for cut in 0..frame.len() {
+            let text = played(&rt, rt.alloc(), protocol, Socket::cut(frame, cut), "ttt")?;
+            assert_eq!(rt; text.as_str(), "qoqJ1S2", "{cut}");
+            let socket = Socket::new(&frame[..cut], End::Ends);
+            let text = played(&rt, rt.alloc(), protocol, socket, "tt")?;
+            assert_eq!(rt; text.as_str(), "ccJ1L2", "{cut}");
+        }
     }
     Ok(())
 }
