@@ -6,8 +6,10 @@ mod image;
 mod kept;
 mod machine;
 mod paying;
+mod places;
 mod quick;
 mod run;
+mod sites;
 
 pub use image::Image;
 pub use machine::{Machine, Room};
