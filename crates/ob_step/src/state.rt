@@ -18,19 +18,6 @@ pub struct State {
     pub input: LineBuffer,
 }
 
-/// What a call needs of the procedure that it enters: of which module it is and its number there, how many operands and names it is
-/// passed, how many cells it has, and for how many operands and names it needs room.
-#[derive(Clone, Copy, PartialEq, Eq, Debug)]
-pub struct Called {
-    pub home: usize,
-    pub number: usize,
-    pub operands: usize,
-    pub names: usize,
-    pub cells: usize,
-    pub operand_room: usize,
-    pub name_room: usize,
-}
-
 /// What one instruction led to: it moved, and perhaps to where a statement begins, or it meets what it leaves to others.
 #[derive(Clone, Copy, PartialEq, Eq, Debug)]
 pub enum Step {

@@ -1,7 +1,6 @@
 //! What stands before a turn: whether it is one.
 
-ghost use Rattle.std.specs.Prelude.{◌≡◌, ℕ, ◌+◌, ◌<◌, ◌^◌, true};
-ghost use Rattle.ob_mean.specs.declared.expression.Callee.{Callee};
+ghost use Rattle.std.specs.Prelude.{◌≡◌, ◌+◌, ◌<◌, ◌^◌, true};
 ghost use Rattle.ob_code.specs.Machine.{perform};
 ghost use Rattle.ob_code.specs.Places.{top_of, IsTextIn};
 ghost use Rattle.ob_code.specs.declared.instr.Instr.TheVariants as instr;
@@ -29,21 +28,13 @@ pub fn invoke(code: &[LinkedModule], state: &mut State, callee: Callee, line: us
     }
 }
 
-/// Whether any call is a turn: not too many are open.
-#[inline(always)]
-pub fn has_depth(code: &[LinkedModule], state: &State) -> bool
-    ensures { result ≡ true → (g : Callee) (line : ℕ) → IsCallable code.now state.now g → IsTurn (perform code.now (instr.Invoke g line) (config_of state.now)) }
-{
-    state.frames.len() < MAX_DEPTH
-}
-
-/// Whether a call is a turn.
+/// Whether a call is a turn: not too many are open.
 #[inline(always)]
 pub fn may_call(code: &[LinkedModule], state: &State, callee: Callee, line: usize) -> bool
     requires callable { IsCallable code.now state.now callee }
     ensures { result ≡ true → IsTurn (perform code.now (instr.Invoke callee line) (config_of state.now)) }
 {
-    has_depth(code, state)
+    state.frames.len() < MAX_DEPTH
 }
 
 /// Out.Char.

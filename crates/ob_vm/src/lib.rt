@@ -6,10 +6,8 @@ mod image;
 mod kept;
 mod machine;
 mod paying;
-mod places;
 mod quick;
 mod run;
-mod sites;
 
 pub use image::Image;
 pub use machine::{Machine, Room};

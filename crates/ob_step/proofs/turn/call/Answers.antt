@@ -1,37 +1,30 @@
-use Rattle.std.proofs.Common.{sym, ap, ◌∙◌}
+use Rattle.std.proofs.Common.{length, sym, ap, ◌∙◌, arith}
 use Rattle.std.specs.Prelude.{slice_get}
-use Rattle.ob_code.specs.Machine.{procedure_in}
-use Rattle.ob_step.specs.Steps.{Resolves, IsCalled}
-use Rattle.ob_step.proofs.Calls.{called_fits}
+use Rattle.std.proofs.lemmas.List.{length-reverse}
+use Rattle.ob_code.specs.Machine.{Config, procedure_in, target_of, number_of, entered}
+use Rattle.ob_step.specs.States.{config_of}
 use Rattle.ob_step.proofs.turn.call.Goals as goal
-
-pub call_by-requires-clause-found : goal.call_by-requires-clause-found
-call_by-requires-clause-found c =
-    let code = c.args.code.now in
-    let r = c.callee-home.result in
-    let n = c.called_of-numbers in
-    record {
-      f = c.procedure-procedure.result.now;
-      found = ap (λ h. procedure_in (slice_get code h) n.result.number) n.ensures.home ∙ ap (procedure_in (slice_get code r.0)) n.ensures.number ∙ c.procedure-procedure.ensures;
-      numbers = n.ensures.numbers;
-    }
-
-pub call_by-requires-clause-operands : goal.call_by-requires-clause-operands
-call_by-requires-clause-operands c =
-    let n = c.called_of-numbers in
-    (called_fits c.args.code.now c.args.state.now c.args.called n.result c.requires.callable (sym c.callee-home.ensures.home ∙ sym n.ensures.home, sym c.callee-home.ensures.number ∙ sym n.ensures.number) (call_by-requires-clause-found c)).0
-
-pub call_by-requires-clause-names : goal.call_by-requires-clause-names
-call_by-requires-clause-names c =
-    let n = c.called_of-numbers in
-    (called_fits c.args.code.now c.args.state.now c.args.called n.result c.requires.callable (sym c.callee-home.ensures.home ∙ sym n.ensures.home, sym c.callee-home.ensures.number ∙ sym n.ensures.number) (call_by-requires-clause-found c)).1
-
-pub call_by-requires-clause-passed : goal.call_by-requires-clause-passed
-call_by-requires-clause-passed c =
-    let n = c.called_of-numbers in
-    (called_fits c.args.code.now c.args.state.now c.args.called n.result c.requires.callable (sym c.callee-home.ensures.home ∙ sym n.ensures.home, sym c.callee-home.ensures.number ∙ sym n.ensures.number) (call_by-requires-clause-found c)).2
 
 pub returns-clause-ok : goal.returns-clause-ok
 returns-clause-ok c =
-    let n = c.called_of-numbers in
-    c.call_by.ensures.ok c.args.called (sym c.callee-home.ensures.home ∙ sym n.ensures.home, sym c.callee-home.ensures.number ∙ sym n.ensures.number)
+    let code = c.args.code.now in
+    let old = c.args.state.now in
+    let mid = c.make_room.new.state in
+    let r = c.callee-home.result in
+    let f = c.procedure-procedure.result.now in
+    let t = target_of code old.at.home c.args.called in
+    let n = number_of code old.at.home c.args.called in
+    let same = c.make_room.ensures.same in
+    let size = ap (λ (x : Config). length x.stack) same.config in
+    let names = ap (λ (x : Config). length x.names) same.config in
+    let one = length-reverse mid.stack.items in
+    let two = length-reverse old.stack.items in
+    record {
+      f = f;
+      found = ap (λ h. procedure_in (slice_get code h) n) (sym c.callee-home.ensures.home) ∙ ap (λ p. procedure_in (slice_get code r.0) p) (sym c.callee-home.ensures.number) ∙ c.procedure-procedure.ensures;
+      config = c.enter.ensures.config ∙ ap (entered r.0 r.1 f) same.config ∙ ap (λ h. entered h r.1 f (config_of old)) c.callee-home.ensures.home ∙ ap (λ p. entered t p f (config_of old)) c.callee-home.ensures.number;
+      operand_room = omega (arith, size, one, two, c.in_ok-make_room.ensures.operands, c.enter.ensures.operand_room);
+      name_room = omega (arith, names, c.in_ok-make_room.ensures.names, c.enter.ensures.name_room);
+      more_operands = omega (arith, same.operand_room, c.enter.ensures.operand_room);
+      more_names = omega (arith, same.name_room, c.enter.ensures.name_room);
+    }
