@@ -131,6 +131,7 @@ fn give_unread<L: Language>(
     ensures used { OnOk result ((L.state active.new.machine).turns ≡ script.now.state.ran) }
     ensures err { OnErr result (RunsBy L.spoken L.state script.now.state active.new) }
 {
+    // The clauses speak of its log.
     let _ = script;
     match &active.wants {
         Wants::Nothing | Wants::Asked => Ok(()),

@@ -27,6 +27,7 @@ fn execute_of<'a, T: Drop>(
     requires { arrival_at at script.now.state.log ≡ Some request.now }
     ensures { option_copied result ≡ execute_at at script.now.state.log }
 {
+    // The clauses say which request it is by these two.
     let _ = script;
     let _ = at;
     execute_sent(&request.what)

@@ -32,7 +32,7 @@ pub(crate) struct Ends<L: Language> {
     watch: Option<Watch<L>>,
     /// Whether the watch found something since the table of kernels was told.
     found: bool,
-    /// The follower for a recorder of the session, until there is one. It is never there beside one that reads.
+    /// The follower that a recorder of the session begins with. Once there is one, it is in `scribe`.
     recorder: Option<Follower<L>>,
     /// What is read for the recorder of the session, once there is one.
     pub(super) scribe: Option<Scribe<L>>,

@@ -160,7 +160,8 @@ where
         let _ = self.add_pulse(pause);
     }
 
-    /// Adds the job of the thread that calls for recorders.
+    /// Adds the job of the thread that calls for recorders. `None` where memory is refused: then there is no such thread, and the
+    /// next request with something to record tries again.
     fn add_pulse(&mut self, pause: u64) -> Option<()>
         ensures { self.new.clients ≡ self.old.clients }
     {
