@@ -147,6 +147,22 @@ fn emit_read<'a>(
     }
 }
 
+/// So many cells on, if they are any.
+fn put_added(
+    code: &mut Vec<Line>,
+    operands: usize,
+    names: usize,
+    cells: usize,
+) -> Result<(), AllocError>
+    ensures code { OnOk result (code.new.items ≡ code.old.items ++ spec.added_code operands names cells) }
+    ensures grows { OnOk result (vec_len code.old ≤ vec_len code.new) }
+{
+    if cells == 0 {
+        return Ok(());
+    }
+    put(code, operands, names, Instr::AddOffset(cells))
+}
+
 /// The code of a designator, which leaves the number of its first cell in the variable that it begins with.
 #[cycle(expressions)]
 pub fn emit_offset<'a>(
@@ -192,7 +208,7 @@ pub fn emit_offset<'a>(
         Designator::Field(record, number) => {
             let found = emit_offset(alloc, code, known, operands, names, record.get())?;
             let before = part_before(found.object, *number)?;
-            put(code, operands + 1, names, Instr::AddOffset(before))?;
+            put_added(code, operands + 1, names, before)?;
             Ok(Found {
                 root: found.root,
                 object: field_of(found.object, *number),

@@ -32,7 +32,7 @@ use Rattle.ob_code.specs.declared.instr.Name.{Name}
 use Rattle.ob_code.specs.declared.instr.Told.{Told}
 use Rattle.ob_code.specs.Machine.{Code, Config, Effect, Moves, Fails, cell, perform, Point, Going, Standing, object, elements, picture, within, at_cells, operated, indexed, with_names, characters_at, take_effect, Comes, untold, told_in, type_of, name_at}
 use Rattle.ob_gen.specs.TypesAgree.{Shapes, KindAgrees, ExprAgrees, ExprsAgree, OperationsAgree, PlaceAgrees, ArgumentAgrees, ArgumentsAgree}
-use Rattle.ob_gen.specs.Code.{line, root_of, root_in, name_in, base_cells, zero_in, zero_element, cells_of, element_cells, length_of, span_of, and_code, or_code, row_values, row_names, value_one, name_one, expr_code, read_code, offset_code, operations_code, every_code, either_code, argument_code, arguments_code}
+use Rattle.ob_gen.specs.Code.{line, root_of, root_in, name_in, base_cells, zero_in, zero_element, cells_of, element_cells, length_of, span_of, and_code, or_code, row_values, row_names, value_one, name_one, added_code, expr_code, read_code, offset_code, operations_code, every_code, either_code, argument_code, arguments_code}
 use Rattle.ob_code.proofs.machine.Runs.{stays, goes_on, performs}
 use Rattle.ob_gen.proofs.machine.Reaches.{HasAt, has_front, has_back, Running, conf, here, lines_in, Halts, Good, Reaches, AnyNumber, SoMany, ties, then_comes, keeps_less, moved, skips, skip_runs, one_runs, two_runs, Same}
 use Rattle.ob_gen.proofs.machine.Store.{inside-leads, count-shape, shape_at, reads, reads_part, item-row, before-row, size-row, before-within}
@@ -111,11 +111,21 @@ module _ (code : Code) (shapes : Shapes) (r : Running) (s : Value) (names : Name
       let c = conf r pc (negsuc i ∷ (at d p ∷ stack)) pending w in
       trap_stands trap.Index l c n w refl refl g.fits (performs code n c (line h k (Index (length_of names d) (element_cells names d) l)) _ has refl)
 
+  -- so many cells on
+  added_runs : (m a h k pc : ℕ) (stack : List ℤ) (pending : List Name) (n : Supply) (w : World) → a + m < cell_limit → HasAt (lines_in code r) pc (added_code h k m) → Comes code (here r pc (pos a ∷ stack) pending n w) (here r (pc + length (added_code h k m)) (pos (a + m) ∷ stack) pending n w)
+  added_runs zero a h k pc stack pending n w low has =
+      let place : pc ≡ pc + 0 = omega arith in
+      let same : a ≡ a + 0 = omega arith in
+      subst (λ x. Comes code (here r pc (pos a ∷ stack) pending n w) (here r x (pos (a + 0) ∷ stack) pending n w)) place
+      (subst (λ x. Comes code (here r pc (pos a ∷ stack) pending n w) (here r pc (pos x ∷ stack) pending n w)) same (stays code (here r pc (pos a ∷ stack) pending n w)))
+  added_runs (suc m) a h k pc stack pending n w low has =
+      performs code n (conf r pc (pos a ∷ stack) pending w) (line h k (AddOffset (suc m))) _ has.0
+      (ap (λ z. here r (pc + 1) (z ∷ stack) pending n w) (wraps_low (a + suc m) low))
+
   -- a field, at a fixed number of cells
-  field_runs : (d : Designator) (t : Shape) (o : Object) (p : Place) (i h k pc : ℕ) (stack : List ℤ) (pending : List Name) (n : Supply) (most : ℕ) (w : World) → Good most s n w → IndexesFit names d → object_of names d ≡ Some (Of t) → IsField (zero_of t) i o → Fits d (Of t) p → slice_get (lines_in code r) pc ≡ Some (line h k (AddOffset (before (zero_in (object_of names d)) i)))
-      → Reaches code most s (Fits d o) (here r pc (at d p ∷ stack) pending n w) (λ q n' w'. here r (pc + 1) (at d q ∷ stack) pending n' w') (Goes (Part p i) n w)
+  field_runs : (d : Designator) (t : Shape) (o : Object) (p : Place) (i h k pc : ℕ) (stack : List ℤ) (pending : List Name) (n : Supply) (most : ℕ) (w : World) → Good most s n w → IndexesFit names d → object_of names d ≡ Some (Of t) → IsField (zero_of t) i o → Fits d (Of t) p → HasAt (lines_in code r) pc (added_code h k (before (zero_in (object_of names d)) i))
+      → Reaches code most s (Fits d o) (here r pc (at d p ∷ stack) pending n w) (λ q n' w'. here r (pc + length (added_code h k (before (zero_in (object_of names d)) i))) (at d q ∷ stack) pending n' w') (Goes (Part p i) n w)
   field_runs d t o p i h k pc stack pending n most w g ty e field f has =
-      let c = conf r pc (at d p ∷ stack) pending w in
       let name = rooted code r (root_in names d) in
       let below : i < count (get s p) = omega (arith, field.there, ap count f.is) in
       let item_is : item (get s p) i ≡ zero_of field.kind = ap (λ v. item v i) f.is ∙ field.is in
@@ -128,8 +138,8 @@ module _ (code : Code) (shapes : Shapes) (r : Running) (s : Value) (names : Name
       omega (arith, f.from, f.ends, same, before-within (get s p) i, low.low, part.ends, sum) in (
         g,
         subst (λ x. Fits d x (Part p i)) (sym field.object) part,
-        performs code n c (line h k (AddOffset far)) _ has
-            (ap (λ z. here r (pc + 1) (z ∷ stack) pending n w) (wraps_low (offset s p - name.address + far) cells_low ∙ ap pos sum)),
+        subst (λ z. Comes code (here r pc (at d p ∷ stack) pending n w) (here r (pc + length (added_code h k far)) (z ∷ stack) pending n w)) (ap pos sum)
+            (added_runs far (offset s p - name.address) h k pc stack pending n w cells_low has),
       )
 
   -- the number in a cell
@@ -588,10 +598,16 @@ module _ (code : Code) (shapes : Shapes) (r : Running) (s : Value) (names : Name
           (index_runs i d u.0 t.0 p l (h + 2) k (pc + length (offset_code names h k d) + length (expr_code names (h + 1) k e)) stack pending n2 most w2 g2 ty.0 u.1 each k1 hi)))
       place_runs (designator.Field' b (more_of-Designator d end_of-Designator) i) o h k pc stack pending n most w ty ag is g has =
           let f = field_some (object_of names d) i o is in
+          let lines = lines_in code r in
+          let cd = offset_code names h k d in
+          let more = added_code (h + 1) k (before (zero_in (object_of names d)) i) in
+          let to : ℕ → Place → Supply → World → Point = λ x p n' w'. here r x (at d p ∷ stack) pending n' w' in
+          let len : pc + length cd + length more ≡ pc + length (cd ++ more) = omega (arith, length-append cd more) in
           kept_so (designator.Field' b (more_of-Designator d end_of-Designator) i) o _ _ most _ refl
-          (one_runs code r s (Fits d (Of f.0)) (Fits d o) (λ p. at d p ∷ stack) (λ p. pending) (offset_code names h k d) (line (h + 1) k (AddOffset (before (zero_in (object_of names d)) i))) (λ x p n' w'. here r x (at d p ∷ stack) pending n' w') (place_of scope d n w) _ pc (here r pc stack pending n w) most has
-          (fits_only d (Of f.0) _ _ most _ (place_runs d (Of f.0) h k pc stack pending n most w ty ag f.1 g (has_front (lines_in code r) pc (offset_code names h k d) _ has)))
-          (λ p n1 w1 g1 k1 at_i. field_runs d f.0 o p i (h + 1) k (pc + length (offset_code names h k d)) stack pending n1 most w1 g1 ty f.1 (field_is f.0 i o f.2) k1 at_i))
+          (moved code most s _ _ (Fits d o) to (here r pc stack pending n w) _ len
+          (ties code most s (Fits d (Of f.0)) (Fits d o) (here r pc stack pending n w) (to (pc + length cd)) (to (pc + length cd + length more)) (place_of scope d n w) _
+          (fits_only d (Of f.0) _ _ most _ (place_runs d (Of f.0) h k pc stack pending n most w ty ag f.1 g (has_front lines pc cd more has)))
+          (λ p n1 w1 g1 k1. field_runs d f.0 o p i (h + 1) k (pc + length cd) stack pending n1 most w1 g1 ty f.1 (field_is f.0 i o f.2) k1 (has_back lines pc cd more has))))
       place_runs (designator.Guarded' b (more_of-Designator d end_of-Designator) l kind levels) o h k pc stack pending n most w ty ag is g has =
           let d' = designator.Guarded' b (more_of-Designator d end_of-Designator) l kind levels in
           let x = rooted code r (root_in names d) in
