@@ -191,10 +191,18 @@ read_code names h k (designator.Field' g (more_of-Designator d end_of-Designator
 read_code names h k (designator.Guarded' g (more_of-Designator d end_of-Designator) l kind levels) offset =
     offset ++ line (h + 1) k (instr.LoadAt (root_in names d)) ∷ []
 
--- so many cells on: no instruction where there are none, as at a record's base and at its first field
+-- so many cells on: no instruction where there are none, as at the base of a part and at its first field
 abbrev pub added_code : ℕ → ℕ → ℕ → List Line
 added_code h k zero = []
 added_code h k (suc n) = line h k (instr.AddOffset (suc n)) ∷ []
+
+-- to a field so many cells on in this record. In a variable as a whole the instruction is always there: quick code has an operation
+-- for it together with the 0 before it
+abbrev pub field_code : ℕ → ℕ → Designator → ℕ → List Line
+field_code h k (designator.Whole v) n = line h k (instr.AddOffset n) ∷ []
+field_code h k (designator.Element' g d l i row) n = added_code h k n
+field_code h k (designator.Field' g d i) n = added_code h k n
+field_code h k (designator.Guarded' g d l kind levels) n = added_code h k n
 
 abbrev mutual
   pub expr_code : Names → ℕ → ℕ → TypedExpr → List Line
@@ -218,7 +226,7 @@ abbrev mutual
   offset_code names h k (designator.Element' g (more_of-Designator d end_of-Designator) l i (more_of-TypedExpr e end_of-TypedExpr)) =
       offset_code names h k d ++ (expr_code names (h + 1) k e ++ line (h + 2) k (instr.Index (length_of names d) (element_cells names d) l) ∷ [])
   offset_code names h k (designator.Field' g (more_of-Designator d end_of-Designator) i) =
-      offset_code names h k d ++ added_code (h + 1) k (before (zero_in (object_of names d)) i)
+      offset_code names h k d ++ field_code (h + 1) k d (before (zero_in (object_of names d)) i)
   -- a record and its base part begin at one cell
   offset_code names h k (designator.Guarded' g (more_of-Designator d end_of-Designator) l kind levels) =
       offset_code names h k d ++ line (h + 1) k (instr.Guard (name_in names d) kind.names trap.Guard l) ∷ []

@@ -163,6 +163,25 @@ fn put_added(
     put(code, operands, names, Instr::AddOffset(cells))
 }
 
+/// To a field so many cells on in a record, at the number of whose first cell the code has come.
+fn put_field(
+    code: &mut Vec<Line>,
+    operands: usize,
+    names: usize,
+    record: &Designator,
+    cells: usize,
+) -> Result<(), AllocError>
+    ensures code { OnOk result (code.new.items ≡ code.old.items ++ spec.field_code operands names record.now cells) }
+    ensures grows { OnOk result (vec_len code.old ≤ vec_len code.new) }
+{
+    match record {
+        Designator::Whole(_) => put(code, operands, names, Instr::AddOffset(cells)),
+        Designator::Element(_, _, _) => put_added(code, operands, names, cells),
+        Designator::Field(_, _) => put_added(code, operands, names, cells),
+        Designator::Guarded(_, _, _, _) => put_added(code, operands, names, cells),
+    }
+}
+
 /// The code of a designator, which leaves the number of its first cell in the variable that it begins with.
 #[cycle(expressions)]
 pub fn emit_offset<'a>(
@@ -206,9 +225,10 @@ pub fn emit_offset<'a>(
             })
         }
         Designator::Field(record, number) => {
-            let found = emit_offset(alloc, code, known, operands, names, record.get())?;
+            let record = record.get();
+            let found = emit_offset(alloc, code, known, operands, names, record)?;
             let before = part_before(found.object, *number)?;
-            put_added(code, operands + 1, names, before)?;
+            put_field(code, operands + 1, names, record, before)?;
             Ok(Found {
                 root: found.root,
                 object: field_of(found.object, *number),

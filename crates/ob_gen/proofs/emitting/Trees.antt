@@ -18,7 +18,7 @@ use Rattle.ob_code.specs.declared.instr.Instr.TheVariants as instr
 use Rattle.ob_code.specs.declared.instr.Line.{Line}
 use Rattle.ob_code.specs.declared.instr.Length.{Length}
 use Rattle.ob_code.specs.declared.instr.Root.{Root}
-use Rattle.ob_gen.specs.Code.{line, and_code, or_code, added_code, expr_code, read_code, offset_code, operations_code, every_code, either_code, argument_code, arguments_code, passed_code, value_one, name_one, row_values, row_names, list_values, list_names, root_in, name_in, name_number, length_of, length_in, element_cells, zero_in, zero_element}
+use Rattle.ob_gen.specs.Code.{line, and_code, or_code, field_code, expr_code, read_code, offset_code, operations_code, every_code, either_code, argument_code, arguments_code, passed_code, value_one, name_one, row_values, row_names, list_values, list_names, root_in, name_in, name_number, length_of, length_in, element_cells, zero_in, zero_element}
 use Rattle.ob_gen.specs.Emitted.{operations_list, every_list, either_list}
 use Rattle.ob_gen.proofs.emitting.Lists.{one_more, two_more}
 
@@ -92,7 +92,7 @@ pub element_offset : (names : Names) (h k : ℕ) (d : Designator) (l : ℕ) (e :
 unfolding Rattle.ob_mean.specs.declared.expression.Argument.TheBlock.hidden-the_row-TypedExpr-1 Rattle.ob_mean.specs.declared.expression.Argument.TheBlock.hidden-the_row-Designator-0 denote.Hole.Carrier.hidden
 element_offset names h k d l e = refl
 
-pub field_offset : (names : Names) (h k : ℕ) (d : Designator) (i : ℕ) → offset_code names h k (designator.Field d i) ≡ offset_code names h k d ++ added_code (h + 1) k (before (zero_in (object_of names d)) i)
+pub field_offset : (names : Names) (h k : ℕ) (d : Designator) (i : ℕ) → offset_code names h k (designator.Field d i) ≡ offset_code names h k d ++ field_code (h + 1) k d (before (zero_in (object_of names d)) i)
 unfolding Rattle.ob_mean.specs.declared.expression.Argument.TheBlock.hidden-the_row-Designator-0 denote.Hole.Carrier.hidden
 field_offset names h k d i = refl
 
@@ -149,11 +149,11 @@ element_emitted names h k base c1 c2 c3 d d' e e' l len cells o r e1 e2 e3 er eo
     ∙ ap (λ x. base ++ (offset_code names h k x ++ (expr_code names (h + 1) k e ++ line (h + 2) k (instr.Index (length_of names x) (element_cells names x) l) ∷ []))) ed
     ∙ ap (λ x. base ++ x) (sym (element_offset names h k d l e))
 
-pub field_emitted : (names : Names) (h k : ℕ) (base c1 c2 : List Line) (d d' : Designator) (i m : ℕ) (o : Option Object) → c1 ≡ base ++ offset_code names h k d' → c2 ≡ c1 ++ added_code (h + 1) k m → o ≡ object_of names d' → m ≡ before (zero_in o) i → d' ≡ d → c2 ≡ base ++ offset_code names h k (designator.Field d i)
+pub field_emitted : (names : Names) (h k : ℕ) (base c1 c2 : List Line) (d d' : Designator) (i m : ℕ) (o : Option Object) → c1 ≡ base ++ offset_code names h k d' → c2 ≡ c1 ++ field_code (h + 1) k d' m → o ≡ object_of names d' → m ≡ before (zero_in o) i → d' ≡ d → c2 ≡ base ++ offset_code names h k (designator.Field d i)
 field_emitted names h k base c1 c2 d d' i m o e1 e2 eo em ed =
-    e2 ∙ ap (λ l. l ++ added_code (h + 1) k m) e1 ∙ append_assoc base (offset_code names h k d') (added_code (h + 1) k m)
-    ∙ ap (λ x. base ++ (offset_code names h k d' ++ added_code (h + 1) k x)) (em ∙ ap (λ x. before (zero_in x) i) eo)
-    ∙ ap (λ x. base ++ (offset_code names h k x ++ added_code (h + 1) k (before (zero_in (object_of names x)) i))) ed
+    e2 ∙ ap (λ l. l ++ field_code (h + 1) k d' m) e1 ∙ append_assoc base (offset_code names h k d') (field_code (h + 1) k d' m)
+    ∙ ap (λ x. base ++ (offset_code names h k d' ++ field_code (h + 1) k d' x)) (em ∙ ap (λ x. before (zero_in x) i) eo)
+    ∙ ap (λ x. base ++ (offset_code names h k x ++ field_code (h + 1) k x (before (zero_in (object_of names x)) i))) ed
     ∙ ap (λ x. base ++ x) (sym (field_offset names h k d i))
 
 pub guarded_emitted : (names : Names) (h k : ℕ) (base c1 c2 : List Line) (d d' : Designator) (l : ℕ) (kind : RecordKind) (levels number : ℕ) (types : TypeNames) (r : Root) → c1 ≡ base ++ offset_code names h k d' → c2 ≡ c1 ++ line (h + 1) k (instr.Guard number types trap.Guard l) ∷ [] → r ≡ root_in names d' → number ≡ name_number r → types ≡ kind.names → d' ≡ d → c2 ≡ base ++ offset_code names h k (designator.Guarded d l kind levels)

@@ -32,7 +32,7 @@ use Rattle.ob_code.specs.declared.instr.Name.{Name}
 use Rattle.ob_code.specs.declared.instr.Told.{Told}
 use Rattle.ob_code.specs.Machine.{Code, Config, Effect, Moves, Fails, cell, perform, Point, Going, Standing, object, elements, picture, within, at_cells, operated, indexed, with_names, characters_at, take_effect, Comes, untold, told_in, type_of, name_at}
 use Rattle.ob_gen.specs.TypesAgree.{Shapes, KindAgrees, ExprAgrees, ExprsAgree, OperationsAgree, PlaceAgrees, ArgumentAgrees, ArgumentsAgree}
-use Rattle.ob_gen.specs.Code.{line, root_of, root_in, name_in, base_cells, zero_in, zero_element, cells_of, element_cells, length_of, span_of, and_code, or_code, row_values, row_names, value_one, name_one, added_code, expr_code, read_code, offset_code, operations_code, every_code, either_code, argument_code, arguments_code}
+use Rattle.ob_gen.specs.Code.{line, root_of, root_in, name_in, base_cells, zero_in, zero_element, cells_of, element_cells, length_of, span_of, and_code, or_code, row_values, row_names, value_one, name_one, added_code, field_code, expr_code, read_code, offset_code, operations_code, every_code, either_code, argument_code, arguments_code}
 use Rattle.ob_code.proofs.machine.Runs.{stays, goes_on, performs}
 use Rattle.ob_gen.proofs.machine.Reaches.{HasAt, has_front, has_back, Running, conf, here, lines_in, Halts, Good, Reaches, AnyNumber, SoMany, ties, then_comes, keeps_less, moved, skips, skip_runs, one_runs, two_runs, Same}
 use Rattle.ob_gen.proofs.machine.Store.{inside-leads, count-shape, shape_at, reads, reads_part, item-row, before-row, size-row, before-within}
@@ -112,19 +112,28 @@ module _ (code : Code) (shapes : Shapes) (r : Running) (s : Value) (names : Name
       trap_stands trap.Index l c n w refl refl g.fits (performs code n c (line h k (Index (length_of names d) (element_cells names d) l)) _ has refl)
 
   -- so many cells on
+  one_far : (m a h k pc : ℕ) (stack : List ℤ) (pending : List Name) (n : Supply) (w : World) → a + m < cell_limit → slice_get (lines_in code r) pc ≡ Some (line h k (AddOffset m)) → Comes code (here r pc (pos a ∷ stack) pending n w) (here r (pc + 1) (pos (a + m) ∷ stack) pending n w)
+  one_far m a h k pc stack pending n w low has =
+      performs code n (conf r pc (pos a ∷ stack) pending w) (line h k (AddOffset m)) _ has
+      (ap (λ z. here r (pc + 1) (z ∷ stack) pending n w) (wraps_low (a + m) low))
+
   added_runs : (m a h k pc : ℕ) (stack : List ℤ) (pending : List Name) (n : Supply) (w : World) → a + m < cell_limit → HasAt (lines_in code r) pc (added_code h k m) → Comes code (here r pc (pos a ∷ stack) pending n w) (here r (pc + length (added_code h k m)) (pos (a + m) ∷ stack) pending n w)
   added_runs zero a h k pc stack pending n w low has =
       let place : pc ≡ pc + 0 = omega arith in
       let same : a ≡ a + 0 = omega arith in
       subst (λ x. Comes code (here r pc (pos a ∷ stack) pending n w) (here r x (pos (a + 0) ∷ stack) pending n w)) place
       (subst (λ x. Comes code (here r pc (pos a ∷ stack) pending n w) (here r pc (pos x ∷ stack) pending n w)) same (stays code (here r pc (pos a ∷ stack) pending n w)))
-  added_runs (suc m) a h k pc stack pending n w low has =
-      performs code n (conf r pc (pos a ∷ stack) pending w) (line h k (AddOffset (suc m))) _ has.0
-      (ap (λ z. here r (pc + 1) (z ∷ stack) pending n w) (wraps_low (a + suc m) low))
+  added_runs (suc m) a h k pc stack pending n w low has = one_far (suc m) a h k pc stack pending n w low has.0
+
+  far_runs : (d : Designator) (m a h k pc : ℕ) (stack : List ℤ) (pending : List Name) (n : Supply) (w : World) → a + m < cell_limit → HasAt (lines_in code r) pc (field_code h k d m) → Comes code (here r pc (pos a ∷ stack) pending n w) (here r (pc + length (field_code h k d m)) (pos (a + m) ∷ stack) pending n w)
+  far_runs (designator.Whole v) m a h k pc stack pending n w low has = one_far m a h k pc stack pending n w low has.0
+  far_runs (designator.Element' g d l i row) m a h k pc stack pending n w low has = added_runs m a h k pc stack pending n w low has
+  far_runs (designator.Field' g d i) m a h k pc stack pending n w low has = added_runs m a h k pc stack pending n w low has
+  far_runs (designator.Guarded' g d l kind levels) m a h k pc stack pending n w low has = added_runs m a h k pc stack pending n w low has
 
   -- a field, at a fixed number of cells
-  field_runs : (d : Designator) (t : Shape) (o : Object) (p : Place) (i h k pc : ℕ) (stack : List ℤ) (pending : List Name) (n : Supply) (most : ℕ) (w : World) → Good most s n w → IndexesFit names d → object_of names d ≡ Some (Of t) → IsField (zero_of t) i o → Fits d (Of t) p → HasAt (lines_in code r) pc (added_code h k (before (zero_in (object_of names d)) i))
-      → Reaches code most s (Fits d o) (here r pc (at d p ∷ stack) pending n w) (λ q n' w'. here r (pc + length (added_code h k (before (zero_in (object_of names d)) i))) (at d q ∷ stack) pending n' w') (Goes (Part p i) n w)
+  field_runs : (d : Designator) (t : Shape) (o : Object) (p : Place) (i h k pc : ℕ) (stack : List ℤ) (pending : List Name) (n : Supply) (most : ℕ) (w : World) → Good most s n w → IndexesFit names d → object_of names d ≡ Some (Of t) → IsField (zero_of t) i o → Fits d (Of t) p → HasAt (lines_in code r) pc (field_code h k d (before (zero_in (object_of names d)) i))
+      → Reaches code most s (Fits d o) (here r pc (at d p ∷ stack) pending n w) (λ q n' w'. here r (pc + length (field_code h k d (before (zero_in (object_of names d)) i))) (at d q ∷ stack) pending n' w') (Goes (Part p i) n w)
   field_runs d t o p i h k pc stack pending n most w g ty e field f has =
       let name = rooted code r (root_in names d) in
       let below : i < count (get s p) = omega (arith, field.there, ap count f.is) in
@@ -138,8 +147,8 @@ module _ (code : Code) (shapes : Shapes) (r : Running) (s : Value) (names : Name
       omega (arith, f.from, f.ends, same, before-within (get s p) i, low.low, part.ends, sum) in (
         g,
         subst (λ x. Fits d x (Part p i)) (sym field.object) part,
-        subst (λ z. Comes code (here r pc (at d p ∷ stack) pending n w) (here r (pc + length (added_code h k far)) (z ∷ stack) pending n w)) (ap pos sum)
-            (added_runs far (offset s p - name.address) h k pc stack pending n w cells_low has),
+        subst (λ z. Comes code (here r pc (at d p ∷ stack) pending n w) (here r (pc + length (field_code h k d far)) (z ∷ stack) pending n w)) (ap pos sum)
+            (far_runs d far (offset s p - name.address) h k pc stack pending n w cells_low has),
       )
 
   -- the number in a cell
@@ -600,7 +609,7 @@ module _ (code : Code) (shapes : Shapes) (r : Running) (s : Value) (names : Name
           let f = field_some (object_of names d) i o is in
           let lines = lines_in code r in
           let cd = offset_code names h k d in
-          let more = added_code (h + 1) k (before (zero_in (object_of names d)) i) in
+          let more = field_code (h + 1) k d (before (zero_in (object_of names d)) i) in
           let to : ℕ → Place → Supply → World → Point = λ x p n' w'. here r x (at d p ∷ stack) pending n' w' in
           let len : pc + length cd + length more ≡ pc + length (cd ++ more) = omega (arith, length-append cd more) in
           kept_so (designator.Field' b (more_of-Designator d end_of-Designator) i) o _ _ most _ refl

@@ -47,7 +47,7 @@ use Rattle.ob_code.specs.declared.instr.Procedure.{Procedure}
 use Rattle.ob_code.specs.declared.instr.CodeModule.{CodeModule}
 use Rattle.ob_code.specs.Valid.{height, results, asks, RootFits, LengthFits, SpanFits, TargetFits, own_entry, known_entry, entry_of, Calls, Fits, ProcedureFits, IsBody, IsValid}
 use Rattle.ob_code.proofs.machine.Laid.{entry_same}
-use Rattle.ob_gen.specs.Code.{line, name_in, zero_in, parameter_row, own_row, face_row, named_one, named_before, root_of, root_in, name_number, length_in, length_of, span_of, element_cells, and_code, or_code, value_one, name_one, row_values, row_names, read_code, added_code, expr_code, offset_code, operations_code, every_code, either_code, argument_code, arguments_code, list_values, list_names, passed_code, target_of, input_code, output_code, assign_code, action_code, Guarded, loop_code, for_relation, for_guard, for_step, for_code, stat_code, stats_code, branches, arms_code, list_code, result_code, procedure_code}
+use Rattle.ob_gen.specs.Code.{line, name_in, zero_in, parameter_row, own_row, face_row, named_one, named_before, root_of, root_in, name_number, length_in, length_of, span_of, element_cells, and_code, or_code, value_one, name_one, row_values, row_names, read_code, added_code, field_code, expr_code, offset_code, operations_code, every_code, either_code, argument_code, arguments_code, list_values, list_names, passed_code, target_of, input_code, output_code, assign_code, action_code, Guarded, loop_code, for_relation, for_guard, for_step, for_code, stat_code, stats_code, branches, arms_code, list_code, result_code, procedure_code}
 use Rattle.ob_gen.specs.Correct.{named_count, name_kinds, parameter_count, IsCodeOf, AreCompiled}
 use Rattle.ob_gen.specs.Generated.{valued_count, heading_entry, IsOfFace, AreOfFaces, most_operands, most_names, HasRoom, AllHaveRoom, IsGenerated}
 use Rattle.ob_gen.proofs.machine.Store.{IsRow, size-append, before-within}
@@ -272,6 +272,12 @@ module _ (names : Names) (m : CodeModule) (f : Procedure) (known : IsNamed names
   added_leads c zero h k fc = subst (λ l. Leads l (height h k) (height (h + 1) k)) (sym (append-nil c)) fc
   added_leads c (suc n) h k fc = same_leads c (instr.AddOffset (suc n)) h k fc (λ pc le behind. (le, behind))
 
+  field_leads : (c : List Line) (d : Designator) (n h k : ℕ) → Leads c (height h k) (height (h + 1) k) → Leads (c ++ field_code (h + 1) k d n) (height h k) (height (h + 1) k)
+  field_leads c (designator.Whole v) n h k fc = same_leads c (instr.AddOffset n) h k fc (λ pc le behind. (le, behind))
+  field_leads c (designator.Element' g d l i row) n h k fc = added_leads c n h k fc
+  field_leads c (designator.Field' g d i) n h k fc = added_leads c n h k fc
+  field_leads c (designator.Guarded' g d l kind levels) n h k fc = added_leads c n h k fc
+
   -- an instruction that leaves one of two operands
   two_leads : (a b : List Line) (i : Instr) (h k : ℕ) → Leads a (height h k) (height (h + 1) k) → Leads b (height (h + 1) k) (height (h + 1 + 1) k) → ((pc : ℕ) → 2 ≤ h + 2 → at m f lines (pc + 1) ≡ Some (height (h + 2 - 1) k) → Fits m f lines pc (h + 2) k i) → Leads (a ++ (b ++ line (h + 2) k i ∷ [])) (height h k) (height (h + 1) k)
   two_leads a b i h k fa fb fit =
@@ -335,7 +341,7 @@ module _ (names : Names) (m : CodeModule) (f : Procedure) (known : IsNamed names
         (offset_leads d h k fit.0 u.0 u.1) (expr_leads index (h + 1) k fit.1) (λ pc le behind. (length_fits d u.0 fit.0 u.1, le, behind))
     offset_leads (designator.Field' g (more_of-Designator d end_of-Designator) i) h k fit o e =
         let t = field_some (object_of names d) i o e in
-        added_leads (offset_code names h k d) (before (zero_in (object_of names d)) i) h k (offset_leads d h k fit (Of t.0) t.1)
+        field_leads (offset_code names h k d) d (before (zero_in (object_of names d)) i) h k (offset_leads d h k fit (Of t.0) t.1)
     offset_leads (designator.Guarded' g (more_of-Designator d end_of-Designator) l kind levels) h k fit o e =
         let t = told_object names d fit.1 in
         same_leads (offset_code names h k d) (instr.Guard (name_in names d) kind.names trap.Guard l) h k (offset_leads d h k fit.0 (Of t.0) t.1) (λ pc le behind. (name_there d fit.0 fit.1, le, behind))

@@ -59,7 +59,7 @@ use Rattle.ob_code.specs.declared.instr.Procedure.{Procedure}
 use Rattle.ob_code.specs.declared.instr.CodeModule.{CodeModule}
 use Rattle.ob_code.specs.Valid.{entry_of}
 use Rattle.ob_code.specs.Kinds.{Kinds, NameKinds, Rows, Covers, LieAmong, LieInElement, LieInRecord, LieInName, Lie, IsLong, ArrayLies, TextLies, TargetLies, LengthIs, IsFew as FewCells, ArePassed, literal, low, inside, in_record, moved, guarded, TellsType, element, operands_of, names_of as passed_names, entry_results, results_kinds, nothing, Arrives, known_at, Keeps, HasKinds, IsMeasured}
-use Rattle.ob_gen.specs.Code.{line, name_in, base_cells, extent_at, parameter_row, own_row, face_row, root_of, root_in, zero_in, zero_element, cells_of, length_in, length_of, span_of, element_cells, and_code, or_code, value_one, name_one, row_values, row_names, list_values, list_names, read_code, added_code, expr_code, offset_code, operations_code, every_code, either_code, argument_code, arguments_code, passed_code, target_of, input_code, output_code, assign_code, action_code, Guarded, loop_code, for_relation, for_guard, for_step, for_code, stat_code, stats_code, branches, arms_code, list_code, result_code, procedure_code, named_before, name_number}
+use Rattle.ob_gen.specs.Code.{line, name_in, base_cells, extent_at, parameter_row, own_row, face_row, root_of, root_in, zero_in, zero_element, cells_of, length_in, length_of, span_of, element_cells, and_code, or_code, value_one, name_one, row_values, row_names, list_values, list_names, read_code, added_code, field_code, expr_code, offset_code, operations_code, every_code, either_code, argument_code, arguments_code, passed_code, target_of, input_code, output_code, assign_code, action_code, Guarded, loop_code, for_relation, for_guard, for_step, for_code, stat_code, stats_code, branches, arms_code, list_code, result_code, procedure_code, named_before, name_number}
 use Rattle.ob_gen.specs.Correct.{named_count, name_kind, name_kinds, IsCodeOf, AreCompiled}
 use Rattle.ob_gen.specs.Generated.{valued_count, heading_entry, IsGenerated}
 use Rattle.ob_gen.proofs.machine.Store.{before-within, count-row, size-row}
@@ -523,6 +523,12 @@ module _ (names : Names) (m : CodeModule) (f : Procedure) (known : IsNamed names
       (subst (λ l. Leads l x (push kind ks)) (sym (append-nil c)) tc)
   added_tells c (suc n) h k kind x ks tc = then_tells c h k (instr.AddOffset (suc n)) x (push kind ks) (push (moved (suc n) kind) ks) tc (λ rows pc behind. (omega arith, tt, behind))
 
+  field_tells : (c : List Line) (d : Designator) (n h k : ℕ) (kind : Kind) (x ks : Known) → Leads c x (push kind ks) → Leads (c ++ field_code h k d n) x (push (moved n kind) ks)
+  field_tells c (designator.Whole v) n h k kind x ks tc = then_tells c h k (instr.AddOffset n) x (push kind ks) (push (moved n kind) ks) tc (λ rows pc behind. (omega arith, tt, behind))
+  field_tells c (designator.Element' g d l i row) n h k kind x ks tc = added_tells c n h k kind x ks tc
+  field_tells c (designator.Field' g d i) n h k kind x ks tc = added_tells c n h k kind x ks tc
+  field_tells c (designator.Guarded' g d l same levels) n h k kind x ks tc = added_tells c n h k kind x ks tc
+
   two_tells : (a b : List Line) (h k : ℕ) (i : Instr) (x y z w : Known) → Leads a x y → Leads b y z → LineKeeps i z w → Leads (a ++ (b ++ line h k i ∷ [])) x w
   two_tells a b h k i x y z w ta tb keeps = tells_join m f a (b ++ line h k i ∷ []) x y w ta (then_tells b h k i y z w tb keeps)
 
@@ -632,7 +638,7 @@ module _ (names : Names) (m : CodeModule) (f : Procedure) (known : IsNamed names
     offset_tells (designator.Field' g (more_of-Designator d end_of-Designator) i) h k ks fit o e =
         let t = field_some (object_of names d) i o e in
         let by = before (zero_in (object_of names d)) i in
-        added_tells (offset_code names h k d) by (h + 1) k (offset_kind names d) ks ks (offset_tells d h k ks fit (Of t.0) t.1)
+        field_tells (offset_code names h k d) d by (h + 1) k (offset_kind names d) ks ks (offset_tells d h k ks fit (Of t.0) t.1)
     offset_tells (designator.Guarded' g (more_of-Designator d end_of-Designator) l kind levels) h k ks fit o e =
         let t = told_object names d fit.1 in
         then_tells (offset_code names h k d) (h + 1) k (instr.Guard (name_in names d) kind.names trap.Guard l) ks (push (offset_kind names d) ks) (push (guarded (name_in names d) (record_cells kind.names) (offset_kind names d)) ks) (offset_tells d h k ks fit.0 (Of t.0) t.1) (λ rows pc behind. (omega arith, tells_type d fit.1, behind))

@@ -100,22 +100,22 @@ emit_offset-returns-in_ok-put-in-Element-clause-object t c =
     ∙ ap (λ o. shape_object (elements_in o)) (c.in_ok-found-in-Element.ensures.object ∙ ap (object_of N) c.get.ensures)
     ∙ sym (element_object N c.in-Element.array c.in-Element.line c.in-Element.index) ∙ ap (object_of N) (sym c.in-Element.is)
 
-pub emit_offset-returns-in_ok-put_added-in-Field-clause-code : goal.emit_offset-returns-in_ok-put_added-in-Field-clause-code
-emit_offset-returns-in_ok-put_added-in-Field-clause-code t c =
+pub emit_offset-returns-in_ok-put_field-in-Field-clause-code : goal.emit_offset-returns-in_ok-put_field-in-Field-clause-code
+emit_offset-returns-in_ok-put_field-in-Field-clause-code t c =
     field_emitted (names_in c.args.known.now) c.args.operands c.args.names c.args.code.now.items _ _ c.in-Field.record _ c.in-Field.number _ _
-    c.in_ok-found-in-Field.ensures.code c.in_ok-put_added-in-Field.ensures.code c.in_ok-found-in-Field.ensures.object c.in_ok-before-in-Field.ensures c.get-in-Field.ensures
+    c.in_ok-found-in-Field.ensures.code c.in_ok-put_field-in-Field.ensures.code c.in_ok-found-in-Field.ensures.object c.in_ok-before-in-Field.ensures c.get-record.ensures
     ∙ ap (λ d. c.args.code.now.items ++ offset_code (names_in c.args.known.now) c.args.operands c.args.names d) (sym c.in-Field.is)
 
-pub emit_offset-returns-in_ok-put_added-in-Field-clause-root : goal.emit_offset-returns-in_ok-put_added-in-Field-clause-root
-emit_offset-returns-in_ok-put_added-in-Field-clause-root t c =
+pub emit_offset-returns-in_ok-put_field-in-Field-clause-root : goal.emit_offset-returns-in_ok-put_field-in-Field-clause-root
+emit_offset-returns-in_ok-put_field-in-Field-clause-root t c =
     let N = names_in c.args.known.now in
-    c.in_ok-found-in-Field.ensures.root ∙ ap (root_in N) c.get-in-Field.ensures ∙ sym (field_root N c.in-Field.record c.in-Field.number) ∙ ap (root_in N) (sym c.in-Field.is)
+    c.in_ok-found-in-Field.ensures.root ∙ ap (root_in N) c.get-record.ensures ∙ sym (field_root N c.in-Field.record c.in-Field.number) ∙ ap (root_in N) (sym c.in-Field.is)
 
-pub emit_offset-returns-in_ok-put_added-in-Field-clause-object : goal.emit_offset-returns-in_ok-put_added-in-Field-clause-object
-emit_offset-returns-in_ok-put_added-in-Field-clause-object t c =
+pub emit_offset-returns-in_ok-put_field-in-Field-clause-object : goal.emit_offset-returns-in_ok-put_field-in-Field-clause-object
+emit_offset-returns-in_ok-put_field-in-Field-clause-object t c =
     let N = names_in c.args.known.now in
     c.field_of.ensures
-    ∙ ap (λ o. field_in o c.in-Field.number) (c.in_ok-found-in-Field.ensures.object ∙ ap (object_of N) c.get-in-Field.ensures)
+    ∙ ap (λ o. field_in o c.in-Field.number) (c.in_ok-found-in-Field.ensures.object ∙ ap (object_of N) c.get-record.ensures)
     ∙ sym (field_object N c.in-Field.record c.in-Field.number) ∙ ap (object_of N) (sym c.in-Field.is)
 
 pub emit_offset-returns-in_ok-put-in-Guarded-clause-code : goal.emit_offset-returns-in_ok-put-in-Guarded-clause-code
