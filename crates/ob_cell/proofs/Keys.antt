@@ -34,7 +34,7 @@ use Rattle.ob_mean.specs.declared.module.Parameter.{Parameter}
 use Rattle.ob_mean.specs.declared.shape.Shape.{Shape}
 use Rattle.ob_mean.specs.declared.shape.Shape.TheVariants as shape
 use Rattle.ob_check_kinds.specs.Shapes.{shape_of, shapes_of, parameter_of, parameters_of}
-use Rattle.ob_check_kinds.specs.Declarable.{is_word, are_words, is_labelled, is_plain, are_plain}
+use Rattle.ob_types.specs.Declarable.{is_word, are_words, is_labelled, is_plain, are_plain}
 use Rattle.ob_check_laws.specs.Agreeing.{SaysTypes}
 use Rattle.ob_check_laws.specs.Fitting.{variable_shape, variable_shapes, procedure_heading, procedure_headings, heading_of, face_of_interface}
 use Rattle.ob_load.specs.Said.{Read, BasicType, OpenType, ArrayType, RecordType, read_shape, read_parameter, Around, OfArray, OfOpen, OfField, OfVariable, OfTypeName, OfFormal, At, Line, Rest, Word, Name, Procedure, Formals, Formal as FormalAt, Result, Type', Length, RecordName as RecordNameAt, Fields, FieldName, Field, Variable, behind, in_field, field_begins, next, added, read, Reader, no_face, face_said, shape_at, shape_said}

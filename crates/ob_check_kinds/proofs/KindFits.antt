@@ -14,7 +14,7 @@ use Rattle.ob_mean.specs.Values.{Value, size, row}
 use Rattle.ob_mean.specs.RecordTypes.{TypeNames}
 use Rattle.ob_mean.specs.WellFormed.{Object, Of, AreNamed, KindFits, base_object, field_in, field_shape, field_at, shape_object}
 use Rattle.ob_mean.proofs.Zeros.{array_zero, record_zero}
-use Rattle.ob_check_kinds.specs.Declarable.{is_record, is_labelled, are_words, is_plain, are_plain, is_declarable}
+use Rattle.ob_types.specs.Declarable.{is_record, is_labelled, are_words, is_plain, are_plain, is_declarable}
 use Rattle.ob_check_kinds.specs.Kinds.{names_of, kind_of, level_in, levels_to}
 use Rattle.ob_check_kinds.specs.Shapes.{shape_of, shapes_of}
 use Rattle.ob_check_kinds.proofs.KindForms.{base_names, base_level, names_step, level_step}

@@ -1,4 +1,3 @@
 pub mod ShapeForms
-pub mod DeclarableForms
 pub mod KindForms
 pub mod KindFits

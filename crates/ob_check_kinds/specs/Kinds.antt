@@ -9,7 +9,7 @@ use Rattle.ob_mean.specs.declared.kind.TypeName.{TypeName}
 use Rattle.ob_mean.specs.declared.kind.RecordKind.{RecordKind}
 use Rattle.ob_mean.specs.RecordTypes.{TypeNames}
 use Rattle.ob_check_kinds.specs.Shapes.{shape_of}
-use Rattle.ob_check_kinds.specs.Declarable.{is_declarable}
+use Rattle.ob_types.specs.Declarable.{is_declarable}
 
 abbrev pub name_of : ObType → TypeName
 name_of t = record { text = type_text t; cells = cells t }

@@ -5,13 +5,12 @@ ghost use Rattle.ob_types.specs.InterfaceText.{type_text};
 ghost use Rattle.ob_types.specs.Types.{cells, chain};
 ghost use Rattle.ob_check_kinds.specs.Kinds as spec;
 
-use crate::declarable::is_declarable;
 use crate::kept::{Kept, find};
 use crate::made::Made;
 use crate::shapes::shape_of;
 use ob_base::{Items, Shared, SharedItems, Text};
 use ob_mean::{RecordKind, TypeName};
-use ob_types::{ObType, base_of, put_type, same, zero_size};
+use ob_types::{ObType, base_of, is_declarable, put_type, same, zero_size};
 use std::alloc::{AllocError, Global};
 
 /// How many cells a value of a type takes. The error is for a type of 2^32 - 1 cells or more, which no declaration makes.

@@ -1,7 +1,6 @@
 //! Types as their values have them, and as a running program tells record types apart.
 #![tactic(auto)]
 
-mod declarable;
 mod kept;
 mod kinds;
 mod made;

@@ -6,30 +6,30 @@ ghost use Rattle.ob_check_kinds.specs.Shapes as spec;
 use crate::made::Made;
 use ob_base::{Items, Shared, SharedItems};
 use ob_mean::{Parameter, Shape};
-use ob_types::{Field, Formal, FormalKind, ObType};
+use ob_types::{Field, Form, Formal, FormalKind, ObType};
 use std::alloc::{AllocError, Global};
 
 /// How a type is made of basic ones, or lack of memory. It shares what it can with the shapes that were made.
 #[cycle(shapes)]
-#[tactic(auto, using(crate::proofs::ShapeForms::shape_array, crate::proofs::ShapeForms::shape_open, crate::proofs::ShapeForms::shape_record))]
+#[tactic(auto, using(ob_types::proofs::Measures::array_size, ob_types::proofs::Measures::open_size, crate::proofs::ShapeForms::shape_array, crate::proofs::ShapeForms::shape_open, crate::proofs::ShapeForms::shape_record))]
 pub fn shape_of(alloc: Global, made: &mut Made, of: &ObType) -> Result<Shape, AllocError>
     ensures { IfOk result (λ s. s ≡ spec.shape_of of.now) }
 {
     if let Some(shape) = made.find(of)? {
         return Ok(shape);
     }
-    match of {
-        ObType::Basic(_) => Ok(Shape::Basic),
-        ObType::Array(length, element) => {
+    match of.form() {
+        Form::Basic(_) => Ok(Shape::Basic),
+        Form::Array(length, element) => {
             let element = shape_of(alloc, made, element.get())?;
             made.keep(of, Shape::Array(*length, Shared::new(alloc, element)?))
         }
-        ObType::Open(element) => {
+        Form::Open(element) => {
             let element = shape_of(alloc, made, element.get())?;
             made.keep(of, Shape::Array(1, Shared::new(alloc, element)?))
         }
-        ObType::Record(record) => {
-            let fields = shapes_in(alloc, made, record.fields.as_slice())?;
+        Form::Record(record) => {
+            let fields = shapes_in(alloc, made, record.get().fields())?;
             made.keep(of, Shape::Record(SharedItems::new(alloc, fields)?))
         }
     }
@@ -41,7 +41,7 @@ fn shapes_in(alloc: Global, made: &mut Made, fields: &[Field]) -> Result<Items<S
 {
     let mut shapes = Items::new(alloc);
     for field in fields {
-        shapes.push(shape_of(alloc, made, &field.of)?)?;
+        shapes.push(shape_of(alloc, made, field.of())?)?;
     }
     Ok(shapes)
 }
@@ -73,11 +73,11 @@ fn parameter_of(
 ) -> Result<Parameter, AllocError>
     ensures { IfOk result (λ p. p ≡ spec.parameter_of kind of.now) }
 {
-    match of {
-        ObType::Basic(_) => Ok(basic_parameter(kind)),
-        ObType::Open(element) => Ok(Parameter::Open(shape_of(alloc, made, element.get())?)),
-        ObType::Array(_, _) => Ok(Parameter::Place(shape_of(alloc, made, of)?)),
-        ObType::Record(_) => Ok(record_parameter(kind, shape_of(alloc, made, of)?)),
+    match of.form() {
+        Form::Basic(_) => Ok(basic_parameter(kind)),
+        Form::Open(element) => Ok(Parameter::Open(shape_of(alloc, made, element.get())?)),
+        Form::Array(_, _) => Ok(Parameter::Place(shape_of(alloc, made, of)?)),
+        Form::Record(_) => Ok(record_parameter(kind, shape_of(alloc, made, of)?)),
     }
 }
 

@@ -27,7 +27,7 @@ use Rattle.ob_types.specs.Types.{base_of}
 use Rattle.ob_mean.specs.declared.kind.RecordKind.{RecordKind}
 use Rattle.ob_mean.specs.WellFormed.{Names, Of, field_in}
 use Rattle.ob_mean.specs.WellFormed as module_names
-use Rattle.ob_check_kinds.specs.Declarable.{is_plain}
+use Rattle.ob_types.specs.Declarable.{is_plain}
 use Rattle.ob_check_kinds.specs.Kinds.{names_of}
 use Rattle.ob_check_kinds.specs.Shapes.{shape_of}
 use Rattle.ob_check_kinds.proofs.KindForms.{base_names, names_step}

@@ -18,7 +18,7 @@ use Rattle.ob_check_scope.specs.declared.scope.Scope.{Scope}
 use Rattle.ob_check_scope.specs.Exports.{Modules}
 use Rattle.ob_check_scope.specs.Rule.{gives}
 use Rattle.ob_check_const.specs.NamedTypes as named
-use Rattle.ob_check_kinds.specs.Declarable.{is_record, are_words, is_labelled, is_plain, are_plain, is_declarable}
+use Rattle.ob_types.specs.Declarable.{is_record, are_words, is_labelled, is_plain, are_plain, is_declarable}
 use Rattle.ob_check_kinds.specs.Kinds.{kind_of, level_in, levels_to}
 use Rattle.ob_check_kinds.specs.Shapes.{shape_of}
 use Rattle.ob_check_kinds.proofs.KindFits.{first_holds, second_holds, declarable_plain, level_down, level_record}

@@ -48,7 +48,7 @@ use Rattle.ob_check_operand.specs.Relations.{compared, texts_related, values_rel
 use Rattle.ob_check_operand.specs.Passing.{has_elements, named_record, record_passed, variable_passed, variable_argument, fixed_text, text_passed, structure_passed, value_passed}
 use Rattle.ob_check_operand.specs.Selecting.{Selected, element_of, part_as}
 use Rattle.ob_check_stmt.specs.Assignments.{is_open}
-use Rattle.ob_check_kinds.specs.Declarable.{is_record}
+use Rattle.ob_types.specs.Declarable.{is_record}
 use Rattle.ob_check_kinds.specs.Kinds.{levels_to}
 use Rattle.ob_check_kinds.specs.Shapes.{shape_of, parameter_of}
 use Rattle.ob_check_laws.specs.Fitting.{Suits, TellsRight, OperandFits, OperationListFits, ExprListFits, StartsWith}

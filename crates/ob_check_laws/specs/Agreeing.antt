@@ -3,7 +3,7 @@ use Rattle.std.specs.Prelude.{◌≡◌, true}
 use Rattle.ob_tree.specs.declared.tree.Module.{Module}
 use Rattle.ob_types.specs.declared.structure.ObType.{ObType}
 use Rattle.ob_gen.specs.TypesAgree.{Shapes, TypesAgree}
-use Rattle.ob_check_kinds.specs.Declarable.{is_plain}
+use Rattle.ob_types.specs.Declarable.{is_plain}
 use Rattle.ob_check_kinds.specs.Kinds.{name_of}
 use Rattle.ob_check_kinds.specs.Shapes.{shape_of}
 use Rattle.ob_check_scope.specs.Exports.{Modules}

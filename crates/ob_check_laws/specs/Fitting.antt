@@ -27,7 +27,7 @@ use Rattle.ob_check_scope.specs.Scope.{seen, variable_of}
 use Rattle.ob_check_operand.specs.declared.operand.Operand.{Operand}
 use Rattle.ob_check_operand.specs.declared.operand.Operand.TheVariants as operand
 use Rattle.ob_check_operand.specs.Names.{tells}
-use Rattle.ob_check_kinds.specs.Declarable.{is_record}
+use Rattle.ob_types.specs.Declarable.{is_record}
 use Rattle.ob_check_scope.specs.Rule.{gives}
 use Rattle.ob_check_module.specs.declared.checked.Imported.{Imported}
 use Rattle.ob_check_module.specs.CheckedTree.{CheckedTree}

@@ -27,7 +27,7 @@ use Rattle.ob_mean.specs.declared.statement.TypedStatement.TheBlock.{Row_of-Bran
 use Rattle.ob_mean.specs.declared.statement.TypedStatement.TheVariants.{Simple, If', Case', While', Repeat', For'}
 use Rattle.ob_mean.specs.WellFormed.{Names, Of, is_told, base_object, object_of, variable_object, elements_in, called, IsBasic, IsText, IsArray, AreAlike, IsRead, ShapesFit, VariablesFit, AllBelow, FacesFit, names_in, names_of}
 use Rattle.ob_types.specs.declared.structure.ObType.{ObType}
-use Rattle.ob_check_kinds.specs.Declarable.{is_declarable}
+use Rattle.ob_types.specs.Declarable.{is_declarable}
 use Rattle.ob_check_kinds.specs.Kinds.{kind_of}
 
 abbrev pub IsKind : RecordKind → Type 0

@@ -5,6 +5,9 @@ use Rattle.ob_types.specs.declared.structure.ObType.TheBlock.{Row_of-Field, end_
 use Rattle.ob_types.specs.declared.structure.ObType.TheVariants.{Basic, Array, Open, Record, Array', Open'}
 use Rattle.ob_types.specs.declared.structure.ObType.{end_of-ObType, more_of-ObType}
 use Rattle.ob_types.specs.declared.structure.RecordType.{RecordType, RecordType', out-RecordType}
+use Rattle.ob_types.specs.Forms.{type_of}
+use Rattle.ob_types.specs.declared.form.Form.{Form}
+use Rattle.ob_types.specs.declared.form.Form.TheVariants as form
 use Rattle.std.specs.Prelude.{◌&&◌, ◌||◌, nat_eq, nat_lt, Bool, true, false}
 use Rattle.std.proofs.Common.{arith}
 use Rattle.std.proofs.lemmas.Bool.Decides.{nat_tests}
@@ -66,6 +69,13 @@ same_records (RecordType' x k xs) (RecordType' y j ys) =
     ∙ ap (λ l. pointwise same_field l (items-the_row-Field _ ys)) (sym (items_shown-the_row-Field-1 k xs))
     ∙ ap (λ l. pointwise same_field (out-RecordType (RecordType' x k xs)).fields l) (sym (items_shown-the_row-Field-1 j ys)))
 
+-- records of different names, and of one name
+pub names_differ : (r s : RecordType) → same_record (out-RecordType r).name (out-RecordType s).name ≡ false → false ≡ same (Record r) (Record s)
+names_differ r s e = ap (λ b. b && pointwise same_field (out-RecordType r).fields (out-RecordType s).fields) (sym e) ∙ sym (same_records r s)
+
+pub fields_decide : (r s : RecordType) → same_record (out-RecordType r).name (out-RecordType s).name ≡ true → pointwise same_field (out-RecordType r).fields (out-RecordType s).fields ≡ same (Record r) (Record s)
+fields_decide r s e = ap (λ b. b && pointwise same_field (out-RecordType r).fields (out-RecordType s).fields) (sym e) ∙ sym (same_records r s)
+
 pub string_array : (n : ℕ) (e : ObType) (k : ℕ) → string_assignable (Array n e) k ≡ (is_char e && nat_lt k n)
 unfolding Rattle.ob_types.specs.declared.structure.ObType.TheBlock.hidden-the_row-ObType-0 denote.Hole.Carrier.hidden
 string_array n e k = refl
@@ -84,19 +94,19 @@ pub unequal : (n m : ℕ) (b : Bool) → (n ≡ m → ⊥) → nat_eq n m ≡ (n
 unequal n m b e = ap (λ x. x) (different n m e) ∙ ap (λ x. x && b) (sym (different n m e))
 
 -- an array is the same as no other form of type
-pub apart_array : (n : ℕ) (x t : ObType) → ((m : ℕ) (y : ObType) → t ≡ Array m y → ⊥) → false ≡ same (Array n x) t
+pub apart_array : (n : ℕ) (x : ObType) (f : Form) → ((m : ℕ) (y : ObType) → f ≡ form.Array m y → ⊥) → false ≡ same (Array n x) (type_of f)
 unfolding Rattle.ob_types.specs.declared.structure.ObType.TheBlock.hidden-the_row-ObType-0 denote.Hole.Carrier.hidden
-apart_array n x (Basic b) other = refl
-apart_array n x (Array' m p (more_of-ObType y end_of-ObType)) other = absurd (other m y refl)
-apart_array n x (Open' p (more_of-ObType y end_of-ObType)) other = refl
-apart_array n x (Record r) other = refl
+apart_array n x (form.Basic b) other = refl
+apart_array n x (form.Array m y) other = absurd (other m y refl)
+apart_array n x (form.Open y) other = refl
+apart_array n x (form.Record r) other = refl
 
-pub apart_open : (x t : ObType) → ((y : ObType) → t ≡ Open y → ⊥) → false ≡ same (Open x) t
+pub apart_open : (x : ObType) (f : Form) → ((y : ObType) → f ≡ form.Open y → ⊥) → false ≡ same (Open x) (type_of f)
 unfolding Rattle.ob_types.specs.declared.structure.ObType.TheBlock.hidden-the_row-ObType-0 denote.Hole.Carrier.hidden
-apart_open x (Basic b) other = refl
-apart_open x (Array' m p (more_of-ObType y end_of-ObType)) other = refl
-apart_open x (Open' p (more_of-ObType y end_of-ObType)) other = absurd (other y refl)
-apart_open x (Record r) other = refl
+apart_open x (form.Basic b) other = refl
+apart_open x (form.Array m y) other = refl
+apart_open x (form.Open y) other = absurd (other y refl)
+apart_open x (form.Record r) other = refl
 
 row_base : (k : _) (row : Row_of-Field k) → base_in row ≡ base_among (items-the_row-Field k row)
 row_base k end_of-Field = refl

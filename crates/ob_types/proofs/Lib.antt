@@ -1,7 +1,15 @@
+pub mod Measures
 pub mod Equations
 pub mod Numbering
 pub mod Numbers
 pub mod SameType
+pub mod DeclarableForms
+pub mod WordForms
+pub mod Rolled
+pub mod Layers
+pub mod PlaceMaps
+pub mod FieldPlaces
+pub mod WordsApart
 pub mod Signatures
 pub mod TextEquations
 pub mod Texts

@@ -89,7 +89,7 @@ name_true x y h =
 name_own : (x : RecordName) → same_record x x ≡ true
 name_own x = both_hold _ _ (both_hold _ _ (both_hold _ _ (text_own x.module_name) (texts_own x.enclosing)) (text_own x.declared)) (number_own x.before)
 
-record_equal : (r s : RecordType) → (out-RecordType r).name ≡ (out-RecordType s).name → (out-RecordType r).fields ≡ (out-RecordType s).fields → Record r ≡ Record s
+pub record_equal : (r s : RecordType) → (out-RecordType r).name ≡ (out-RecordType s).name → (out-RecordType r).fields ≡ (out-RecordType s).fields → Record r ≡ Record s
 record_equal r s e f = ap Record (sym (roll-out-RecordType r) ∙ (λ i. roll-RecordType (record { name = e i; fields = f i })) ∙ roll-out-RecordType s)
 
 one_more : (x y : Field) (xs ys : List Field) → x ≡ y → xs ≡ ys → x ∷ xs ≡ y ∷ ys

@@ -1,4 +1,8 @@
 pub mod Types
+pub mod Declarable
+pub mod Words
+pub mod Sizes
+pub mod Forms
 pub mod InterfaceTree
 pub mod InterfaceText
 pub mod Numbered

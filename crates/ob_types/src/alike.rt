@@ -5,7 +5,8 @@ ghost use Rattle.ob_types.specs.Numbered as spec;
 
 use crate::compatible::same;
 use crate::exports::{Constant, Exported, Formal, FormalKind, Object, Signature};
-use crate::structure::{Basic, ObType};
+use crate::form::ObType;
+use crate::structure::Basic;
 
 fn same_constant(left: &Constant, right: &Constant) -> bool
     ensures { IsTrue result → left.now ≡ right.now }

@@ -3,25 +3,41 @@
 ghost use Rattle.std.specs.Prelude.{◌≡◌, option_map};
 ghost use Rattle.std.specs.Cmp.Lexicographic.{pointwise};
 ghost use Rattle.std.specs.Str.{bytes_eq};
+ghost use Rattle.ob_types.specs.declared.structure.ObType.TheVariants.{Record as OfRecord};
 ghost use Rattle.ob_types.specs.Types as spec;
 
-use crate::structure::{Basic, Field, ObType, RecordName};
-use ob_base::{Shared, Text};
+use crate::form::{Field, Form, ObType, RecordType};
+use crate::structure::{Basic, RecordName};
+use ob_base::Text;
 
 /// Whether two types are the same: basic types by name, arrays by length and element, open arrays by element, records by
 /// name and written-out structure.
 #[cycle(same)]
+#[tactic(auto, using(crate::proofs::Measures::array_size, crate::proofs::Measures::open_size, crate::proofs::Measures::fields_size))]
 pub fn same(left: &ObType, right: &ObType) -> bool
     ensures { result ≡ spec.same left.now right.now }
 {
-    match (left, right) {
-        (ObType::Basic(x), ObType::Basic(y)) => x == y,
-        (ObType::Array(n, x), ObType::Array(m, y)) => *n == *m && same(x.get(), y.get()),
-        (ObType::Open(x), ObType::Open(y)) => same(x.get(), y.get()),
-        (ObType::Record(x), ObType::Record(y)) => {
-            same_record(&x.name, &y.name) && same_fields(x.fields.as_slice(), y.fields.as_slice())
-        }
+    match (left.form(), right.form()) {
+        (Form::Basic(x), Form::Basic(y)) => x == y,
+        (Form::Array(n, x), Form::Array(m, y)) => *n == *m && same(x.get(), y.get()),
+        (Form::Open(x), Form::Open(y)) => same(x.get(), y.get()),
+        (Form::Record(x), Form::Record(y)) => same_record(x.get(), y.get()),
         _ => false,
+    }
+}
+
+/// The same of records: by their words, where both have them.
+#[cycle(same)]
+#[tactic(auto, using(crate::proofs::Measures::fields_size))]
+fn same_record(left: &RecordType, right: &RecordType) -> bool
+    ensures { result ≡ spec.same (OfRecord left.now) (OfRecord right.now) }
+{
+    if !same_declaration(left.name(), right.name()) {
+        return false;
+    }
+    match (left.words(), right.words()) {
+        (Some(words), Some(others)) => words == others,
+        _ => same_fields(left.fields(), right.fields()),
     }
 }
 
@@ -44,13 +60,9 @@ fn same_fields(left: &[Field], right: &[Field]) -> bool
 fn same_field(left: &Field, right: &Field) -> bool
     ensures { result ≡ spec.same_field left.now right.now }
 {
-    left.name.same(&right.name) && left.exported == right.exported && same(&left.of, &right.of)
-}
-
-fn same_record(left: &Shared<RecordName>, right: &Shared<RecordName>) -> bool
-    ensures { result ≡ spec.same_record left.now right.now }
-{
-    same_declaration(left.get(), right.get())
+    left.name().same(right.name())
+        && left.exported() == right.exported()
+        && same(left.of(), right.of())
 }
 
 fn same_declaration(left: &RecordName, right: &RecordName) -> bool
@@ -81,8 +93,8 @@ fn base_among(fields: &[Field]) -> Option<&ObType>
 {
     match fields {
         [first, ..] => {
-            if first.name.as_slice().is_empty() {
-                Some(&first.of)
+            if first.name().as_slice().is_empty() {
+                Some(first.of())
             } else {
                 None
             }
@@ -96,9 +108,9 @@ fn base_among(fields: &[Field]) -> Option<&ObType>
 pub fn base_of(of: &ObType) -> Option<&ObType>
     ensures { option_map (λ t. t.now) result ≡ spec.base_of of.now }
 {
-    match of {
-        ObType::Record(record) => base_among(record.fields.as_slice()),
-        ObType::Basic(_) | ObType::Array(_, _) | ObType::Open(_) => None,
+    match of.form() {
+        Form::Record(record) => base_among(record.get().fields()),
+        Form::Basic(_) | Form::Array(_, _) | Form::Open(_) => None,
     }
 }
 
@@ -119,8 +131,8 @@ pub fn extends(to: &ObType, from: &ObType) -> bool
 fn is_number(of: &ObType) -> bool
     ensures { result ≡ spec.is_number of.now }
 {
-    match of {
-        ObType::Basic(Basic::Integer | Basic::Byte) => true,
+    match of.form() {
+        Form::Basic(Basic::Integer | Basic::Byte) => true,
         _ => false,
     }
 }
@@ -136,8 +148,8 @@ pub fn assignable(to: &ObType, from: &ObType) -> bool
 fn is_char(of: &ObType) -> bool
     ensures { result ≡ spec.is_char of.now }
 {
-    match of {
-        ObType::Basic(Basic::Char) => true,
+    match of.form() {
+        Form::Basic(Basic::Char) => true,
         _ => false,
     }
 }
@@ -147,10 +159,10 @@ fn is_char(of: &ObType) -> bool
 pub fn string_assignable(to: &ObType, length: usize) -> bool
     ensures { result ≡ spec.string_assignable to.now length }
 {
-    match to {
-        ObType::Basic(Basic::Char) => length == 1,
-        ObType::Array(size, element) => is_char(element.get()) && length < *size as usize,
-        ObType::Open(element) => is_char(element.get()),
+    match to.form() {
+        Form::Basic(Basic::Char) => length == 1,
+        Form::Array(size, element) => is_char(element.get()) && length < *size as usize,
+        Form::Open(element) => is_char(element.get()),
         _ => false,
     }
 }

@@ -3,7 +3,8 @@
 ghost use Rattle.std.specs.Prelude.{◌≡◌, IfOk};
 
 use crate::exports::{Constant, Formal, Signature};
-use crate::structure::{ObType, RecordName, RecordType};
+use crate::form::{Form, ObType};
+use crate::structure::RecordName;
 use ob_base::{Items, Text};
 use std::alloc::{AllocError, Global};
 
@@ -37,22 +38,13 @@ impl ObType {
     pub fn another(&self) -> Result<ObType, AllocError>
         ensures { IfOk result (λ c. c ≡ self.now) }
     {
-        match self {
-            ObType::Basic(basic) => Ok(ObType::Basic(*basic)),
-            ObType::Array(length, element) => Ok(ObType::Array(*length, element.another()?)),
-            ObType::Open(element) => Ok(ObType::Open(element.another()?)),
-            ObType::Record(record) => Ok(ObType::Record(record.another()?)),
-        }
-    }
-}
-
-impl RecordType {
-    fn another(&self) -> Result<RecordType, AllocError>
-        ensures { IfOk result (λ c. c ≡ self.now) }
-    {
-        let name = self.name.another()?;
-        let fields = self.fields.another()?;
-        Ok(RecordType { name, fields })
+        let form = match &self.form {
+            Form::Basic(basic) => Form::Basic(*basic),
+            Form::Array(length, element) => Form::Array(*length, element.another()?),
+            Form::Open(element) => Form::Open(element.another()?),
+            Form::Record(record) => Form::Record(record.another()?),
+        };
+        Ok(ObType { form })
     }
 }
 

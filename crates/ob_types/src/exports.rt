@@ -1,6 +1,7 @@
 //! What a module shows to others.
 
-use crate::structure::{Basic, ObType};
+use crate::form::ObType;
+use crate::structure::Basic;
 use ob_base::{Items, Text};
 
 /// The value of a constant.

@@ -6,7 +6,7 @@ ghost use Rattle.ob_types.specs.Numbered as spec;
 use crate::alike::{alike, same_below};
 use crate::compatible::same;
 use crate::exports::{Exported, Formal, Object};
-use crate::structure::ObType;
+use crate::form::ObType;
 use ob_base::Items;
 use std::alloc::{AllocError, Global};
 use std::marker::Model;

@@ -1,5 +1,4 @@
-//! Types, written out: an alias is the type that it stands for. Types share their parts, so that one more use of a type takes
-//! no copy of them.
+//! Types as contracts see them: written out, so that an alias is the type that it stands for.
 
 use ob_base::{Items, Shared, SharedItems, Text};
 

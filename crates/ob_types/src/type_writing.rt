@@ -4,7 +4,8 @@ ghost use Rattle.std.specs.Prelude.{◌≡◌, ◌++◌, string_bytes, OnOk};
 ghost use Rattle.std.specs.Fmt.{decimal};
 ghost use Rattle.ob_types.specs.InterfaceText as spec;
 
-use crate::structure::{Basic, Field, ObType, RecordName, RecordType};
+use crate::form::{Field, Form, ObType, RecordType};
+use crate::structure::{Basic, RecordName};
 use itoa::Buffer;
 use ob_base::Text;
 use std::alloc::AllocError;
@@ -83,33 +84,35 @@ fn put_label(output: &mut String, name: &Text, exported: bool) -> Result<(), All
 
 /// Appends a type.
 #[cycle(type_writing)]
+#[tactic(auto, using(crate::proofs::Measures::array_size, crate::proofs::Measures::open_size))]
 pub fn put_type(output: &mut String, of: &ObType) -> Result<(), AllocError>
     ensures { OnOk result (string_bytes output.new ≡ string_bytes output.old ++ spec.type_text of.now) }
 {
-    match of {
-        ObType::Basic(basic) => put_basic(output, *basic),
-        ObType::Array(length, element) => {
+    match of.form() {
+        Form::Basic(basic) => put_basic(output, *basic),
+        Form::Array(length, element) => {
             output.push('A')?;
             put_number(output, *length)?;
             output.push(' ')?;
             put_type(output, element.get())
         }
-        ObType::Open(element) => {
+        Form::Open(element) => {
             output.push('O')?;
             put_type(output, element.get())
         }
-        ObType::Record(record) => put_record(output, record),
+        Form::Record(record) => put_record(output, record.get()),
     }
 }
 
 #[cycle(type_writing)]
+#[tactic(auto, using(crate::proofs::Measures::fields_size))]
 fn put_record(output: &mut String, of: &RecordType) -> Result<(), AllocError>
     ensures { OnOk result (string_bytes output.new ≡ string_bytes output.old ++ spec.record_text of.now) }
 {
     output.push('R')?;
-    put_record_name(output, of.name.get())?;
+    put_record_name(output, of.name())?;
     output.push('(')?;
-    put_fields(output, of.fields.as_slice())?;
+    put_fields(output, of.fields())?;
     output.push(')')
 }
 
@@ -127,7 +130,7 @@ fn put_fields(output: &mut String, fields: &[Field]) -> Result<(), AllocError>
 fn put_field(output: &mut String, field: &Field) -> Result<(), AllocError>
     ensures { OnOk result (string_bytes output.new ≡ string_bytes output.old ++ spec.field_text field.now) }
 {
-    put_label(output, &field.name, field.exported)?;
-    put_type(output, &field.of)?;
+    put_label(output, field.name(), field.exported())?;
+    put_type(output, field.of())?;
     output.push(';')
 }

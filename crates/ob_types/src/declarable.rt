@@ -3,10 +3,12 @@
 ghost use Rattle.std.specs.Prelude.{◌≡◌, ◌&&◌, nat_le};
 ghost use Rattle.std.specs.List.{list_all};
 ghost use Rattle.ob_types.specs.Types.{max_cells};
-ghost use Rattle.ob_check_kinds.specs.Declarable as spec;
+ghost use Rattle.ob_types.specs.Declarable as spec;
 
+use crate::form::{Field, Form, ObType};
+use crate::size::{MAX_CELLS, is_admitted};
+use crate::structure::RecordName;
 use ob_base::Text;
-use ob_types::{Field, MAX_CELLS, ObType, RecordName, is_admitted};
 
 fn is_word(name: &Text) -> bool
     ensures { result ≡ spec.is_word name.now }
@@ -30,7 +32,7 @@ fn all_words(names: &[Text]) -> bool
     true
 }
 
-fn are_words(name: &RecordName) -> bool
+pub(crate) fn are_words(name: &RecordName) -> bool
     ensures { result ≡ spec.are_words name.now }
 {
     is_word(&name.module_name) && all_words(name.enclosing.as_slice()) && is_word(&name.declared)
@@ -39,9 +41,9 @@ fn are_words(name: &RecordName) -> bool
 fn is_record(of: &ObType) -> bool
     ensures { result ≡ spec.is_record of.now }
 {
-    match of {
-        ObType::Record(_) => true,
-        ObType::Basic(_) | ObType::Array(_, _) | ObType::Open(_) => false,
+    match of.form() {
+        Form::Record(_) => true,
+        Form::Basic(_) | Form::Array(_, _) | Form::Open(_) => false,
     }
 }
 
@@ -62,30 +64,26 @@ fn has_length(length: u32) -> bool
 }
 
 /// Whether the names in a type are words and its arrays have elements.
-#[cycle(plain)]
-#[tactic(auto, using(crate::proofs::DeclarableForms::plain_array, crate::proofs::DeclarableForms::plain_open, crate::proofs::DeclarableForms::plain_record))]
+#[tactic(auto, using(crate::proofs::Measures::array_size, crate::proofs::Measures::open_size, crate::proofs::DeclarableForms::plain_array, crate::proofs::DeclarableForms::plain_open))]
 fn is_plain(of: &ObType) -> bool
     ensures { result ≡ spec.is_plain of.now }
 {
-    match of {
-        ObType::Basic(_) => true,
-        ObType::Array(length, element) => has_length(*length) && is_plain(element.get()),
-        ObType::Open(element) => is_plain(element.get()),
-        ObType::Record(record) => {
-            are_words(record.name.get()) && are_plain(record.fields.as_slice())
-        }
+    match of.form() {
+        Form::Basic(_) => true,
+        Form::Array(length, element) => has_length(*length) && is_plain(element.get()),
+        Form::Open(element) => is_plain(element.get()),
+        Form::Record(record) => record.get().is_plain(),
     }
 }
 
-#[cycle(plain)]
 fn is_plain_field(field: &Field) -> bool
     ensures { result ≡ (spec.is_labelled field.now.name field.now.of && spec.is_plain field.now.of) }
 {
-    is_labelled(&field.name, &field.of) && is_plain(&field.of)
+    is_labelled(field.name(), field.of()) && is_plain(field.of())
 }
 
-#[cycle(plain)]
-fn are_plain(fields: &[Field]) -> bool
+/// Whether the names in fields are words and their arrays have elements.
+pub(crate) fn are_plain(fields: &[Field]) -> bool
     ensures { result ≡ spec.plain_fields fields.now }
 {
     for field in fields {
@@ -97,7 +95,7 @@ fn are_plain(fields: &[Field]) -> bool
 }
 
 /// Whether a declaration can make a type.
-pub(crate) fn is_declarable(of: &ObType) -> bool
+pub fn is_declarable(of: &ObType) -> bool
     ensures { result ≡ spec.is_declarable of.now }
 {
     is_admitted(of) && is_plain(of)

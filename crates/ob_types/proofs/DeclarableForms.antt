@@ -6,7 +6,7 @@ use Rattle.ob_types.specs.declared.structure.ObType.TheBlock.{Row_of-Field, end_
 use Rattle.ob_types.specs.declared.structure.ObType.TheVariants.{Array, Open, Record}
 use Rattle.ob_types.specs.declared.structure.RecordType.{RecordType, RecordType', out-RecordType}
 use Rattle.ob_types.specs.Types.{max_cells}
-use Rattle.ob_check_kinds.specs.Declarable.{is_labelled, are_words, is_plain, are_plain, plain_fields}
+use Rattle.ob_types.specs.Declarable.{is_labelled, are_words, is_plain, are_plain, plain_fields}
 
 pub plain_array : (n : ℕ) (e : ObType) → is_plain (Array n e) ≡ (nat_le 1 n && nat_le n max_cells && is_plain e)
 unfolding Rattle.ob_types.specs.declared.structure.ObType.TheBlock.hidden-the_row-ObType-0 denote.Hole.Carrier.hidden
