@@ -72,6 +72,21 @@ impl Model for Block {
     ghost invariant = { λ b. IsIndex b.places b.declared.items };
 }
 
+/// So few declarations are looked through, which takes less time than the map.
+const FEW: usize = 4;
+
+/// What a name stands for among these.
+fn find_among<'a>(declared: &'a [Declared], name: &Text) -> Option<&'a Entry>
+    ensures { option_copied result ≡ find declared.now name.now }
+{
+    for each in declared {
+        if each.name.same(name) {
+            return Some(&each.entry);
+        }
+    }
+    None
+}
+
 impl Block {
     /// No declaration.
     pub fn new(alloc: Global) -> Block
@@ -92,6 +107,17 @@ impl Block {
 
     /// What a name stands for, if the block declares it.
     pub fn find(&self, name: &Text) -> Option<&Entry>
+        ensures { option_copied result ≡ find self.now name.now }
+    {
+        if self.declared.len() <= FEW {
+            find_among(self.declared.as_slice(), name)
+        } else {
+            self.find_placed(name)
+        }
+    }
+
+    /// The same by the map.
+    fn find_placed(&self, name: &Text) -> Option<&Entry>
         ensures { option_copied result ≡ find self.now name.now }
     {
         match self.places.get(name.as_slice()) {

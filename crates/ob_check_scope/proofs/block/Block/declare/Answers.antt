@@ -3,7 +3,8 @@ use Rattle.std.specs.Str.{bytes_eq}
 use Rattle.std.specs.HashMap.{get_by}
 use Rattle.ob_check_scope.specs.Block.{find, place_of}
 use Rattle.ob_check_scope.specs.declared.block.Declared.{Declared}
-use Rattle.ob_check_scope.proofs.Index.{updated, place_more, none_placed}
+use Rattle.ob_types.proofs.PlaceMaps.{updated}
+use Rattle.ob_check_scope.proofs.Index.{place_more, none_placed}
 use Rattle.ob_check_scope.proofs.block.Block.declare.Goals as goal
 
 pub invariant_of-self-2 : goal.invariant_of-self-2

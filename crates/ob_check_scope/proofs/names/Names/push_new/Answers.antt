@@ -2,7 +2,7 @@ use Rattle.std.proofs.Common.{rules, ◌≡◌, false, Some, sym, ◌∙◌, ap,
 use Rattle.std.specs.Str.{bytes_eq}
 use Rattle.std.specs.HashMap.{get_by}
 use Rattle.ob_check_scope.specs.Names.{place_in, is_among}
-use Rattle.ob_check_scope.proofs.Index.{updated}
+use Rattle.ob_types.proofs.PlaceMaps.{updated}
 use Rattle.ob_check_scope.proofs.Places.{place_more, not_placed}
 use Rattle.ob_check_scope.proofs.names.Names.push_new.Goals as goal
 

@@ -1,7 +1,7 @@
 use Rattle.std.proofs.Common.{rules, ◌≡◌, ◌<◌, Some, None, sym, ◌∙◌, ap, length}
 use Rattle.ob_check_scope.specs.Block.{find, place_of}
 use Rattle.ob_check_scope.proofs.Index.{found_at, in_range, none_found}
-use Rattle.ob_check_scope.proofs.block.Block.find.Goals as goal
+use Rattle.ob_check_scope.proofs.block.Block.find_placed.Goals as goal
 
 pub index-requires : goal.index-requires
 index-requires c =
