@@ -14,7 +14,7 @@ use ob_check_scope::rule::RuleCode;
 use ob_check_scope::scope::Scope;
 use ob_scan::Span;
 use ob_tree::tree::{Ident, Qualident};
-use ob_types::{ObType, Object};
+use ob_types::{Form, ObType, Object};
 
 /// A name of a type as it is written: a name, or that of a module and one in it.
 #[derive(Clone, Copy)]
@@ -39,7 +39,7 @@ fn predeclared_type(predeclared: Predeclared, span: Span) -> Result<ObType, Reje
     ensures { Judges (spec.predeclared_type predeclared) result }
 {
     match predeclared {
-        Predeclared::Basic(basic) => Ok(ObType::Basic(basic)),
+        Predeclared::Basic(basic) => Ok(ObType::basic(basic)),
         _ => Err(Rejected::Rule(broken(absent(predeclared), span))),
     }
 }
@@ -140,8 +140,8 @@ pub fn type_named(
 pub fn is_record(of: &ObType) -> bool
     ensures { result ≡ spec.is_record of.now }
 {
-    match of {
-        ObType::Record(_) => true,
-        ObType::Basic(_) | ObType::Array(_, _) | ObType::Open(_) => false,
+    match of.form() {
+        Form::Record(_) => true,
+        Form::Basic(_) | Form::Array(_, _) | Form::Open(_) => false,
     }
 }

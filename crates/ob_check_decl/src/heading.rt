@@ -9,7 +9,7 @@ ghost use Rattle.ob_check_decl.specs.Headings as spec;
 
 use crate::declaration::new_name;
 use crate::written_type::type_in_heading;
-use ob_base::{Boxed, Items, Shared};
+use ob_base::{Boxed, Items};
 use ob_check_scope::block::{Block, Entry, Standing};
 use ob_check_scope::imports::Imports;
 use ob_check_scope::names::Names;
@@ -19,7 +19,7 @@ use ob_check_scope::scope::Scope;
 use ob_check_scope::site::Site;
 use ob_scan::Span;
 use ob_tree::tree::{FormalSection, FormalType, Formals, Ident, Procedure, Qualident};
-use ob_types::{Basic, Formal, FormalKind, ObType, Signature, is_admitted};
+use ob_types::{Basic, Form, Formal, FormalKind, ObType, Signature, is_admitted};
 use std::alloc::Global;
 
 /// The formal parameters so far, and the block that they make.
@@ -48,7 +48,7 @@ pub struct Entered {
 fn open_of(alloc: Global, element: ObType, span: Span) -> Result<ObType, Rejected>
     ensures { Judges (spec.open_of element) result }
 {
-    let of = ObType::Open(Shared::new(alloc, element)?);
+    let of = ObType::open(alloc, element)?;
     if !is_admitted(&of) {
         return Err(Rejected::Rule(broken(RuleCode::Size, span)));
     }
@@ -108,8 +108,8 @@ fn standing_of(by_reference: bool, of: &ObType, number: usize) -> Standing
     if by_reference {
         return Standing::ByParameter(number);
     }
-    match of {
-        ObType::Basic(_) => Standing::Local(number),
+    match of.form() {
+        Form::Basic(_) => Standing::Local(number),
         _ => Standing::ReadOnly(number),
     }
 }
@@ -223,8 +223,8 @@ fn sections(site: Site<'_>, list: &[FormalSection]) -> Result<Parameters, Reject
 fn basic_of(of: &ObType, span: Span) -> Result<Basic, Rejected>
     ensures { Judges (spec.basic_of of.now) result }
 {
-    match of {
-        ObType::Basic(basic) => Ok(*basic),
+    match of.form() {
+        Form::Basic(basic) => Ok(*basic),
         _ => Err(Rejected::Rule(broken(RuleCode::Parameters, span))),
     }
 }

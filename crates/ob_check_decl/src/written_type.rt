@@ -9,7 +9,7 @@ ghost use Rattle.ob_check_decl.specs.WrittenTypes as spec;
 ghost use Rattle.ob_types.specs.declared.structure.ObType.{out-ObType};
 ghost use Rattle.ob_types.specs.Types.{chain};
 
-use ob_base::{Items, Shared, SharedItems, Text};
+use ob_base::{Items, Text};
 use ob_check_const::constant::constant;
 use ob_check_const::named_type::{is_record, name_of_type, qualified, type_named};
 use ob_check_scope::block::Block;
@@ -22,8 +22,8 @@ use ob_check_scope::site::Site;
 use ob_scan::Span;
 use ob_tree::tree::{Expr, IdentDef, Qualident, TypeExpr, TypedNames};
 use ob_types::{
-    Constant, Field, MAX_CELLS, MAX_LEVELS, ObType, RecordName, RecordType, base_of, is_admitted,
-    levels, zero_size,
+    Constant, Field, Form, MAX_CELLS, MAX_LEVELS, ObType, RecordName, base_of, is_admitted, levels,
+    zero_size,
 };
 use std::alloc::{AllocError, Global};
 
@@ -123,7 +123,7 @@ fn lengths_of(site: Site<'_>, list: &[Expr]) -> Result<Items<u32>, Rejected>
 fn array_of(alloc: Global, element: ObType, length: u32, span: Span) -> Result<ObType, Rejected>
     ensures { Judges (spec.array_of element length) result }
 {
-    let of = ObType::Array(length, Shared::new(alloc, element)?);
+    let of = ObType::array(alloc, length, element)?;
     if !is_admitted(&of) {
         return Err(Rejected::Rule(broken(RuleCode::Size, span)));
     }
@@ -189,11 +189,11 @@ fn push_fields(
 {
     let mut so_far = first;
     for name in names {
-        let field = Field {
-            name: name.name.name.copy(alloc)?,
-            exported: name.mark.is_some(),
-            of: of.another()?,
-        };
+        let field = Field::new(
+            name.name.name.copy(alloc)?,
+            name.mark.is_some(),
+            of.another()?,
+        );
         so_far.push(field)?;
     }
     Ok(so_far)
@@ -219,7 +219,7 @@ fn push_names(alloc: Global, first: Names, fields: &[Field]) -> Result<Names, Al
 {
     let mut so_far = first;
     for field in fields {
-        so_far.push(alloc, &field.name)?;
+        so_far.push(alloc, field.name())?;
     }
     Ok(so_far)
 }
@@ -227,9 +227,9 @@ fn push_names(alloc: Global, first: Names, fields: &[Field]) -> Result<Names, Al
 fn own_names(alloc: Global, first: Names, of: &ObType) -> Result<Names, AllocError>
     ensures { IfOk result (λ names. names ≡ first ++ spec.names_layer (out-ObType of.now)) }
 {
-    match of {
-        ObType::Record(record) => push_names(alloc, first, record.fields.as_slice()),
-        ObType::Basic(_) | ObType::Array(_, _) | ObType::Open(_) => Ok(first),
+    match of.form() {
+        Form::Record(record) => push_names(alloc, first, record.get().fields()),
+        Form::Basic(_) | Form::Array(_, _) | Form::Open(_) => Ok(first),
     }
 }
 
@@ -264,11 +264,8 @@ fn extended(
         Some(cells) => {
             let names = inherited(alloc, Names::new(alloc), &of)?;
             let mut fields = Items::new(alloc);
-            fields.push(Field {
-                name: Text::from_vec(Vec::new(alloc)),
-                exported: false,
-                of,
-            })?;
+            let base = Field::new(Text::from_vec(Vec::new(alloc)), false, of);
+            fields.push(base)?;
             Ok(Fields {
                 names,
                 fields,
@@ -353,10 +350,9 @@ fn record_type(
 {
     let first = begun(site, records + 1, span, base)?;
     let all = all_fields(site, naming, first, span, list)?;
-    let name = Shared::new(site.alloc, numbered(site.alloc, naming, records)?)?;
-    let fields = SharedItems::new(site.alloc, all.fields)?;
+    let name = numbered(site.alloc, naming, records)?;
     Ok(Written {
-        of: ObType::Record(RecordType { name, fields }),
+        of: ObType::record(site.alloc, name, all.fields)?,
         records: all.records,
     })
 }

@@ -13,7 +13,7 @@ use ob_check_scope::rejected::{Rejected, broken};
 use ob_check_scope::rule::RuleCode;
 use ob_mean::{Operation, Operator, TypedExpr, UnaryOperator};
 use ob_scan::Span;
-use ob_types::{Basic, ObType};
+use ob_types::{Basic, Form, ObType};
 use std::alloc::Global;
 use std::mem::drop;
 
@@ -30,9 +30,9 @@ fn ordinal_of(operand: Operand) -> Option<TypedExpr>
 fn is_array(of: &ObType) -> bool
     ensures { result ≡ spec.is_array of.now }
 {
-    match of {
-        ObType::Array(_, _) | ObType::Open(_) => true,
-        ObType::Basic(_) | ObType::Record(_) => false,
+    match of.form() {
+        Form::Array(_, _) | Form::Open(_) => true,
+        Form::Basic(_) | Form::Record(_) => false,
     }
 }
 

@@ -12,7 +12,7 @@ use ob_check_scope::rule::RuleCode;
 use ob_check_strings::Variables;
 use ob_mean::{Designator, TypedExpr, UnaryOperator, Variable};
 use ob_scan::Span;
-use ob_types::{Basic, Constant, ObType};
+use ob_types::{Basic, Constant, Form, ObType};
 use std::alloc::Global;
 
 /// What an expression is.
@@ -165,9 +165,9 @@ pub fn operand_of_constant(alloc: Global, constant: &Constant) -> Result<Operand
 pub fn operand_of_variable(of: &ObType, place: Designator) -> Result<Operand, Rejected>
     ensures { Judges (Given (spec.operand_of_variable of.now place)) result }
 {
-    match of {
-        ObType::Basic(basic) => Ok(Operand::Value(*basic, TypedExpr::Read(place))),
-        ObType::Array(_, _) | ObType::Open(_) | ObType::Record(_) => {
+    match of.form() {
+        Form::Basic(basic) => Ok(Operand::Value(*basic, TypedExpr::Read(place))),
+        Form::Array(_, _) | Form::Open(_) | Form::Record(_) => {
             Ok(Operand::Place(of.another()?, place))
         }
     }
@@ -177,8 +177,8 @@ pub fn operand_of_variable(of: &ObType, place: Designator) -> Result<Operand, Re
 pub fn is_char(of: &ObType) -> bool
     ensures { result ≡ is_char of.now }
 {
-    match of {
-        ObType::Basic(Basic::Char) => true,
+    match of.form() {
+        Form::Basic(Basic::Char) => true,
         _ => false,
     }
 }
@@ -187,9 +187,9 @@ pub fn is_char(of: &ObType) -> bool
 pub fn is_text(of: &ObType) -> bool
     ensures { result ≡ spec.is_text of.now }
 {
-    match of {
-        ObType::Array(_, element) | ObType::Open(element) => is_char(element.get()),
-        ObType::Basic(_) | ObType::Record(_) => false,
+    match of.form() {
+        Form::Array(_, element) | Form::Open(element) => is_char(element.get()),
+        Form::Basic(_) | Form::Record(_) => false,
     }
 }
 

@@ -17,15 +17,15 @@ use ob_check_scope::rule::RuleCode;
 use ob_check_strings::Variables;
 use ob_mean::Argument;
 use ob_scan::Span;
-use ob_types::{FormalKind, ObType, same};
+use ob_types::{Form, FormalKind, ObType, same};
 use std::alloc::{AllocError, Global};
 
 fn has_elements(element: &ObType, of: &ObType) -> bool
     ensures { result ≡ spec.has_elements element.now of.now }
 {
-    match of {
-        ObType::Array(_, other) | ObType::Open(other) => same(element, other.get()),
-        ObType::Basic(_) | ObType::Record(_) => false,
+    match of.form() {
+        Form::Array(_, other) | Form::Open(other) => same(element, other.get()),
+        Form::Basic(_) | Form::Record(_) => false,
     }
 }
 
@@ -73,8 +73,8 @@ fn variable_passed(
 ) -> Result<(Option<Argument>, Variables), AllocError>
     ensures { IfOk result (λ p. (p.0 ≡ spec.variable_passed kind formal.now at.0 at.1 at.3) × (p.1 ≡ at.2)) }
 {
-    match formal {
-        ObType::Open(element) => {
+    match formal.form() {
+        Form::Open(element) => {
             let (of, place, variables, _) = at;
             if has_elements(element.get(), &of) {
                 Ok((Some(Argument::Open(place)), variables))
@@ -82,11 +82,11 @@ fn variable_passed(
                 Ok((None, variables))
             }
         }
-        ObType::Record(_) => match kind {
+        Form::Record(_) => match kind {
             FormalKind::Variable => record_named(formal, at),
             FormalKind::Value => record_part(alloc, formal, at),
         },
-        ObType::Basic(_) | ObType::Array(_, _) => {
+        Form::Basic(_) | Form::Array(_, _) => {
             let (of, place, variables, _) = at;
             if same(formal, &of) {
                 Ok((Some(Argument::Place(place)), variables))
@@ -162,25 +162,22 @@ fn text_passed(
 ) -> Result<(Argument, Variables), Rejected>
     ensures { Judges (spec.text_passed variables formal.now text) result }
 {
-    match formal {
-        ObType::Array(length, element) => {
+    match formal.form() {
+        Form::Array(length, element) => {
             if is_char(element.get()) {
                 fixed_text(variables, text, *length, span)
             } else {
                 Err(Rejected::Rule(broken(RuleCode::Parameters, span)))
             }
         }
-        ObType::Open(element) => {
+        Form::Open(element) => {
             if is_char(element.get()) {
                 hidden_open(variables, text, span)
             } else {
                 Err(Rejected::Rule(broken(RuleCode::Parameters, span)))
             }
         }
-        ObType::Basic(_) | ObType::Record(_) => Err(Rejected::Rule(broken(
-            RuleCode::Parameters,
-            span,
-        ))),
+        Form::Basic(_) | Form::Record(_) => Err(Rejected::Rule(broken(RuleCode::Parameters, span))),
     }
 }
 
@@ -222,12 +219,12 @@ pub fn value_passed(
 ) -> Result<(Argument, Variables), Rejected>
     ensures { Judges (spec.value_passed variables formal.now span.line alone operand) result }
 {
-    match formal {
-        ObType::Basic(basic) => {
+    match formal.form() {
+        Form::Basic(basic) => {
             let value = value_for(alloc, *basic, operand, span)?;
             Ok((Argument::Value(value), variables))
         }
-        ObType::Array(_, _) | ObType::Open(_) | ObType::Record(_) => {
+        Form::Array(_, _) | Form::Open(_) | Form::Record(_) => {
             structure_passed(alloc, variables, formal, alone, operand, span)
         }
     }

@@ -4,6 +4,7 @@ ghost use Rattle.std.specs.Prelude.{◌≡◌, IfOk, option_map};
 ghost use Rattle.ob_check_scope.specs.declared.rule.RuleCode.TheVariants as code;
 ghost use Rattle.ob_check_scope.specs.Rule.{Judges, there};
 ghost use Rattle.ob_types.specs.declared.structure.ObType.{out-ObType};
+ghost use Rattle.ob_types.specs.declared.structure.ObType.TheOpen.{ObType-F};
 ghost use Rattle.ob_types.specs.Types.{chain};
 ghost use Rattle.ob_check_const.specs.NamedTypes.{written};
 ghost use Rattle.ob_check_operand.specs.Mapped.{result_map};
@@ -20,21 +21,20 @@ use ob_check_strings::Variables;
 use ob_mean::{Designator, TypedExpr};
 use ob_scan::Span;
 use ob_tree::tree::Ident;
-use ob_types::{Basic, Field, ObType, base_of, same};
+use ob_types::{Basic, Field, Form, ObType, RecordType, base_of, same};
 use std::alloc::{AllocError, Global};
 
 /// A variable or a part of one: its type, its place, the variables of the module so far, and whether a type is told of it.
 pub type Selected = (ObType, Designator, Variables, bool);
 
-fn field_in<'a>(fields: &'a [Field], name: &Text) -> Option<(usize, &'a Field)>
-    ensures { option_map (λ p. (p.0, p.1.now)) result ≡ spec.field_from 0 fields.now name.now }
+/// The field of a name among a record's own: the module of the record, its number, and the field.
+fn field_in<'a>(record: &'a RecordType, name: &Text) -> Option<(&'a Text, usize, &'a Field)>
+    ensures { option_map (λ p. (p.0.now, p.1, p.2.now)) result ≡ spec.own_layer (ObType-F.Record record.now) name.now }
 {
-    for i in 0..fields.len() {
-        if fields[i].name.same(name) {
-            return Some((i, &fields[i]));
-        }
+    match record.place_of(name) {
+        Some(number) => Some((&record.name().module_name, number, &record.fields()[number])),
+        None => None,
     }
-    None
 }
 
 fn no_field(own: bool) -> RuleCode
@@ -47,18 +47,13 @@ fn no_field(own: bool) -> RuleCode
     }
 }
 
-/// The field of a name among a record's own: the module of the record, its number, and the field.
+/// The same of a type, which may be no record.
 fn own_field<'a>(of: &'a ObType, name: &Text) -> Option<(&'a Text, usize, &'a Field)>
     ensures { option_map (λ p. (p.0.now, p.1, p.2.now)) result ≡ spec.own_layer (out-ObType of.now) name.now }
 {
-    match of {
-        ObType::Record(record) => {
-            match field_in(record.fields.as_slice(), name) {
-                Some((number, field)) => Some((&record.name.get().module_name, number, field)),
-                None => None,
-            }
-        }
-        ObType::Basic(_) | ObType::Array(_, _) | ObType::Open(_) => None,
+    match of.form() {
+        Form::Record(record) => field_in(record.get(), name),
+        Form::Basic(_) | Form::Array(_, _) | Form::Open(_) => None,
     }
 }
 
@@ -99,8 +94,8 @@ fn seen_field<'a>(
     match found {
         None => Err(Rejected::Rule(broken(no_field(own), span))),
         Some((home, field, place)) => {
-            if home.same(&scope.module_name) || field.exported {
-                Ok((&field.of, place))
+            if home.same(&scope.module_name) || field.exported() {
+                Ok((field.of(), place))
             } else {
                 Err(Rejected::Rule(broken(RuleCode::NotExported, span)))
             }
@@ -119,13 +114,13 @@ pub fn field_of<'a>(
 ) -> Result<(&'a ObType, Designator), Rejected>
     ensures { Judges (spec.field_of scope.now of.now name.now.name place) (result_map (λ p. (p.0.now, p.1)) result) }
 {
-    match of {
-        ObType::Record(record) => {
-            let own = record.name.get().module_name.same(&scope.module_name);
+    match of.form() {
+        Form::Record(record) => {
+            let own = record.get().name().module_name.same(&scope.module_name);
             let found = field_along(alloc, of, &name.name, place)?;
             seen_field(scope, own, found, name.span)
         }
-        ObType::Basic(_) | ObType::Array(_, _) | ObType::Open(_) => {
+        Form::Basic(_) | Form::Array(_, _) | Form::Open(_) => {
             Err(Rejected::Rule(broken(RuleCode::Types, name.span)))
         }
     }
@@ -157,9 +152,9 @@ pub fn part_as(
 pub fn element_of<'a>(of: &'a ObType, span: Span) -> Result<&'a ObType, Rejected>
     ensures { Judges (there (spec.element_of of.now) code.Types) (result_map (λ t. t.now) result) }
 {
-    match of {
-        ObType::Array(_, element) | ObType::Open(element) => Ok(element.get()),
-        ObType::Basic(_) | ObType::Record(_) => Err(Rejected::Rule(broken(RuleCode::Types, span))),
+    match of.form() {
+        Form::Array(_, element) | Form::Open(element) => Ok(element.get()),
+        Form::Basic(_) | Form::Record(_) => Err(Rejected::Rule(broken(RuleCode::Types, span))),
     }
 }
 

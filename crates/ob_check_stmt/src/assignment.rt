@@ -15,15 +15,15 @@ use ob_check_strings::Variables;
 use ob_mean::{Action, Designator as Place};
 use ob_scan::Span;
 use ob_tree::tree::{Designator, Expr};
-use ob_types::{Basic, ObType, string_assignable};
+use ob_types::{Basic, Form, ObType, string_assignable};
 use std::alloc::Global;
 
 /// The basic type that a type is.
 fn basic_of(of: &ObType) -> Option<Basic>
     ensures { result ≡ spec.basic_of of.now }
 {
-    match of {
-        ObType::Basic(basic) => Some(*basic),
+    match of.form() {
+        Form::Basic(basic) => Some(*basic),
         _ => None,
     }
 }
@@ -31,8 +31,8 @@ fn basic_of(of: &ObType) -> Option<Basic>
 fn is_open(of: &ObType) -> bool
     ensures { result ≡ spec.is_open of.now }
 {
-    match of {
-        ObType::Open(_) => true,
+    match of.form() {
+        Form::Open(_) => true,
         _ => false,
     }
 }
@@ -40,8 +40,8 @@ fn is_open(of: &ObType) -> bool
 fn is_array(of: &ObType) -> bool
     ensures { result ≡ spec.is_array of.now }
 {
-    match of {
-        ObType::Array(_, _) | ObType::Open(_) => true,
+    match of.form() {
+        Form::Array(_, _) | Form::Open(_) => true,
         _ => false,
     }
 }

@@ -16,7 +16,7 @@ use ob_check_strings::Variables;
 use ob_mean::{ForHead as TypedHead, Variable};
 use ob_scan::Span;
 use ob_tree::tree::{Expr, ForHead, Ident};
-use ob_types::{Basic, Constant, ObType};
+use ob_types::{Basic, Constant, Form, ObType};
 
 /// What is broken where nothing declares the name of a variable.
 fn absent_variable(before: Predeclared) -> RuleCode
@@ -32,8 +32,8 @@ fn absent_variable(before: Predeclared) -> RuleCode
 fn is_integer(of: &ObType) -> bool
     ensures { result ≡ spec.is_integer of.now }
 {
-    match of {
-        ObType::Basic(Basic::Integer) => true,
+    match of.form() {
+        Form::Basic(Basic::Integer) => true,
         _ => false,
     }
 }

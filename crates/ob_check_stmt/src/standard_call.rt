@@ -9,7 +9,7 @@ ghost use Rattle.ob_check_scope.specs.Sites.{on};
 ghost use Rattle.ob_mean.specs.declared.statement.OutputCall.TheVariants as output;
 ghost use Rattle.ob_check_stmt.specs.StandardCalls as spec;
 
-use ob_base::{Boxed, Items, Shared};
+use ob_base::{Boxed, Items};
 use ob_check_expr::{actual, number, truth};
 use ob_check_scope::Site;
 use ob_check_scope::predeclared::{InputName, OutputName, ProperProcedure};
@@ -27,7 +27,7 @@ fn value_formal(basic: Basic) -> Formal
 {
     Formal {
         kind: FormalKind::Value,
-        of: ObType::Basic(basic),
+        of: ObType::basic(basic),
     }
 }
 
@@ -36,7 +36,7 @@ fn variable_formal(basic: Basic) -> Formal
 {
     Formal {
         kind: FormalKind::Variable,
-        of: ObType::Basic(basic),
+        of: ObType::basic(basic),
     }
 }
 
@@ -44,7 +44,7 @@ fn variable_formal(basic: Basic) -> Formal
 fn text_variable(alloc: Global) -> Result<Formal, AllocError>
     ensures { IfOk result (λ f. f ≡ spec.text_variable) }
 {
-    let of = ObType::Open(Shared::new(alloc, ObType::Basic(Basic::Char))?);
+    let of = ObType::open(alloc, ObType::basic(Basic::Char))?;
     Ok(Formal {
         kind: FormalKind::Variable,
         of,
@@ -55,7 +55,7 @@ fn text_variable(alloc: Global) -> Result<Formal, AllocError>
 fn text_value(alloc: Global) -> Result<Formal, AllocError>
     ensures { IfOk result (λ f. f ≡ spec.text_value) }
 {
-    let of = ObType::Open(Shared::new(alloc, ObType::Basic(Basic::Char))?);
+    let of = ObType::open(alloc, ObType::basic(Basic::Char))?;
     Ok(Formal {
         kind: FormalKind::Value,
         of,
