@@ -14,7 +14,7 @@ use ob_mean::{
 };
 use ob_parse::parse_text;
 use ob_tree::tree::{Cell, Designator as Written, Expr, Module, Statement};
-use ob_types::{Basic, Formal, FormalKind, ObType};
+use ob_types::{Basic, Form, Formal, FormalKind, ObType};
 use std::alloc::Global;
 use std::test::Fail;
 
@@ -249,8 +249,8 @@ fn numbers_and_characters(rt: HostRuntime) -> Result<(), Fail> {
 }
 
 fn is_char(of: &ObType) -> bool {
-    match of {
-        ObType::Basic(Basic::Char) => true,
+    match of.form() {
+        Form::Basic(Basic::Char) => true,
         _ => false,
     }
 }
@@ -381,7 +381,7 @@ fn is_passed(alloc: Global, scope: &Scope, d: &Written, e: &Expr) -> Result<bool
     let imports = Imports::empty(alloc);
     let formal = Formal {
         kind: FormalKind::Variable,
-        of: ObType::Basic(Basic::Integer),
+        of: ObType::basic(Basic::Integer),
     };
     let none = Variables::new(alloc);
     let (passed, _) = actual(

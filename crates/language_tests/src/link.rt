@@ -42,7 +42,7 @@ fn key(alloc: Global, name: &[u8], shown: Shown) -> Result<Key, AllocError> {
     match shown {
         Shown::Nothing => {}
         Shown::Variable => {
-            let variable = Object::Variable(ObType::Basic(Basic::Integer));
+            let variable = Object::Variable(ObType::basic(Basic::Integer));
             add(alloc, &mut exports, b"x", variable)?;
         }
     }
@@ -185,7 +185,7 @@ fn procedure(alloc: Global, parameters: usize, basic: Option<Basic>) -> Result<O
     for _parameter in 0..parameters {
         formals.push(Formal {
             kind: FormalKind::Value,
-            of: ObType::Basic(Basic::Integer),
+            of: ObType::basic(Basic::Integer),
         })?;
     }
     let signature = Signature {
@@ -211,7 +211,7 @@ fn exports(alloc: Global) -> Result<Items<Exported>, AllocError> {
     let mut exports = Items::new(alloc);
     let function = procedure(alloc, 0, Some(Basic::Integer))?;
     add(alloc, &mut exports, b"F", function)?;
-    let variable = Object::Variable(ObType::Basic(Basic::Integer));
+    let variable = Object::Variable(ObType::basic(Basic::Integer));
     add(alloc, &mut exports, b"x", variable)?;
     let passed = procedure(alloc, 1, None)?;
     add(alloc, &mut exports, b"Q", passed)?;

@@ -1,9 +1,9 @@
 //! Types and the texts of interfaces.
 
-use ob_base::{Items, Shared, SharedItems, Text};
+use ob_base::{Items, Text};
 use ob_types::{
-    Basic, Constant, Exported, Field, Formal, FormalKind, Interface, ObType, Object, RecordName,
-    RecordType, Signature, assignable, extends, interface_text, is_admitted, levels, same,
+    Basic, Constant, Exported, Field, Form, Formal, FormalKind, Interface, ObType, Object,
+    RecordName, Signature, assignable, extends, interface_text, is_admitted, levels, same,
     string_assignable, zero_size,
 };
 use std::alloc::{AllocError, Global};
@@ -14,23 +14,11 @@ fn text(alloc: Global, chars: &[u8]) -> Result<Text, AllocError> {
 }
 
 fn integer() -> ObType {
-    ObType::Basic(Basic::Integer)
-}
-
-fn array(alloc: Global, length: u32, element: ObType) -> Result<ObType, AllocError> {
-    Ok(ObType::Array(length, Shared::new(alloc, element)?))
-}
-
-fn open(alloc: Global, element: ObType) -> Result<ObType, AllocError> {
-    Ok(ObType::Open(Shared::new(alloc, element)?))
+    ObType::basic(Basic::Integer)
 }
 
 fn field(alloc: Global, name: &[u8], exported: bool, of: ObType) -> Result<Field, AllocError> {
-    Ok(Field {
-        name: text(alloc, name)?,
-        exported,
-        of,
-    })
+    Ok(Field::new(text(alloc, name)?, exported, of))
 }
 
 /// The record type T of a module.
@@ -46,9 +34,7 @@ fn record(
         declared: text(alloc, b"T")?,
         before,
     };
-    let name = Shared::new(alloc, name)?;
-    let fields = SharedItems::new(alloc, fields)?;
-    Ok(ObType::Record(RecordType { name, fields }))
+    ObType::record(alloc, name, fields)
 }
 
 /// `RECORD a: INTEGER END` of a module N.
@@ -77,7 +63,7 @@ fn exported(alloc: Global, name: &[u8], object: Object) -> Result<Exported, Allo
 fn deep(alloc: Global, levels: u32) -> Result<ObType, AllocError> {
     let mut of = integer();
     for _ in 0..levels {
-        of = array(alloc, 1, of)?;
+        of = ObType::array(alloc, 1, of)?;
     }
     Ok(of)
 }
@@ -144,7 +130,7 @@ fn two_formals(alloc: Global) -> Result<Signature, AllocError> {
     })?;
     formals.push(Formal {
         kind: FormalKind::Value,
-        of: open(alloc, ObType::Basic(Basic::Char))?,
+        of: ObType::open(alloc, ObType::basic(Basic::Char))?,
     })?;
     Ok(Signature {
         formals,
@@ -177,7 +163,11 @@ fn lines_of_constants(rt: HostRuntime) -> Result<(), Fail> {
 #[test]
 fn lines_of_types_and_procedures(rt: HostRuntime) -> Result<(), Fail> {
     let alloc = rt.alloc();
-    let rows = array(alloc, 2, array(alloc, 3, ObType::Basic(Basic::Byte))?)?;
+    let rows = ObType::array(
+        alloc,
+        2,
+        ObType::array(alloc, 3, ObType::basic(Basic::Byte))?,
+    )?;
     assert!(rt;
         has_line(
             alloc,
@@ -210,14 +200,20 @@ fn sized(of: Result<ObType, AllocError>) -> Result<(u32, u32, bool), AllocError>
 
 /// An array of arrays of INTEGER.
 fn square(alloc: Global, rows: u32, columns: u32) -> Result<ObType, AllocError> {
-    array(alloc, rows, array(alloc, columns, integer())?)
+    ObType::array(alloc, rows, ObType::array(alloc, columns, integer())?)
 }
 
 #[test]
 fn cells_and_levels_at_their_limits(rt: HostRuntime) -> Result<(), Fail> {
     let alloc = rt.alloc();
-    assert_eq!(rt; sized(array(alloc, 65_536, integer()))?, (65_536, 1, true));
-    assert_eq!(rt; sized(array(alloc, 65_537, integer()))?, (65_537, 1, false));
+    assert_eq!(rt;
+        sized(ObType::array(alloc, 65_536, integer()))?,
+        (65_536, 1, true)
+    );
+    assert_eq!(rt;
+        sized(ObType::array(alloc, 65_537, integer()))?,
+        (65_537, 1, false)
+    );
     assert_eq!(rt; sized(square(alloc, 256, 257))?, (65_792, 2, false));
     assert_eq!(rt; sized(square(alloc, 65_536, 65_536))?, (u32::MAX, 2, false));
     assert_eq!(rt;
@@ -225,7 +221,7 @@ fn cells_and_levels_at_their_limits(rt: HostRuntime) -> Result<(), Fail> {
         (1, 1, true)
     );
     assert_eq!(rt; sized(extension(alloc))?, (2, 2, true));
-    assert_eq!(rt; sized(open(alloc, integer()))?, (1, 1, true));
+    assert_eq!(rt; sized(ObType::open(alloc, integer()))?, (1, 1, true));
     assert_eq!(rt; sized(deep(alloc, 200))?, (1, 200, true));
     assert_eq!(rt; sized(deep(alloc, 201))?, (1, 201, false));
     Ok(())
@@ -262,8 +258,18 @@ fn types_are_the_same_by_name_and_structure(rt: HostRuntime) -> Result<(), Fail>
             record_of_one(alloc, b"a", true)
         )?
     );
-    assert!(rt; !are_same(array(alloc, 2, integer()), array(alloc, 3, integer()))?);
-    assert!(rt; !are_same(open(alloc, integer()), array(alloc, 3, integer()))?);
+    assert!(rt;
+        !are_same(
+            ObType::array(alloc, 2, integer()),
+            ObType::array(alloc, 3, integer())
+        )?
+    );
+    assert!(rt;
+        !are_same(
+            ObType::open(alloc, integer()),
+            ObType::array(alloc, 3, integer())
+        )?
+    );
     Ok(())
 }
 
@@ -278,6 +284,68 @@ fn names_of_records_are_compared(rt: HostRuntime) -> Result<(), Fail> {
     assert!(rt; are_same(empty(alloc, b"N", 0), empty(alloc, b"N", 0))?);
     assert!(rt; !are_same(empty(alloc, b"N", 0), empty(alloc, b"N", 1))?);
     assert!(rt; !are_same(empty(alloc, b"N", 0), empty(alloc, b"M", 0))?);
+    Ok(())
+}
+
+/// A record of a module N with 40 fields `a`, and then one of this name and mark.
+fn long(alloc: Global, last: &[u8], exported: bool) -> Result<ObType, AllocError> {
+    let mut fields = Items::new(alloc);
+    for _ in 0..40 {
+        fields.push(field(alloc, b"a", false, integer())?)?;
+    }
+    fields.push(field(alloc, last, exported, integer())?)?;
+    record(alloc, b"N", 0, fields)
+}
+
+/// A type that is doubled so often, so that it has more words than are kept.
+fn doubled(alloc: Global, first: ObType, times: u32) -> Result<ObType, AllocError> {
+    let mut of = first;
+    for i in 0..times {
+        let mut fields = Items::new(alloc);
+        fields.push(field(alloc, b"a", false, of.another()?)?)?;
+        fields.push(field(alloc, b"b", false, of)?)?;
+        of = record(alloc, b"M", i, fields)?;
+    }
+    Ok(of)
+}
+
+/// The same of the record of one field of this name.
+fn doubled_one(alloc: Global, name: &[u8]) -> Result<ObType, AllocError> {
+    let first = record_of_one(alloc, name, false)?;
+    doubled(alloc, first, 8)
+}
+
+#[test]
+fn large_types_are_compared_to_the_end(rt: HostRuntime) -> Result<(), Fail> {
+    let alloc = rt.alloc();
+    assert!(rt; are_same(long(alloc, b"b", false), long(alloc, b"b", false))?);
+    assert!(rt; !are_same(long(alloc, b"b", false), long(alloc, b"c", false))?);
+    assert!(rt; !are_same(long(alloc, b"b", false), long(alloc, b"b", true))?);
+    assert!(rt; are_same(doubled_one(alloc, b"x"), doubled_one(alloc, b"x"))?);
+    assert!(rt; !are_same(doubled_one(alloc, b"x"), doubled_one(alloc, b"y"))?);
+    assert_eq!(rt; sized(doubled_one(alloc, b"x"))?, (256, 9, true));
+    Ok(())
+}
+
+/// The place of a field among those of a record.
+fn place(alloc: Global, of: &ObType, name: &[u8]) -> Result<Option<usize>, AllocError> {
+    let name = text(alloc, name)?;
+    Ok(match of.form() {
+        Form::Record(record) => record.get().place_of(&name),
+        _ => None,
+    })
+}
+
+#[test]
+fn fields_by_their_places(rt: HostRuntime) -> Result<(), Fail> {
+    let alloc = rt.alloc();
+    let many = long(alloc, b"b", false)?;
+    assert_eq!(rt; place(alloc, &many, b"a")?, Some(0));
+    assert_eq!(rt; place(alloc, &many, b"b")?, Some(40));
+    assert_eq!(rt; place(alloc, &many, b"c")?, None);
+    let few = record_of_one(alloc, b"a", false)?;
+    assert_eq!(rt; place(alloc, &few, b"a")?, Some(0));
+    assert_eq!(rt; place(alloc, &few, b"b")?, None);
     Ok(())
 }
 
@@ -304,26 +372,26 @@ fn what_extends_a_type(rt: HostRuntime) -> Result<(), Fail> {
 
 #[test]
 fn what_may_be_assigned(rt: HostRuntime) -> Result<(), Fail> {
-    let byte = ObType::Basic(Basic::Byte);
+    let byte = ObType::basic(Basic::Byte);
     let number = integer();
     assert!(rt; assignable(&byte, &number));
     assert!(rt; assignable(&number, &byte));
-    assert!(rt; !assignable(&number, &ObType::Basic(Basic::Boolean)));
-    assert!(rt; !assignable(&ObType::Basic(Basic::Char), &byte));
+    assert!(rt; !assignable(&number, &ObType::basic(Basic::Boolean)));
+    assert!(rt; !assignable(&ObType::basic(Basic::Char), &byte));
     Ok(())
 }
 
 /// Whether a string of so many characters may be assigned to an array of so many characters.
 fn fits(alloc: Global, elements: u32, length: usize) -> Result<bool, AllocError> {
-    let of = array(alloc, elements, ObType::Basic(Basic::Char))?;
+    let of = ObType::array(alloc, elements, ObType::basic(Basic::Char))?;
     Ok(string_assignable(&of, length))
 }
 
 #[test]
 fn strings_that_may_be_assigned(rt: HostRuntime) -> Result<(), Fail> {
     let alloc = rt.alloc();
-    assert!(rt; string_assignable(&ObType::Basic(Basic::Char), 1));
-    assert!(rt; !string_assignable(&ObType::Basic(Basic::Char), 2));
+    assert!(rt; string_assignable(&ObType::basic(Basic::Char), 1));
+    assert!(rt; !string_assignable(&ObType::basic(Basic::Char), 2));
     assert!(rt; fits(alloc, 3, 2)?);
     assert!(rt; !fits(alloc, 3, 3)?);
     Ok(())
