@@ -4,12 +4,13 @@ pub mod Numbering
 pub mod Numbers
 pub mod SameType
 pub mod DeclarableForms
-pub mod WordForms
+pub mod SpellingForms
 pub mod Rolled
 pub mod Layers
 pub mod PlaceMaps
 pub mod FieldPlaces
-pub mod WordsApart
+pub mod SpellingApart
+pub mod FieldEnds
 pub mod Signatures
 pub mod TextEquations
 pub mod Texts

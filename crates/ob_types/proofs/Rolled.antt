@@ -1,14 +1,15 @@
 -- What is known of a record by its name and its fields is so of the type.
-use Rattle.std.proofs.Common.{◌≡◌, ◌+◌, max, ap, ◌∙◌}
+use Rattle.std.proofs.Common.{◌≡◌, ◌+◌, ℕ, List, max, ap, sym, subst, ◌∙◌}
 use Rattle.std.specs.Prelude.{◌&&◌}
+use Rattle.ob_types.specs.declared.structure.Field.{Field}
+use Rattle.ob_types.specs.declared.structure.RecordName.{RecordName}
 use Rattle.ob_types.specs.declared.structure.ObType.TheVariants.{Record}
 use Rattle.ob_types.specs.declared.structure.RecordType.{out-RecordType, roll-RecordType, out-roll-RecordType}
 use Rattle.ob_types.specs.Types.{cells, cells_in, levels, levels_in}
 use Rattle.ob_types.specs.Declarable.{is_plain, are_words, plain_fields}
-use Rattle.ob_types.specs.Words.{type_words, record_words}
+use Rattle.ob_types.specs.Spelling.{AreFirst}
 use Rattle.ob_types.proofs.Equations.{cells_record, levels_record}
 use Rattle.ob_types.proofs.DeclarableForms.{plain_record}
-use Rattle.ob_types.proofs.WordForms.{words_record}
 
 pub cells_rolled : (r : _) → cells (Record (roll-RecordType r)) ≡ max 1 (cells_in r.fields)
 cells_rolled r = cells_record (roll-RecordType r) ∙ ap (λ x. max 1 (cells_in x.fields)) (out-roll-RecordType r)
@@ -19,8 +20,8 @@ levels_rolled r = levels_record (roll-RecordType r) ∙ ap (λ x. levels_in x.fi
 pub plain_rolled : (r : _) → is_plain (Record (roll-RecordType r)) ≡ (are_words r.name && plain_fields r.fields)
 plain_rolled r = plain_record (roll-RecordType r) ∙ ap (λ x. are_words x.name && plain_fields x.fields) (out-roll-RecordType r)
 
-pub words_rolled : (r : _) → type_words (Record (roll-RecordType r)) ≡ record_words r.name r.fields
-words_rolled r = words_record (roll-RecordType r) ∙ ap (λ x. record_words x.name x.fields) (out-roll-RecordType r)
+pub firsts_rolled : (name : RecordName) (fields : List Field) (firsts : List ℕ) → AreFirst firsts fields → AreFirst firsts (out-RecordType (roll-RecordType (record { name = name; fields = fields }))).fields
+firsts_rolled name fields firsts h = subst (λ fs. AreFirst firsts fs) (sym (ap (λ x. x.fields) (out-roll-RecordType (record { name = name; fields = fields })))) h
 
 pub parts_rolled : (r : _) → out-RecordType (roll-RecordType r) ≡ r
 parts_rolled r = out-roll-RecordType r

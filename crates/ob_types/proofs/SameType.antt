@@ -12,7 +12,7 @@ use Rattle.ob_types.specs.declared.structure.ObType.{ObType, end_of-ObType, more
 use Rattle.ob_types.specs.declared.structure.ObType.TheBlock.{Row_of-Field, end_of-Field, more_of-Field, items-the_row-Field, items_shown-the_row-Field-1}
 use Rattle.ob_types.specs.declared.structure.ObType.TheVariants.{Basic as OfBasic, Array, Open, Array', Open', Record}
 use Rattle.ob_types.specs.declared.structure.RecordType.{RecordType, RecordType', out-RecordType, roll-RecordType, roll-out-RecordType}
-use Rattle.ob_types.specs.Types.{same, same_fields, same_basic, same_truth, same_record}
+use Rattle.ob_types.specs.Types.{same, same_field, same_fields, same_basic, same_truth, same_record}
 
 first_holds : (a b : Bool) → (a && b) ≡ true → a ≡ true
 first_holds true b h = refl
@@ -86,7 +86,7 @@ name_true x y h =
     let k = number_true x.before y.before (second_holds (bytes_eq x.module_name y.module_name && pointwise bytes_eq x.enclosing y.enclosing && bytes_eq x.declared y.declared) (nat_eq x.before y.before) h) in
     λ i. record { module_name = e i; enclosing = f i; declared = g i; before = k i }
 
-name_own : (x : RecordName) → same_record x x ≡ true
+pub name_own : (x : RecordName) → same_record x x ≡ true
 name_own x = both_hold _ _ (both_hold _ _ (both_hold _ _ (text_own x.module_name) (texts_own x.enclosing)) (text_own x.declared)) (number_own x.before)
 
 pub record_equal : (r s : RecordType) → (out-RecordType r).name ≡ (out-RecordType s).name → (out-RecordType r).fields ≡ (out-RecordType s).fields → Record r ≡ Record s
@@ -145,3 +145,6 @@ mutual
   fields_own k end_of-Field = refl
   fields_own k (more_of-Field x e a xs) =
       both_hold (bytes_eq x x && same_truth e e && same a a) (same_fields xs xs) (both_hold (bytes_eq x x && same_truth e e) (same a a) (both_hold (bytes_eq x x) (same_truth e e) (text_own x) (truth_own e)) (same_own a)) (fields_own _ xs)
+
+pub field_own : (f : Field) → same_field f f ≡ true
+field_own f = both_hold _ _ (both_hold _ _ (text_own f.name) (truth_own f.exported)) (same_own f.of)

@@ -16,7 +16,7 @@ use Rattle.ob_types.specs.declared.form.Form.{Form}
 use Rattle.ob_types.specs.declared.form.Form.TheVariants as form
 use Rattle.ob_types.specs.Types.{cells_in, levels_in}
 use Rattle.ob_types.specs.Declarable.{are_words, plain_fields}
-use Rattle.ob_types.specs.Words.{record_words}
+use Rattle.ob_types.specs.Spelling.{record_spelled, AreFirst}
 
 -- the type of a form
 abbrev pub type_of : Form → ObType
@@ -47,5 +47,6 @@ AreFacts facts name fields =
     (facts.cells ≡ min (max 1 (cells_in fields)) 4294967295)
     × (facts.levels ≡ min (levels_in fields + 1) 4294967295)
     × (facts.plain ≡ (are_words name && plain_fields fields))
-    × IfSome facts.words (λ w. w.items ≡ record_words name fields)
+    × (facts.spelling.items ≡ record_spelled name fields)
+    × AreFirst facts.firsts.items fields
     × IfSome facts.places (λ p. IsIndexFrom 0 p fields)

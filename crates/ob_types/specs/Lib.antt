@@ -1,6 +1,6 @@
 pub mod Types
 pub mod Declarable
-pub mod Words
+pub mod Spelling
 pub mod Sizes
 pub mod Forms
 pub mod InterfaceTree

@@ -2,13 +2,13 @@
 
 ghost use Rattle.std.specs.Prelude.{◌≡◌, option_map};
 ghost use Rattle.std.specs.Cmp.Lexicographic.{pointwise};
-ghost use Rattle.std.specs.Str.{bytes_eq};
 ghost use Rattle.ob_types.specs.declared.structure.ObType.TheVariants.{Record as OfRecord};
+ghost use Rattle.ob_types.specs.Spelling.{AreAlike, AreFirst};
 ghost use Rattle.ob_types.specs.Types as spec;
 
+use crate::firsts::passes;
 use crate::form::{Field, Form, ObType, RecordType};
-use crate::structure::{Basic, RecordName};
-use ob_base::Text;
+use crate::structure::Basic;
 
 /// Whether two types are the same: basic types by name, arrays by length and element, open arrays by element, records by
 /// name and written-out structure.
@@ -26,62 +26,30 @@ pub fn same(left: &ObType, right: &ObType) -> bool
     }
 }
 
-/// The same of records: by their words, where both have them.
+/// The same of records: they are spelled alike, and the records in them are the same.
 #[cycle(same)]
-#[tactic(auto, using(crate::proofs::Measures::fields_size))]
-fn same_record(left: &RecordType, right: &RecordType) -> bool
+#[tactic(auto, using(crate::proofs::Measures::fields_fall))]
+pub(crate) fn same_record(left: &RecordType, right: &RecordType) -> bool
     ensures { result ≡ spec.same (OfRecord left.now) (OfRecord right.now) }
 {
-    if !same_declaration(left.name(), right.name()) {
-        return false;
-    }
-    match (left.words(), right.words()) {
-        (Some(words), Some(others)) => words == others,
-        _ => same_fields(left.fields(), right.fields()),
-    }
+    left.spelling() == right.spelling()
+        && same_fields(left.fields(), right.fields(), left.firsts(), right.firsts())
 }
 
+/// Whether fields that are spelled alike are the same. One that ends on both sides with the record of a field before it is passed
+/// over.
 #[cycle(same)]
-fn same_fields(left: &[Field], right: &[Field]) -> bool
+fn same_fields(left: &[Field], right: &[Field], firsts: &[usize], others: &[usize]) -> bool
+    requires alike { AreAlike left.now right.now }
+    requires firsts { AreFirst firsts.now left.now }
+    requires others { AreFirst others.now right.now }
     ensures { result ≡ pointwise spec.same_field left.now right.now }
 {
-    if left.len() != right.len() {
-        return false;
-    }
     for i in 0..left.len() {
-        if !same_field(&left[i], &right[i]) {
-            return false;
+        if passes(firsts, others, i) {
+            continue;
         }
-    }
-    true
-}
-
-#[cycle(same)]
-fn same_field(left: &Field, right: &Field) -> bool
-    ensures { result ≡ spec.same_field left.now right.now }
-{
-    left.name().same(right.name())
-        && left.exported() == right.exported()
-        && same(left.of(), right.of())
-}
-
-fn same_declaration(left: &RecordName, right: &RecordName) -> bool
-    ensures { result ≡ spec.same_record left.now right.now }
-{
-    left.module_name.same(&right.module_name)
-        && same_names(left.enclosing.as_slice(), right.enclosing.as_slice())
-        && left.declared.same(&right.declared)
-        && left.before == right.before
-}
-
-fn same_names(left: &[Text], right: &[Text]) -> bool
-    ensures { result ≡ pointwise bytes_eq left.now right.now }
-{
-    if left.len() != right.len() {
-        return false;
-    }
-    for i in 0..left.len() {
-        if !left[i].same(&right[i]) {
+        if !same(left[i].of(), right[i].of()) {
             return false;
         }
     }

@@ -52,8 +52,10 @@ pub struct Facts {
     pub(crate) levels: u32,
     /// Whether the names in it are words and its arrays have elements.
     pub(crate) plain: bool,
-    /// The type as words, which are another type's nowhere, where they are not too many.
-    pub(crate) words: Option<Vec<u16>>,
+    /// How it is spelled: which records that are spelled alike are one, the records in them decide.
+    pub(crate) spelling: Vec<u16>,
+    /// For each field the number of one that ends with the same record, where two may.
+    pub(crate) firsts: Vec<usize>,
     /// The first place of each name among the fields, where they are many.
     pub(crate) places: Option<HashMap<Vec<u8>, usize>>,
 }

@@ -1,10 +1,11 @@
 //! What is known of a record type.
 
-ghost use Rattle.std.specs.Prelude.{◌≡◌, IfSome, min};
+ghost use Rattle.std.specs.Prelude.{◌≡◌, min};
 ghost use Rattle.ob_types.specs.declared.structure.ObType.TheVariants.{Record as OfRecord};
 ghost use Rattle.ob_types.specs.Types.{cells, levels};
 ghost use Rattle.ob_types.specs.Declarable as spec;
-ghost use Rattle.ob_types.specs.Words.{type_words};
+ghost use Rattle.ob_types.specs.Spelling.{record_spelled, AreFirst};
+ghost use Rattle.ob_types.specs.declared.structure.RecordType.{out-RecordType};
 
 use crate::form::RecordType;
 
@@ -33,14 +34,19 @@ impl RecordType {
         self.facts.plain
     }
 
-    /// It as words, where they are not too many.
-    #[tactic(auto, using(crate::proofs::Rolled::words_rolled))]
-    pub(crate) fn words(&self) -> Option<&[u16]>
-        ensures { IfSome result (λ w. w.now ≡ type_words (OfRecord self.now)) }
+    /// How it is spelled.
+    #[tactic(auto, using(crate::proofs::Rolled::parts_rolled))]
+    pub(crate) fn spelling(&self) -> &[u16]
+        ensures { result.now ≡ record_spelled (out-RecordType self.now).name (out-RecordType self.now).fields }
     {
-        match &self.facts.words {
-            Some(words) => Some(words.as_slice()),
-            None => None,
-        }
+        self.facts.spelling.as_slice()
+    }
+
+    /// For each field the number of one that ends with the same record, where two may.
+    #[tactic(auto, using(crate::proofs::Rolled::firsts_rolled))]
+    pub(crate) fn firsts(&self) -> &[usize]
+        ensures { AreFirst result.now (out-RecordType self.now).fields }
+    {
+        self.facts.firsts.as_slice()
     }
 }

@@ -7,6 +7,7 @@ mod copies;
 mod declarable;
 mod exports;
 mod facts;
+mod firsts;
 mod form;
 mod interface_writing;
 mod key;
@@ -17,9 +18,9 @@ mod numbered;
 mod parts;
 mod places;
 mod size;
+mod spelling;
 mod structure;
 mod type_writing;
-mod words;
 
 pub use compatible::{assignable, base_of, extends, same, string_assignable};
 pub use declarable::is_declarable;

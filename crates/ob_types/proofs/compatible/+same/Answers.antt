@@ -1,12 +1,13 @@
-use Rattle.std.proofs.Common.{◌&&◌, sym, ap, ◌∙◌, arith}
+use Rattle.std.proofs.Common.{◌<◌, ◌&&◌, length, get_or, rules, refl, subst, sym, ap, ◌∙◌, arith}
 use Rattle.std.specs.Cmp.Lexicographic.{pointwise}
-use Rattle.ob_types.specs.Types.{same, same_field, same_record}
-use Rattle.ob_types.specs.declared.structure.ObType.TheVariants.{Array, Open, Record}
+use Rattle.ob_types.specs.Types.{same, same_field}
+use Rattle.ob_types.specs.declared.structure.ObType.TheVariants.{Array, Open}
 use Rattle.ob_types.specs.declared.structure.RecordType.{out-RecordType}
 use Rattle.ob_types.specs.Forms.{type_of}
-use Rattle.ob_types.proofs.Equations.{same_array, same_open, equal, unequal, apart_array, apart_open, names_differ, fields_decide}
+use Rattle.ob_types.proofs.Equations.{same_array, same_open, equal, unequal, apart_array, apart_open}
+use Rattle.ob_types.specs.Spelling.{AreAlike, AreFirst}
 use Rattle.ob_types.proofs.Measures.{fields_fall}
-use Rattle.ob_types.proofs.WordsApart.{words_same}
+use Rattle.ob_types.proofs.FieldEnds.{alike_long, all_passed, ends_more, ends_same, fields_same, pass_one, refuse_one, spelled_equal, spelled_unequal}
 use Rattle.ob_types.proofs.compatible.+same.Goals as goal
 
 pub same-returns-then-n-m : goal.same-returns-then-n-m
@@ -47,28 +48,80 @@ same-returns-in_default-3 t c =
     ∙ ap (same (Open c.in_default.field-0-0)) c.form-2.ensures.whole
     ∙ ap (λ a. same a c.args.right.now) (ap type_of (sym c.in_default.is-0) ∙ c.form.ensures.whole)
 
-pub same_record-returns-then-not-same_declaration : goal.same_record-returns-then-not-same_declaration
-same_record-returns-then-not-same_declaration t c =
-    names_differ c.args.left.now c.args.right.now
-    (ap (same_record (out-RecordType c.args.left.now).name) (sym c.name-2.ensures)
-    ∙ ap (λ n. same_record n c.name-2.result.now) (sym c.name.ensures)
-    ∙ sym c.same_declaration.ensures ∙ c.if-not-same_declaration.true)
+pub same_fields-loop-i-preserved-then-passes : goal.same_fields-loop-i-preserved-then-passes
+same_fields-loop-i-preserved-then-passes t c =
+    let left = c.args.left.now in
+    let right = c.args.right.now in
+    let i = c.loop-i.i in
+    let within : i < length left = search rules in
+    let end = c.if-passes.ensures refl left right c.requires.firsts c.requires.others c.loop-i.invariant.ends in
+    record {
+      rest = c.loop-i.invariant.rest ∙ pass_one left right i c.requires.alike within end;
+      ends = ends_more left right i c.loop-i.invariant.ends end;
+    }
+
+pub same_fields-bounds-right-i : goal.same_fields-bounds-right-i
+same_fields-bounds-right-i t c =
+    let within : c.loop-i.i < length c.args.left.now = search rules in
+    omega (arith, within, alike_long c.args.left.now c.args.right.now c.requires.alike)
+
+pub same_fields-returns-then-not-same : goal.same_fields-returns-then-not-same
+same_fields-returns-then-not-same t c =
+    let left = c.args.left.now in
+    let right = c.args.right.now in
+    let i = c.loop-i.i in
+    let f = c.index-left-i.result in
+    let g = c.index-right-i.result in
+    let within : i < length left = search rules in
+    refuse_one left right i f g c.requires.alike within
+    (ap (λ x. same x.of (get_or right i g).of) (sym c.index-left-i.is) ∙ ap (λ y. same f.of y.of) (sym c.index-right-i.is)
+    ∙ ap (λ t. same t g.of) (sym c.of.ensures) ∙ ap (same c.of.result.now) (sym c.of-in-loop-i.ensures) ∙ sym c.same.ensures ∙ c.if-not-same.true)
+    ∙ sym c.loop-i.invariant.rest
+
+pub same_fields-loop-i-preserved : goal.same_fields-loop-i-preserved
+same_fields-loop-i-preserved t c =
+    let left = c.args.left.now in
+    let right = c.args.right.now in
+    let i = c.loop-i.i in
+    let f = c.index-left-i.result in
+    let g = c.index-right-i.result in
+    let within : i < length left = search rules in
+    let end = ends_same left right i f g c.requires.alike within
+    (ap (λ x. same x.of (get_or right i g).of) (sym c.index-left-i.is) ∙ ap (λ y. same f.of y.of) (sym c.index-right-i.is)
+    ∙ ap (λ t. same t g.of) (sym c.of.ensures) ∙ ap (same c.of.result.now) (sym c.of-in-loop-i.ensures) ∙ sym c.same.ensures ∙ c.if-not-same.false) in
+    record {
+      rest = c.loop-i.invariant.rest ∙ pass_one left right i c.requires.alike within end;
+      ends = ends_more left right i c.loop-i.invariant.ends end;
+    }
+
+pub same_fields-returns : goal.same_fields-returns
+same_fields-returns t c =
+    all_passed c.args.left.now c.args.right.now c.loop-i.i (alike_long c.args.left.now c.args.right.now c.requires.alike) (search rules)
+    ∙ sym c.loop-i.invariant.rest
 
 pub same_record-same_fields-requires : goal.same_record-same_fields-requires
 same_record-same_fields-requires t c =
-    omega (arith, fields_fall c.args.left.now c.fields.result.now c.fields.ensures, fields_fall c.args.right.now c.fields-in_default.result.now c.fields-in_default.ensures, c.decreases)
+    let left = c.args.left.now in
+    let right = c.args.right.now in
+    let alike = (spelled_equal left right c.spelling.result.now c.spelling-2.result.now c.spelling.ensures c.spelling-2.ensures (sym c.eq.ensures ∙ c.if-eq.true)).1 in (
+      omega (arith, fields_fall left c.fields.result.now c.fields.ensures, fields_fall right c.fields-then-eq.result.now c.fields-then-eq.ensures, c.decreases),
+      (
+        subst (λ fs. AreAlike fs c.fields-then-eq.result.now) (sym c.fields.ensures) (subst (λ gs. AreAlike (out-RecordType left).fields gs) (sym c.fields-then-eq.ensures) alike),
+        (subst (λ fs. AreFirst c.firsts.result.now fs) (sym c.fields.ensures) c.firsts.ensures, subst (λ fs. AreFirst c.firsts-then-eq.result.now fs) (sym c.fields-then-eq.ensures) c.firsts-then-eq.ensures),
+      ),
+    )
 
-pub same_record-returns-in-Some-Some : goal.same_record-returns-in-Some-Some
-same_record-returns-in-Some-Some t c =
-    c.eq.ensures
-    ∙ words_same (Record c.args.left.now) (Record c.args.right.now) c.in-Some-Some.words.now c.in-Some-Some.others.now c.in-Some-Some.ensures c.in-Some-Some.ensures'
-
-pub same_record-returns-in_default : goal.same_record-returns-in_default
-same_record-returns-in_default t c =
+pub same_record-returns-then-eq : goal.same_record-returns-then-eq
+same_record-returns-then-eq t c =
+    let left = c.args.left.now in
+    let right = c.args.right.now in
+    let name = (spelled_equal left right c.spelling.result.now c.spelling-2.result.now c.spelling.ensures c.spelling-2.ensures (sym c.eq.ensures ∙ c.if-eq.true)).0 in
     c.same_fields.ensures
-    ∙ ap (λ l. pointwise same_field l c.fields-in_default.result.now) c.fields.ensures
-    ∙ ap (pointwise same_field (out-RecordType c.args.left.now).fields) c.fields-in_default.ensures
-    ∙ fields_decide c.args.left.now c.args.right.now
-    (ap (same_record (out-RecordType c.args.left.now).name) (sym c.name-2.ensures)
-    ∙ ap (λ n. same_record n c.name-2.result.now) (sym c.name.ensures)
-    ∙ sym c.same_declaration.ensures ∙ c.if-not-same_declaration.false)
+    ∙ ap (λ l. pointwise same_field l c.fields-then-eq.result.now) c.fields.ensures
+    ∙ ap (pointwise same_field (out-RecordType left).fields) c.fields-then-eq.ensures
+    ∙ fields_same left right name
+
+pub same_record-returns-else-eq : goal.same_record-returns-else-eq
+same_record-returns-else-eq t c =
+    c.if-eq.false
+    ∙ spelled_unequal c.args.left.now c.args.right.now c.spelling.result.now c.spelling-2.result.now c.spelling.ensures c.spelling-2.ensures (sym c.eq.ensures ∙ c.if-eq.false)

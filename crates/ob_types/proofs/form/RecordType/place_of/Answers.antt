@@ -6,7 +6,7 @@ use Rattle.ob_types.proofs.form.RecordType.place_of.Goals as goal
 
 pub returns-in-Some-get : goal.returns-in-Some-get
 returns-in-Some-get c =
-    let index : IsIndexFrom 0 c.in-Some.places c.self.inside.fields = subst (λ o. IfSome o (λ p. IsIndexFrom 0 p c.self.inside.fields)) c.in-Some.is c.self.invariant.4 in
+    let index : IsIndexFrom 0 c.in-Some.places c.self.inside.fields = subst (λ o. IfSome o (λ p. IsIndexFrom 0 p c.self.inside.fields)) c.in-Some.is c.self.invariant.5 in
     c.in-Some-get.ensures.value
     ∙ index c.as_slice.result.now
     ∙ ap (place_from 0 c.self.inside.fields) c.as_slice.ensures
@@ -15,7 +15,7 @@ returns-in-Some-get c =
 
 pub returns-in-None-get : goal.returns-in-None-get
 returns-in-None-get c =
-    let index : IsIndexFrom 0 c.in-Some.places c.self.inside.fields = subst (λ o. IfSome o (λ p. IsIndexFrom 0 p c.self.inside.fields)) c.in-Some.is c.self.invariant.4 in
+    let index : IsIndexFrom 0 c.in-Some.places c.self.inside.fields = subst (λ o. IfSome o (λ p. IsIndexFrom 0 p c.self.inside.fields)) c.in-Some.is c.self.invariant.5 in
     c.in-None-get.ensures.value
     ∙ index c.as_slice.result.now
     ∙ ap (place_from 0 c.self.inside.fields) c.as_slice.ensures

@@ -1,0 +1,194 @@
+-- Two records that are spelled alike have one name, and fields that are alike; and where these end with the same records, they are
+-- equal.
+use Rattle.std.proofs.Common.{◌≡◌, ◌<◌, ◌+◌, ◌/◌, ◌%◌, ℕ, zero, suc, Bool, true, false, List, [], ◌∷◌, ◌++◌, Option, Some, None, refl, ap, sym, ◌∙◌, arith, append_assoc}
+use Rattle.ob_types.specs.declared.structure.Field.{Field}
+use Rattle.ob_types.specs.declared.structure.Basic.{Basic}
+use Rattle.ob_types.specs.declared.structure.Basic.TheVariants as basic
+use Rattle.ob_types.specs.declared.structure.RecordName.{RecordName}
+use Rattle.ob_types.specs.declared.structure.ObType.{ObType, end_of-ObType, more_of-ObType}
+use Rattle.ob_types.specs.declared.structure.ObType.TheVariants.{Basic as OfBasic, Array, Open, Array', Open', Record}
+use Rattle.ob_types.specs.declared.structure.RecordType.{RecordType}
+use Rattle.ob_types.specs.Spelling.{letters, number_spelled, basic_number, enclosing_spelled, name_spelled, mark, type_spelled, fields_spelled, record_spelled, end_in, Alike, AreAlike}
+
+-- ---- words in front of a list
+
+abbrev enclosing_onto : List (List ℕ) → List ℕ → List ℕ
+enclosing_onto [] r = 0 ∷ r
+enclosing_onto (p ∷ ps) r = 1 ∷ (letters p ++ (2 ∷ enclosing_onto ps r))
+
+abbrev name_onto : RecordName → List ℕ → List ℕ
+name_onto n r = letters n.module_name ++ (3 ∷ enclosing_onto n.enclosing (letters n.declared ++ (4 ∷ n.before % 65536 ∷ n.before / 65536 ∷ r)))
+
+abbrev type_onto : ObType → List ℕ → List ℕ
+type_onto (OfBasic b) r = basic_number b ∷ r
+type_onto (Array' n p (more_of-ObType element end_of-ObType)) r = 4 ∷ n % 65536 ∷ n / 65536 ∷ type_onto element r
+type_onto (Open' p (more_of-ObType element end_of-ObType)) r = 5 ∷ type_onto element r
+type_onto (Record x) r = 6 ∷ r
+
+abbrev fields_onto : List Field → List ℕ → List ℕ
+fields_onto [] r = 10 ∷ r
+fields_onto (f ∷ fs) r = letters f.name ++ (mark f.exported ∷ type_onto f.of (fields_onto fs r))
+
+enclosing_is : (ps : List (List ℕ)) (r : List ℕ) → enclosing_spelled ps ++ r ≡ enclosing_onto ps r
+enclosing_is [] r = refl
+enclosing_is (p ∷ ps) r = append_assoc (1 ∷ letters p) (2 ∷ enclosing_spelled ps) r ∙ ap (λ l. 1 ∷ (letters p ++ (2 ∷ l))) (enclosing_is ps r)
+
+name_is : (n : RecordName) (r : List ℕ) → name_spelled n ++ r ≡ name_onto n r
+name_is n r =
+    append_assoc (letters n.module_name ++ (3 ∷ enclosing_spelled n.enclosing) ++ letters n.declared) (4 ∷ number_spelled n.before) r
+    ∙ append_assoc (letters n.module_name ++ (3 ∷ enclosing_spelled n.enclosing)) (letters n.declared) ((4 ∷ number_spelled n.before) ++ r)
+    ∙ append_assoc (letters n.module_name) (3 ∷ enclosing_spelled n.enclosing) (letters n.declared ++ ((4 ∷ number_spelled n.before) ++ r))
+    ∙ ap (λ l. letters n.module_name ++ (3 ∷ l)) (enclosing_is n.enclosing (letters n.declared ++ ((4 ∷ number_spelled n.before) ++ r)))
+
+type_is : (t : ObType) (r : List ℕ) → type_spelled t ++ r ≡ type_onto t r
+type_is (OfBasic b) r = refl
+type_is (Array' n p (more_of-ObType element end_of-ObType)) r = ap (λ l. 4 ∷ n % 65536 ∷ n / 65536 ∷ l) (type_is element r)
+type_is (Open' p (more_of-ObType element end_of-ObType)) r = ap (λ l. 5 ∷ l) (type_is element r)
+type_is (Record x) r = refl
+
+fields_are : (fs : List Field) (r : List ℕ) → fields_spelled fs ++ r ≡ fields_onto fs r
+fields_are [] r = refl
+fields_are (f ∷ fs) r =
+    append_assoc (letters f.name ++ (mark f.exported ∷ type_spelled f.of)) (fields_spelled fs) r
+    ∙ append_assoc (letters f.name) (mark f.exported ∷ type_spelled f.of) (fields_spelled fs ++ r)
+    ∙ ap (λ l. letters f.name ++ (mark f.exported ∷ l)) (ap (λ l. type_spelled f.of ++ l) (fields_are fs r) ∙ type_is f.of (fields_onto fs r))
+
+-- ---- what stands in front is told apart
+
+heads : (x y : ℕ) (r s : List ℕ) → x ∷ r ≡ y ∷ s → x ≡ y
+heads x y r s h = cc
+
+tails : (x y : ℕ) (r s : List ℕ) → x ∷ r ≡ y ∷ s → r ≡ s
+tails x y r s h = cc
+
+letters_apart : (a b : List ℕ) (x y : ℕ) (r s : List ℕ) → x < 16 → y < 16 → letters a ++ (x ∷ r) ≡ letters b ++ (y ∷ s) → (a ≡ b) × (x ≡ y) × (r ≡ s)
+letters_apart [] [] x y r s lx ly h = (refl, heads x y r s h, tails x y r s h)
+letters_apart [] (d ∷ ds) x y r s lx ly h = absurd (omega (arith, lx, heads x (d + 16) r (letters ds ++ (y ∷ s)) h))
+letters_apart (c ∷ cs) [] x y r s lx ly h = absurd (omega (arith, ly, heads (c + 16) y (letters cs ++ (x ∷ r)) s h))
+letters_apart (c ∷ cs) (d ∷ ds) x y r s lx ly h =
+    let k = letters_apart cs ds x y r s lx ly (tails (c + 16) (d + 16) (letters cs ++ (x ∷ r)) (letters ds ++ (y ∷ s)) h) in
+    let e : c ≡ d = omega (arith, heads (c + 16) (d + 16) (letters cs ++ (x ∷ r)) (letters ds ++ (y ∷ s)) h) in
+    ((λ i. e i ∷ k.0 i), k.1, k.2)
+
+enclosing_apart : (xs ys : List (List ℕ)) (r s : List ℕ) → enclosing_onto xs r ≡ enclosing_onto ys s → (xs ≡ ys) × (r ≡ s)
+enclosing_apart [] [] r s h = (refl, tails 0 0 r s h)
+enclosing_apart [] (q ∷ qs) r s h = absurd (omega (arith, heads 0 1 r (letters q ++ (2 ∷ enclosing_onto qs s)) h))
+enclosing_apart (p ∷ ps) [] r s h = absurd (omega (arith, heads 1 0 (letters p ++ (2 ∷ enclosing_onto ps r)) s h))
+enclosing_apart (p ∷ ps) (q ∷ qs) r s h =
+    let k = letters_apart p q 2 2 (enclosing_onto ps r) (enclosing_onto qs s) (omega arith) (omega arith) (tails 1 1 (letters p ++ (2 ∷ enclosing_onto ps r)) (letters q ++ (2 ∷ enclosing_onto qs s)) h) in
+    let m = enclosing_apart ps qs r s k.2 in
+    ((λ i. k.0 i ∷ m.0 i), m.1)
+
+number_apart : (n m : ℕ) → n % 65536 ≡ m % 65536 → n / 65536 ≡ m / 65536 → n ≡ m
+number_apart n m e f = omega (arith, e, f)
+
+name_apart : (x y : RecordName) (r s : List ℕ) → name_onto x r ≡ name_onto y s → (x ≡ y) × (r ≡ s)
+name_apart x y r s h =
+    let a = letters_apart x.module_name y.module_name 3 3 (enclosing_onto x.enclosing (letters x.declared ++ (4 ∷ x.before % 65536 ∷ x.before / 65536 ∷ r))) (enclosing_onto y.enclosing (letters y.declared ++ (4 ∷ y.before % 65536 ∷ y.before / 65536 ∷ s))) (omega arith) (omega arith) h in
+    let b = enclosing_apart x.enclosing y.enclosing (letters x.declared ++ (4 ∷ x.before % 65536 ∷ x.before / 65536 ∷ r)) (letters y.declared ++ (4 ∷ y.before % 65536 ∷ y.before / 65536 ∷ s)) a.2 in
+    let c = letters_apart x.declared y.declared 4 4 (x.before % 65536 ∷ x.before / 65536 ∷ r) (y.before % 65536 ∷ y.before / 65536 ∷ s) (omega arith) (omega arith) b.1 in
+    let t = tails (x.before % 65536) (y.before % 65536) (x.before / 65536 ∷ r) (y.before / 65536 ∷ s) c.2 in
+    let n = number_apart x.before y.before (heads (x.before % 65536) (y.before % 65536) (x.before / 65536 ∷ r) (y.before / 65536 ∷ s) c.2) (heads (x.before / 65536) (y.before / 65536) r s t) in
+    ((λ i. record { module_name = a.0 i; enclosing = b.0 i; declared = c.0 i; before = n i }), tails (x.before / 65536) (y.before / 65536) r s t)
+
+abbrev basic_of : ℕ → Basic
+basic_of zero = basic.Integer
+basic_of (suc zero) = basic.Boolean
+basic_of (suc (suc zero)) = basic.Char
+basic_of (suc (suc (suc n))) = basic.Byte
+
+basic_back : (b : Basic) → basic_of (basic_number b) ≡ b
+basic_back basic.Integer = refl
+basic_back basic.Boolean = refl
+basic_back basic.Char = refl
+basic_back basic.Byte = refl
+
+basic_low : (b : Basic) → basic_number b < 4
+basic_low basic.Integer = omega arith
+basic_low basic.Boolean = omega arith
+basic_low basic.Char = omega arith
+basic_low basic.Byte = omega arith
+
+basic_apart : (b c : Basic) → basic_number b ≡ basic_number c → b ≡ c
+basic_apart b c e = sym (basic_back b) ∙ ap basic_of e ∙ basic_back c
+
+mark_low : (m : Bool) → mark m < 10
+mark_low true = omega arith
+mark_low false = omega arith
+
+mark_apart : (m n : Bool) → mark m ≡ mark n → m ≡ n
+mark_apart true true e = refl
+mark_apart false false e = refl
+mark_apart true false e = absurd (omega (arith, e))
+mark_apart false true e = absurd (omega (arith, e))
+
+type_apart : (a b : ObType) (r s : List ℕ) → type_onto a r ≡ type_onto b s → Alike a b × (r ≡ s)
+type_apart (OfBasic b) (OfBasic c) r s h = (basic_apart b c (heads _ _ _ _ h), tails _ _ _ _ h)
+type_apart (OfBasic b) (Array' m q (more_of-ObType y end_of-ObType)) r s h = absurd (omega (arith, basic_low b, heads _ _ _ _ h))
+type_apart (OfBasic b) (Open' q (more_of-ObType y end_of-ObType)) r s h = absurd (omega (arith, basic_low b, heads _ _ _ _ h))
+type_apart (OfBasic b) (Record y) r s h = absurd (omega (arith, basic_low b, heads _ _ _ _ h))
+type_apart (Array' n p (more_of-ObType x end_of-ObType)) (OfBasic c) r s h = absurd (omega (arith, basic_low c, heads _ _ _ _ h))
+type_apart (Array' n p (more_of-ObType x end_of-ObType)) (Array' m q (more_of-ObType y end_of-ObType)) r s h =
+    let t = tails _ _ _ _ h in
+    let u = tails _ _ _ _ t in
+    let k = type_apart x y r s (tails _ _ _ _ u) in
+    ((number_apart n m (heads _ _ _ _ t) (heads _ _ _ _ u), k.0), k.1)
+type_apart (Array' n p (more_of-ObType x end_of-ObType)) (Open' q (more_of-ObType y end_of-ObType)) r s h = absurd (omega (arith, heads 4 5 _ _ h))
+type_apart (Array' n p (more_of-ObType x end_of-ObType)) (Record y) r s h = absurd (omega (arith, heads 4 6 _ _ h))
+type_apart (Open' p (more_of-ObType x end_of-ObType)) (OfBasic c) r s h = absurd (omega (arith, basic_low c, heads _ _ _ _ h))
+type_apart (Open' p (more_of-ObType x end_of-ObType)) (Array' m q (more_of-ObType y end_of-ObType)) r s h = absurd (omega (arith, heads 5 4 _ _ h))
+type_apart (Open' p (more_of-ObType x end_of-ObType)) (Open' q (more_of-ObType y end_of-ObType)) r s h = type_apart x y r s (tails _ _ _ _ h)
+type_apart (Open' p (more_of-ObType x end_of-ObType)) (Record y) r s h = absurd (omega (arith, heads 5 6 _ _ h))
+type_apart (Record x) (OfBasic c) r s h = absurd (omega (arith, basic_low c, heads _ _ _ _ h))
+type_apart (Record x) (Array' m q (more_of-ObType y end_of-ObType)) r s h = absurd (omega (arith, heads 6 4 _ _ h))
+type_apart (Record x) (Open' q (more_of-ObType y end_of-ObType)) r s h = absurd (omega (arith, heads 6 5 _ _ h))
+type_apart (Record x) (Record y) r s h = (tt, tails _ _ _ _ h)
+
+fields_apart : (xs ys : List Field) (r s : List ℕ) → fields_onto xs r ≡ fields_onto ys s → AreAlike xs ys × (r ≡ s)
+fields_apart [] [] r s h = (tt, tails _ _ _ _ h)
+fields_apart [] (y ∷ ys) r s h =
+    let l = letters_apart [] y.name 10 (mark y.exported) r (type_onto y.of (fields_onto ys s)) (omega arith) (omega (arith, mark_low y.exported)) h in
+    absurd (omega (arith, mark_low y.exported, l.1))
+fields_apart (x ∷ xs) [] r s h =
+    let l = letters_apart x.name [] (mark x.exported) 10 (type_onto x.of (fields_onto xs r)) s (omega (arith, mark_low x.exported)) (omega arith) h in
+    absurd (omega (arith, mark_low x.exported, l.1))
+fields_apart (x ∷ xs) (y ∷ ys) r s h =
+    let l = letters_apart x.name y.name (mark x.exported) (mark y.exported) (type_onto x.of (fields_onto xs r)) (type_onto y.of (fields_onto ys s)) (omega (arith, mark_low x.exported)) (omega (arith, mark_low y.exported)) h in
+    let m = type_apart x.of y.of (fields_onto xs r) (fields_onto ys s) l.2 in
+    let n = fields_apart xs ys r s m.1 in
+    ((l.0, mark_apart x.exported y.exported l.1, m.0, n.0), n.1)
+
+pub record_apart : (x y : RecordName) (xs ys : List Field) → record_spelled x xs ≡ record_spelled y ys → (x ≡ y) × AreAlike xs ys
+record_apart x y xs ys h =
+    let shown : (n : RecordName) (fs : List Field) → record_spelled n fs ++ [] ≡ name_onto n (fields_onto fs []) =
+    λ n fs. append_assoc (name_spelled n) (fields_spelled fs) [] ∙ ap (λ l. name_spelled n ++ l) (fields_are fs []) ∙ name_is n (fields_onto fs []) in
+    let a = name_apart x y (fields_onto xs []) (fields_onto ys []) (sym (shown x xs) ∙ ap (λ l. l ++ []) h ∙ shown y ys) in
+    (a.0, (fields_apart xs ys [] [] a.1).0)
+
+-- ---- types that are alike, and end with one record
+
+abbrev record_in : RecordType → Option RecordType → RecordType
+record_in r None = r
+record_in r (Some s) = s
+
+mutual
+  unfolding Rattle.ob_types.specs.declared.structure.ObType.TheBlock.hidden-the_row-ObType-0 denote.Hole.Carrier.hidden
+
+  pub whole : (a b : ObType) → Alike a b → end_in a ≡ end_in b → a ≡ b
+  whole (OfBasic b) (OfBasic c) h e = ap OfBasic h
+  whole (OfBasic b) (Array' m q (more_of-ObType y end_of-ObType)) h e = absurd h
+  whole (OfBasic b) (Open' q (more_of-ObType y end_of-ObType)) h e = absurd h
+  whole (OfBasic b) (Record y) h e = absurd h
+  whole (Array' n p (more_of-ObType x end_of-ObType)) (OfBasic c) h e = absurd h
+  whole (Array' n p (more_of-ObType x end_of-ObType)) (Array' m q (more_of-ObType y end_of-ObType)) h e =
+      let k = whole x y h.1 e in λ i. Array (h.0 i) (k i)
+  whole (Array' n p (more_of-ObType x end_of-ObType)) (Open' q (more_of-ObType y end_of-ObType)) h e = absurd h
+  whole (Array' n p (more_of-ObType x end_of-ObType)) (Record y) h e = absurd h
+  whole (Open' p (more_of-ObType x end_of-ObType)) (OfBasic c) h e = absurd h
+  whole (Open' p (more_of-ObType x end_of-ObType)) (Array' m q (more_of-ObType y end_of-ObType)) h e = absurd h
+  whole (Open' p (more_of-ObType x end_of-ObType)) (Open' q (more_of-ObType y end_of-ObType)) h e = ap Open (whole x y h e)
+  whole (Open' p (more_of-ObType x end_of-ObType)) (Record y) h e = absurd h
+  whole (Record x) (OfBasic c) h e = absurd h
+  whole (Record x) (Array' m q (more_of-ObType y end_of-ObType)) h e = absurd h
+  whole (Record x) (Open' q (more_of-ObType y end_of-ObType)) h e = absurd h
+  whole (Record x) (Record y) h e = ap (λ o. Record (record_in x o)) e

@@ -1,6 +1,0 @@
-use Rattle.std.proofs.Common.{◌≡◌, ◌++◌, drop}
-use Rattle.ob_types.specs.Words as spec
-use Rattle.ob_types.proofs.words.put_fields.Given as goal
-
-abbrev pub invariant-loop-field : goal.invariant-loop-field
-invariant-loop-field l = l.output.items ++ spec.fields_words (drop l.field-index l.fields) ≡ l.initial.output.items ++ spec.fields_words l.fields

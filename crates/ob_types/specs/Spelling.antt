@@ -1,0 +1,86 @@
+-- A record as a list of numbers below 65,536: its name and, of each field, the name, the mark, and the type down to a basic type or
+-- a record. And where fields end with one record.
+use Rattle.std.specs.Prelude.{◌≡◌, ℕ, zero, suc, ◌+◌, ◌/◌, ◌%◌, ◌<◌, ⊤, Bool, true, false, List, [], ◌∷◌, ◌++◌, length, get_or, Option, Some, None}
+use Rattle.ob_types.specs.declared.structure.Basic.{Basic}
+use Rattle.ob_types.specs.declared.structure.Basic.TheVariants as basic
+use Rattle.ob_types.specs.declared.structure.RecordName.{RecordName}
+use Rattle.ob_types.specs.declared.structure.Field.{Field}
+use Rattle.ob_types.specs.declared.structure.ObType.{ObType, end_of-ObType, more_of-ObType}
+use Rattle.ob_types.specs.declared.structure.ObType.TheVariants.{Basic as OfBasic, Array', Open', Record}
+use Rattle.ob_types.specs.declared.structure.RecordType.{RecordType}
+
+-- the characters of a name, each above the marks, which are below 16
+abbrev pub letters : List ℕ → List ℕ
+letters [] = []
+letters (c ∷ cs) = (c + 16) ∷ letters cs
+
+abbrev pub number_spelled : ℕ → List ℕ
+number_spelled n = n % 65536 ∷ n / 65536 ∷ []
+
+abbrev pub basic_number : Basic → ℕ
+basic_number basic.Integer = 0
+basic_number basic.Boolean = 1
+basic_number basic.Char = 2
+basic_number basic.Byte = 3
+
+-- names, the last of which has 0 after it
+abbrev pub enclosing_spelled : List (List ℕ) → List ℕ
+enclosing_spelled [] = 0 ∷ []
+enclosing_spelled (p ∷ ps) = 1 ∷ letters p ++ 2 ∷ enclosing_spelled ps
+
+abbrev pub name_spelled : RecordName → List ℕ
+name_spelled r = letters r.module_name ++ 3 ∷ enclosing_spelled r.enclosing ++ letters r.declared ++ 4 ∷ number_spelled r.before
+
+abbrev pub mark : Bool → ℕ
+mark true = 9
+mark false = 8
+
+abbrev pub type_spelled : ObType → List ℕ
+type_spelled (OfBasic b) = basic_number b ∷ []
+type_spelled (Array' n p (more_of-ObType element end_of-ObType)) = 4 ∷ number_spelled n ++ type_spelled element
+type_spelled (Open' p (more_of-ObType element end_of-ObType)) = 5 ∷ type_spelled element
+type_spelled (Record r) = 6 ∷ []
+
+abbrev pub field_spelled : Field → List ℕ
+field_spelled f = letters f.name ++ mark f.exported ∷ type_spelled f.of
+
+abbrev pub fields_spelled : List Field → List ℕ
+fields_spelled [] = 10 ∷ []
+fields_spelled (f ∷ fs) = field_spelled f ++ fields_spelled fs
+
+abbrev pub record_spelled : RecordName → List Field → List ℕ
+record_spelled name fields = name_spelled name ++ fields_spelled fields
+
+-- the record that a type ends with, behind its arrays
+abbrev pub end_in : ObType → Option RecordType
+end_in (OfBasic b) = None
+end_in (Array' n p (more_of-ObType element end_of-ObType)) = end_in element
+end_in (Open' p (more_of-ObType element end_of-ObType)) = end_in element
+end_in (Record r) = Some r
+
+-- the same of the field of a number
+abbrev pub end_at : List Field → ℕ → Option RecordType
+end_at [] k = None
+end_at (f ∷ fs) zero = end_in f.of
+end_at (f ∷ fs) (suc k) = end_at fs k
+
+-- each field ends with the record of the field whose number stands for it
+abbrev pub AreFirst : List ℕ → List Field → Type 0
+AreFirst firsts fields = (k : ℕ) → k < length firsts → end_at fields (get_or firsts k k) ≡ end_at fields k
+
+-- the fields below a number end with the same records
+abbrev pub EndAlike : List Field → List Field → ℕ → Type 0
+EndAlike xs ys k = (j : ℕ) → j < k → end_at xs j ≡ end_at ys j
+
+-- two types that are spelled alike
+abbrev pub Alike : ObType → ObType → Type 0
+Alike (OfBasic b) (OfBasic c) = b ≡ c
+Alike (Array' n p (more_of-ObType x end_of-ObType)) (Array' m q (more_of-ObType y end_of-ObType)) = (n ≡ m) × Alike x y
+Alike (Open' p (more_of-ObType x end_of-ObType)) (Open' q (more_of-ObType y end_of-ObType)) = Alike x y
+Alike (Record r) (Record s) = ⊤
+Alike _ _ = ⊥
+
+abbrev pub AreAlike : List Field → List Field → Type 0
+AreAlike [] [] = ⊤
+AreAlike (f ∷ fs) (g ∷ gs) = (f.name ≡ g.name) × (f.exported ≡ g.exported) × Alike f.of g.of × AreAlike fs gs
+AreAlike _ _ = ⊥

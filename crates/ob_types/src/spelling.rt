@@ -1,0 +1,124 @@
+//! Records as lists of numbers, by which two are compared at once down to the records in them.
+
+ghost use Rattle.std.specs.Prelude.{◌≡◌, ◌++◌, IfOk, OnOk};
+ghost use Rattle.ob_types.specs.Spelling as spec;
+
+use crate::form::{Field, Form, ObType};
+use crate::structure::{Basic, RecordName};
+use ob_base::Text;
+use std::alloc::{AllocError, Global};
+
+fn put_letters(output: &mut Vec<u16>, name: &Text) -> Result<(), AllocError>
+    ensures { OnOk result (output.new.items ≡ output.old.items ++ spec.letters name.now) }
+{
+    for &c in name.as_slice() {
+        output.push(c as u16 + 16)?;
+    }
+    Ok(())
+}
+
+fn put_number(output: &mut Vec<u16>, number: u32) -> Result<(), AllocError>
+    ensures { OnOk result (output.new.items ≡ output.old.items ++ spec.number_spelled number) }
+{
+    output.push((number % 65536) as u16)?;
+    output.push((number / 65536) as u16)?;
+    Ok(())
+}
+
+fn basic_number(of: Basic) -> u16
+    ensures { result ≡ spec.basic_number of }
+{
+    match of {
+        Basic::Integer => 0,
+        Basic::Boolean => 1,
+        Basic::Char => 2,
+        Basic::Byte => 3,
+    }
+}
+
+fn put_enclosing(output: &mut Vec<u16>, procedures: &[Text]) -> Result<(), AllocError>
+    ensures { OnOk result (output.new.items ≡ output.old.items ++ spec.enclosing_spelled procedures.now) }
+{
+    for procedure in procedures {
+        output.push(1)?;
+        put_letters(output, procedure)?;
+        output.push(2)?;
+    }
+    output.push(0)?;
+    Ok(())
+}
+
+fn put_name(output: &mut Vec<u16>, name: &RecordName) -> Result<(), AllocError>
+    ensures { OnOk result (output.new.items ≡ output.old.items ++ spec.name_spelled name.now) }
+{
+    put_letters(output, &name.module_name)?;
+    output.push(3)?;
+    put_enclosing(output, name.enclosing.as_slice())?;
+    put_letters(output, &name.declared)?;
+    output.push(4)?;
+    put_number(output, name.before)
+}
+
+fn mark(exported: bool) -> u16
+    ensures { result ≡ spec.mark exported }
+{
+    if exported { 9 } else { 8 }
+}
+
+/// Appends a type, down to a basic type or a record.
+#[tactic(auto, using(crate::proofs::Measures::array_size, crate::proofs::Measures::open_size, crate::proofs::SpellingForms::array_spelled, crate::proofs::SpellingForms::open_spelled))]
+fn put_type(output: &mut Vec<u16>, of: &ObType) -> Result<(), AllocError>
+    ensures { OnOk result (output.new.items ≡ output.old.items ++ spec.type_spelled of.now) }
+{
+    match of.form() {
+        Form::Basic(basic) => {
+            output.push(basic_number(*basic))?;
+            Ok(())
+        }
+        Form::Array(length, element) => {
+            output.push(4)?;
+            put_number(output, *length)?;
+            put_type(output, element.get())
+        }
+        Form::Open(element) => {
+            output.push(5)?;
+            put_type(output, element.get())
+        }
+        Form::Record(_) => {
+            output.push(6)?;
+            Ok(())
+        }
+    }
+}
+
+fn put_field(output: &mut Vec<u16>, field: &Field) -> Result<(), AllocError>
+    ensures { OnOk result (output.new.items ≡ output.old.items ++ spec.field_spelled field.now) }
+{
+    put_letters(output, field.name())?;
+    output.push(mark(field.exported()))?;
+    put_type(output, field.of())
+}
+
+fn put_fields(output: &mut Vec<u16>, fields: &[Field]) -> Result<(), AllocError>
+    ensures { OnOk result (output.new.items ≡ output.old.items ++ spec.fields_spelled fields.now) }
+{
+    for field in fields {
+        put_field(output, field)?;
+    }
+    output.push(10)?;
+    Ok(())
+}
+
+/// How a record of this name with these fields is spelled. Or lack of memory.
+pub(crate) fn spelling_of(
+    alloc: Global,
+    name: &RecordName,
+    fields: &[Field],
+) -> Result<Vec<u16>, AllocError>
+    ensures { IfOk result (λ v. v.items ≡ spec.record_spelled name.now fields.now) }
+{
+    let mut spelling = Vec::new(alloc);
+    put_name(&mut spelling, name)?;
+    put_fields(&mut spelling, fields)?;
+    Ok(spelling)
+}
