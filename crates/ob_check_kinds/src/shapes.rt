@@ -4,12 +4,12 @@ ghost use Rattle.std.specs.Prelude.{◌≡◌, IfOk};
 ghost use Rattle.ob_check_kinds.specs.Shapes as spec;
 
 use crate::made::Made;
-use ob_base::{Items, Shared, SharedItems};
+use ob_base::Items;
 use ob_mean::{Parameter, Shape};
 use ob_types::{Field, Form, Formal, FormalKind, ObType};
 use std::alloc::{AllocError, Global};
 
-/// How a type is made of basic ones, or lack of memory. It shares what it can with the shapes that were made.
+/// How a type is made of basic ones, or lack of memory, as where there is no room for 2^64 cells. It shares what it can with the shapes that were made.
 #[cycle(shapes)]
 #[tactic(auto, using(ob_types::proofs::Measures::array_size, ob_types::proofs::Measures::open_size, crate::proofs::ShapeForms::shape_array, crate::proofs::ShapeForms::shape_open, crate::proofs::ShapeForms::shape_record))]
 pub fn shape_of(alloc: Global, made: &mut Made, of: &ObType) -> Result<Shape, AllocError>
@@ -19,18 +19,18 @@ pub fn shape_of(alloc: Global, made: &mut Made, of: &ObType) -> Result<Shape, Al
         return Ok(shape);
     }
     match of.form() {
-        Form::Basic(_) => Ok(Shape::Basic),
+        Form::Basic(_) => Ok(Shape::basic()),
         Form::Array(length, element) => {
             let element = shape_of(alloc, made, element.get())?;
-            made.keep(of, Shape::Array(*length, Shared::new(alloc, element)?))
+            made.keep(of, Shape::array(alloc, *length, element)?)
         }
         Form::Open(element) => {
             let element = shape_of(alloc, made, element.get())?;
-            made.keep(of, Shape::Array(1, Shared::new(alloc, element)?))
+            made.keep(of, Shape::array(alloc, 1, element)?)
         }
         Form::Record(record) => {
             let fields = shapes_in(alloc, made, record.get().fields())?;
-            made.keep(of, Shape::Record(SharedItems::new(alloc, fields)?))
+            made.keep(of, Shape::record(alloc, fields)?)
         }
     }
 }
@@ -51,7 +51,7 @@ fn basic_parameter(kind: FormalKind) -> Parameter
 {
     match kind {
         FormalKind::Value => Parameter::Value,
-        FormalKind::Variable => Parameter::Place(Shape::Basic),
+        FormalKind::Variable => Parameter::Place(Shape::basic()),
     }
 }
 

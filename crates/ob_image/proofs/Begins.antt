@@ -1,49 +1,26 @@
 -- The cells of variables as they begin, one variable after another.
-use Rattle.std.proofs.Common.{◌≡◌, ℕ, zero, suc, ◌+◌, ◌<◌, ◌≤◌, ℤ, pos, List, [], ◌∷◌, ◌++◌, length, get_or, take, refl, sym, ap, ◌∙◌, add-one, append_assoc, append-nil, arith}
+use Rattle.std.proofs.Common.{◌≡◌, ℕ, zero, suc, ◌+◌, ◌<◌, ◌≤◌, ℤ, pos, List, [], ◌∷◌, ◌++◌, length, get_or, take, replicate, refl, sym, ap, ◌∙◌, append_assoc, append-nil, arith}
 use Rattle.std.proofs.lemmas.List.{take_all, take_more}
 use Rattle.ob_mean.specs.declared.shape.Shape.{Shape}
-use Rattle.ob_mean.specs.declared.shape.Shape.TheVariants.{Array, Record}
 use Rattle.ob_mean.specs.declared.module.ModuleVariable.{ModuleVariable}
-use Rattle.ob_mean.specs.Values.{Value, image, row}
-use Rattle.ob_mean.specs.Shapes.{at_least_one, zero_of, zeros, opening_value, opening_row}
+use Rattle.ob_mean.specs.Values.{image, size}
+use Rattle.ob_mean.specs.Shapes.{zero_of, opening_value, opening_row}
 use Rattle.ob_mean.specs.Texts.{text_row}
 use Rattle.ob_code.specs.Machine.{text_cells}
-use Rattle.ob_mean.proofs.Zeros.{array_zero, record_zero}
-use Rattle.ob_gen.proofs.machine.Zeros.{image-text_row, length-text_cells}
+use Rattle.ob_gen.proofs.machine.Zeros.{image-text_row, image-zeros, length-text_cells}
 
 -- ---- zeros
 
-pub array_image : (n : ℕ) (element : Shape) → image (zero_of (Array n element)) ≡ image (row n (zero_of element))
-array_image n element = ap image (array_zero n element)
+-- each cell of a variable is 0
+pub zeros_image : (t : Shape) → image (zero_of t) ≡ replicate (size (zero_of t)) (pos 0)
+zeros_image t =
+    let all : size (zero_of t) + 0 ≡ size (zero_of t) = omega arith in
+    sym (append-nil (image (zero_of t))) ∙ image-zeros (t ∷ []) ∙ ap (λ k. replicate k (pos 0)) all
 
-pub record_image : (fields : List Shape) → image (zero_of (Record fields)) ≡ image (at_least_one (zeros fields))
-record_image fields = ap image (record_zero fields)
-
-some_fields : (fields : List Shape) → 0 < length fields → at_least_one (zeros fields) ≡ zeros fields
-some_fields [] h = absurd (omega (arith, h))
-some_fields (x ∷ fields) h = refl
-
-pub fields_image : (fields : List Shape) → 0 < length fields → image (at_least_one (zeros fields)) ≡ image (zeros fields)
-fields_image fields h = ap image (some_fields fields h)
-
-row_behind : (n : ℕ) (v : Value) → image v ++ image (row n v) ≡ image (row n v) ++ image v
-row_behind zero v = append-nil (image v)
-row_behind (suc n) v = ap (λ l. image v ++ l) (row_behind n v) ∙ sym (append_assoc (image v) (image (row n v)) (image v))
-
--- one element more
-pub row_image : (n : ℕ) (v : Value) → image (row (n + 1) v) ≡ image (row n v) ++ image v
-row_image n v = ap (λ k. image (row k v)) (add-one n) ∙ row_behind n v
-
-zeros_behind : (xs : List Shape) (x : Shape) → image (zeros (xs ++ x ∷ [])) ≡ image (zeros xs) ++ image (zero_of x)
-zeros_behind [] x = append-nil (image (zero_of x))
-zeros_behind (y ∷ xs) x = ap (λ l. image (zero_of y) ++ l) (zeros_behind xs x) ∙ sym (append_assoc (image (zero_of y)) (image (zeros xs)) (image (zero_of x)))
-
--- one field more
-pub zeros_image : (xs : List Shape) (i : ℕ) (x : Shape) → i < length xs → x ≡ get_or xs i x → image (zeros (take (i + 1) xs)) ≡ image (zeros (take i xs)) ++ image (zero_of x)
-zeros_image xs i x lt e =
-    ap (λ l. image (zeros l)) (take_more xs i x lt)
-    ∙ zeros_behind (take i xs) (get_or xs i x)
-    ∙ ap (λ y. image (zeros (take i xs)) ++ image (zero_of y)) (sym e)
+-- one cell more
+pub zeros_more : (n : ℕ) (z : ℤ) → replicate (n + 1) z ≡ replicate n z ++ z ∷ []
+zeros_more zero z = let one : 0 + 1 ≡ 1 = omega arith in ap (λ k. replicate k z) one
+zeros_more (suc n) z = let more : suc n + 1 ≡ suc (n + 1) = omega arith in ap (λ k. replicate k z) more ∙ ap (λ l. z ∷ l) (zeros_more n z)
 
 -- ---- texts
 

@@ -1,58 +1,19 @@
 //! The cells of variables before anything is assigned to them.
 
 ghost use Rattle.std.specs.Prelude.{◌≡◌, ℕ, ℤ, ◌<◌, ◌≤◌, [], ◌∷◌, ◌++◌, OnOk, IfOk, length, take, drop, slice_index_or};
-ghost use Rattle.ob_mean.specs.Shapes.{at_least_one, zero_of, zeros, opening_value, opening_row};
-ghost use Rattle.ob_mean.specs.Values.{image, row};
+ghost use Rattle.ob_mean.specs.Shapes.{zero_of, opening_value, opening_row};
+ghost use Rattle.ob_mean.specs.Values.{image};
 ghost use Rattle.ob_code.specs.Machine.{text_cells};
 
 use ob_mean::{ModuleVariable, Shape};
 use std::alloc::{AllocError, Global};
 
 /// A variable of this shape.
-#[cycle(zeros)]
-#[tactic(auto, using(crate::proofs::Begins::array_image, crate::proofs::Begins::record_image))]
 fn push_zeros(cells: &mut Vec<i32>, shape: &Shape) -> Result<(), AllocError>
     ensures { OnOk result (cells.new.items ≡ cells.old.items ++ image (zero_of shape.now)) }
 {
-    match shape {
-        Shape::Basic => push_cell(cells, 0),
-        Shape::Array(length, element) => push_elements(cells, *length, element.get()),
-        Shape::Record(fields) => push_record(cells, fields.as_slice()),
-    }
-}
-
-/// The elements of an array.
-#[cycle(zeros)]
-#[tactic(auto, using(crate::proofs::Begins::row_image))]
-fn push_elements(cells: &mut Vec<i32>, count: u32, element: &Shape) -> Result<(), AllocError>
-    ensures { OnOk result (cells.new.items ≡ cells.old.items ++ image (row count (zero_of element.now))) }
-{
-    for _number in 0..count {
-        push_zeros(cells, element)?;
-    }
-    Ok(())
-}
-
-/// A record without fields has a cell.
-#[cycle(zeros)]
-#[tactic(auto, using(crate::proofs::Begins::fields_image))]
-fn push_record(cells: &mut Vec<i32>, fields: &[Shape]) -> Result<(), AllocError>
-    ensures { OnOk result (cells.new.items ≡ cells.old.items ++ image (at_least_one (zeros fields.now))) }
-{
-    if fields.is_empty() {
-        return push_cell(cells, 0);
-    }
-    push_fields(cells, fields)
-}
-
-/// Variables of these shapes.
-#[cycle(zeros)]
-#[tactic(auto, using(crate::proofs::Begins::zeros_image))]
-fn push_fields(cells: &mut Vec<i32>, fields: &[Shape]) -> Result<(), AllocError>
-    ensures { OnOk result (cells.new.items ≡ cells.old.items ++ image (zeros fields.now)) }
-{
-    for field in fields {
-        push_zeros(cells, field)?;
+    for _cell in 0..shape.cells() {
+        push_cell(cells, 0)?;
     }
     Ok(())
 }

@@ -1,6 +1,8 @@
 pub mod RecordTypes
 pub mod Values
 pub mod Shapes
+pub mod Measured
+pub mod MeasuredFalls
 pub mod Texts
 pub mod Arithmetic
 pub mod Computing

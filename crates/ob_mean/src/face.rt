@@ -1,7 +1,7 @@
 //! What is known of a module where it is imported.
 
+use crate::measured::Shape;
 use crate::module::Parameter;
-use crate::shape::Shape;
 use ob_base::Items;
 
 /// What callers know of a procedure.

@@ -3,7 +3,7 @@
 ghost use Rattle.std.specs.Prelude.{◌≡◌, IfOk};
 ghost use Rattle.ob_mean.specs.RecordTypes as spec;
 
-use crate::shape::Shape;
+use crate::measured::Shape;
 use ob_base::{Shared, SharedItems, Text};
 use std::alloc::AllocError;
 

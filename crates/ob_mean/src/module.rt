@@ -1,7 +1,7 @@
 //! Typed modules and procedures.
 
 use crate::expression::TypedExpr;
-use crate::shape::Shape;
+use crate::measured::Shape;
 use crate::statement::TypedStatement;
 use ob_base::{Items, Text};
 

@@ -9,7 +9,7 @@ ghost use Rattle.ob_reference_store.specs.Kept.{value_in};
 use crate::row::copy;
 use crate::stop::NoAnswer;
 use crate::value::Value;
-use ob_mean::{ModuleVariable, Shape};
+use ob_mean::{ModuleVariable, Shape, ShapeForm};
 use std::alloc::{AllocError, Global};
 
 /// A value beside a row.
@@ -84,14 +84,14 @@ fn zero_of(alloc: Global, room: u32, shape: &Shape) -> Result<Value, NoAnswer>
     if room == 0 {
         return Err(NoAnswer);
     }
-    match shape {
-        Shape::Basic => Ok(Value::Cell(0)),
-        Shape::Array(length, element) => {
+    match shape.form() {
+        ShapeForm::Basic => Ok(Value::Cell(0)),
+        ShapeForm::Array(length, element) => {
             let zero = zero_of(alloc, room - 1, element.get())?;
             Ok(equal_row(alloc, *length, &zero)?)
         }
-        Shape::Record(fields) => {
-            let row = zeros(alloc, room - 1, fields.as_slice())?;
+        ShapeForm::Record(fields) => {
+            let row = zeros(alloc, room - 1, fields.get().shapes.as_slice())?;
             Ok(at_least_one(alloc, row)?)
         }
     }

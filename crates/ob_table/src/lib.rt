@@ -1,6 +1,6 @@
-//! How many cells variables have, and where they are among others.
+//! Where variables are among others.
 #![tactic(auto)]
 
 mod table;
 
-pub use table::{Table, cells_before, shape_cells};
+pub use table::Table;

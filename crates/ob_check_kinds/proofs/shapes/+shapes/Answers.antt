@@ -9,7 +9,8 @@ use Rattle.ob_check_kinds.proofs.shapes.+shapes.Goals as goal
 
 pub shape_of-keep-requires : goal.shape_of-keep-requires
 shape_of-keep-requires t c =
-    ap (λ s. shape.Array c.in-Array.length s) (c.in_ok-new-in-Array.ensures ∙ c.in_ok-element-in-Array.ensures ∙ ap shape_of c.get.ensures)
+    c.in_ok-array-in-Array.ensures
+    ∙ ap (λ s. shape.Array c.in-Array.length s) (c.in_ok-element-in-Array.ensures ∙ ap shape_of c.get.ensures)
     ∙ sym (ap shape_of (sym c.form.ensures.whole ∙ ap type_of c.in-Array.is) ∙ shape_array c.in-Array.length c.in-Array.element)
 
 pub shape_of-shapes_in-requires : goal.shape_of-shapes_in-requires
