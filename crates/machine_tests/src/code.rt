@@ -1,6 +1,6 @@
 //! Code that somebody made, and whether it is valid.
 
-use ob_base::Items;
+use ob_base::{Boxed, Items};
 use ob_code::instr::{
     CodeModule, Entries, Entry, Extent, Instr, Length, Line, LinkedModule, NameKind, Procedure,
     Root, Target,
@@ -90,13 +90,25 @@ fn runs(alloc: Global, lines: Vec<Line>) -> Result<bool, AllocError> {
     is_code(alloc, second(alloc)?, procedure(nothing(alloc), 0, lines))
 }
 
+/// A name for so many of the first three cells.
+fn place_of(alloc: Global, count: usize) -> Result<Instr, AllocError> {
+    Ok(Instr::NamePlace(Boxed::new(alloc, cells(0, 3))?, count))
+}
+
+/// A name for an array in the first three cells: so many elements of so many cells.
+fn array_of(alloc: Global, count: usize, size: usize) -> Result<Instr, AllocError> {
+    let root = Boxed::new(alloc, cells(0, 3))?;
+    Ok(Instr::NameArray(root, Length::Elements(count), size))
+}
+
 /// WHILE x < 3 DO INC(x) END, with the variable here, this jump to the guard and this way back
 fn counting(alloc: Global, x: Root, skip: usize, back: usize) -> Result<bool, AllocError> {
+    let root = Boxed::new(alloc, x)?;
     let lines = vec![in alloc;
         line(0, 0, Instr::Skip(skip)),
         line(0, 0, Instr::Push(0)),
         line(1, 0, Instr::Push(1)),
-        line(2, 0, Instr::AdjustAt(Adjustment::Increase, x)),
+        line(2, 0, Instr::AdjustAt(Adjustment::Increase, root)),
         line(0, 0, Instr::Skip(0)),
         line(0, 0, Instr::Load(x)),
         line(1, 0, Instr::Push(3)),
@@ -181,10 +193,11 @@ fn calling(
     names: usize,
     left: usize,
 ) -> Result<bool, AllocError> {
+    let place = place_of(alloc, 3)?;
     let lines = vec![in alloc;
         line(0, 0, Instr::Push(5)),
         line(1, 0, Instr::Push(0)),
-        line(2, 0, Instr::NamePlace(cells(0, 3), 3)),
+        line(2, 0, place),
         line(operands, names, Instr::Invoke(callee, 1)),
         line(left, 0, Instr::Drop),
     ]?;
@@ -256,21 +269,21 @@ fn names(rt: HostRuntime) -> Result<(), Fail> {
     assert!(rt; !indexed(alloc, 2, 2)?);
     assert!(rt; !indexed(alloc, 3, 1)?);
     assert!(rt; !indexed(alloc, 1, 0)?);
-    let array = |count, size| Instr::NameArray(cells(0, 3), Length::Elements(count), size);
-    assert!(rt; passed(alloc, NameKind::Cells(3), Instr::NamePlace(cells(0, 3), 3))?);
-    assert!(rt; !passed(alloc, NameKind::Cells(3), Instr::NamePlace(cells(0, 3), 2))?);
-    assert!(rt; passed(alloc, NameKind::ArrayOf(1), array(3, 1))?);
-    assert!(rt; !passed(alloc, NameKind::ArrayOf(1), array(4, 1))?);
-    assert!(rt; !passed(alloc, NameKind::ArrayOf(1), array(1, 3))?);
+    assert!(rt; passed(alloc, NameKind::Cells(3), place_of(alloc, 3)?)?);
+    assert!(rt; !passed(alloc, NameKind::Cells(3), place_of(alloc, 2)?)?);
+    assert!(rt; passed(alloc, NameKind::ArrayOf(1), array_of(alloc, 3, 1)?)?);
+    assert!(rt; !passed(alloc, NameKind::ArrayOf(1), array_of(alloc, 4, 1)?)?);
+    assert!(rt; !passed(alloc, NameKind::ArrayOf(1), array_of(alloc, 1, 3)?)?);
     Ok(())
 }
 
 /// In.Int(x), with this instruction where the line is asked for
 fn reading(alloc: Global, ask: Instr) -> Result<bool, AllocError> {
+    let target = Boxed::new(alloc, Target::Int(cells(0, 1)))?;
     let lines = vec![in alloc;
         line(0, 0, Instr::Push(0)),
         line(1, 0, Instr::CallInput),
-        line(1, 0, Instr::Read(Target::Int(cells(0, 1)))),
+        line(1, 0, Instr::Read(target)),
         line(1, 0, ask),
         line(1, 0, Instr::TakeLine),
     ]?;

@@ -2,7 +2,7 @@
 
 use crate::compiled::code_comes_to;
 use crate::reference::Seen;
-use ob_base::{Items, Shared, SharedItems, Text};
+use ob_base::{Boxed, Items, Shared, SharedItems, Text};
 use ob_code::instr::{CodeModule, Entry, Extent, Instr, Line, NameKind, Procedure, Root};
 use ob_mean::{Callee, Outcome, TrapKind, TypeName};
 use ob_reference_store::stop::NoAnswer;
@@ -21,6 +21,11 @@ fn record(alloc: Global, names: &[(&[u8], usize)]) -> Result<Types, AllocError> 
         types.push(TypeName { text, cells })?;
     }
     SharedItems::new(alloc, types)
+}
+
+/// A name for a record there of this type, for a parameter that counts on so many cells
+fn named(alloc: Global, root: Root, types: Types, cells: usize) -> Result<Instr, AllocError> {
+    Ok(Instr::NameRecord(Boxed::new(alloc, root)?, types, cells))
 }
 
 /// T of one cell; U and O, which extend it, of two; and W, which extends U, of three
@@ -165,14 +170,45 @@ fn names_of_records(rt: HostRuntime) -> Result<(), Fail> {
     let one = NameKind::RecordOf(1);
     let two = NameKind::RecordOf(2);
     let three = NameKind::RecordOf(3);
-    let made = |root, types, n| Instr::NameRecord(root, types, n);
-    assert!(rt; passes(alloc, one, None, made(cells(0, 2), u(alloc)?, 1), one)?);
-    assert!(rt; passes(alloc, one, None, made(cells(0, 3), u(alloc)?, 2), two)?);
+    assert!(rt;
+        passes(
+            alloc,
+            one,
+            None,
+            named(alloc, cells(0, 2), u(alloc)?, 1)?,
+            one
+        )?
+    );
+    assert!(rt;
+        passes(
+            alloc,
+            one,
+            None,
+            named(alloc, cells(0, 3), u(alloc)?, 2)?,
+            two
+        )?
+    );
     // an object that is too small, more cells than the type has, and a base of more cells
-    assert!(rt; !passes(alloc, one, None, made(cells(0, 1), u(alloc)?, 1), one)?);
-    assert!(rt; !passes(alloc, one, None, made(cells(0, 3), u(alloc)?, 3), three)?);
+    assert!(rt;
+        !passes(
+            alloc,
+            one,
+            None,
+            named(alloc, cells(0, 1), u(alloc)?, 1)?,
+            one
+        )?
+    );
+    assert!(rt;
+        !passes(
+            alloc,
+            one,
+            None,
+            named(alloc, cells(0, 3), u(alloc)?, 3)?,
+            three
+        )?
+    );
     let wide = record(alloc, &[(b"U", 2), (b"T", 3)])?;
-    assert!(rt; !passes(alloc, one, None, made(cells(0, 3), wide, 1), one)?);
+    assert!(rt; !passes(alloc, one, None, named(alloc, cells(0, 3), wide, 1)?, one)?);
     // a name once more
     assert!(rt; passes(alloc, two, None, Instr::NameAgain(0, 1), one)?);
     assert!(rt; passes(alloc, two, None, Instr::NameAgain(0, 2), two)?);
@@ -202,9 +238,10 @@ fn tests(alloc: Global, types: &[Types], next: Option<usize>) -> Result<Vec<Line
 
 /// A body that passes a record of this type to the first procedure
 fn passing(alloc: Global, types: Types) -> Result<Procedure, AllocError> {
+    let name = named(alloc, cells(0, 3), types, 1)?;
     let lines = vec![in alloc;
         line(0, 0, Instr::Push(0)),
-        line(1, 0, Instr::NameRecord(cells(0, 3), types, 1)),
+        line(1, 0, name),
         line(0, 1, Instr::Invoke(Callee::OfModule(0), 1)),
     ]?;
     procedure(alloc, None, lines)

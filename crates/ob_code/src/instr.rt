@@ -70,7 +70,7 @@ pub enum Instr {
     LoadAt(Root),
     /// Takes a number, and then the cell that gets it.
     StoreAt(Root),
-    AdjustAt(Adjustment, Root),
+    AdjustAt(Adjustment, Boxed<Root>),
     /// A part of a record: so many cells on.
     AddOffset(usize),
     /// Takes an index, and then the number of an array's first cell: the array's length, the cells of an element, and the
@@ -86,12 +86,12 @@ pub enum Instr {
     RelateTexts(Relation, Boxed<Span>, Boxed<Span>),
 
     /// A name for so many cells from this cell of an object on.
-    NamePlace(Root, usize),
+    NamePlace(Boxed<Root>, usize),
     /// A name for an array, whose elements have so many cells.
-    NameArray(Root, Length, usize),
+    NameArray(Boxed<Root>, Length, usize),
     /// A name for a record from this cell of an object on, which tells the record's type: the name of that type first, then
     /// that of its base, and so on. The record takes the cells of the first, and the parameter counts on so many of them.
-    NameRecord(Root, SharedItems<TypeName>, usize),
+    NameRecord(Boxed<Root>, SharedItems<TypeName>, usize),
     /// Takes the place of what the running call's name of this number stands for: the same name once more, with the type that
     /// it tells, for a parameter that counts on so many cells.
     NameAgain(usize, usize),
@@ -122,14 +122,14 @@ pub enum Instr {
     /// Before a reader: a call of In.
     CallInput,
     /// Takes the cell that is set, and passes the next two places, where the buffer had what is wanted or can't have it.
-    Read(Target),
+    Read(Boxed<Target>),
     /// A line is asked for.
     AskLine,
     /// The line that was given; then `Read` again, two places before.
     TakeLine,
     OpenOutput,
     PutChar,
-    PutText(Span),
+    PutText(Boxed<Span>),
     /// Takes a width, and then the number that is written in a field of that width.
     PutInt,
     PutLine,

@@ -9,6 +9,7 @@ ghost use Rattle.ob_gen.specs.Known.{names_in, object_seen, IsPlaced};
 use crate::emit::{Found, emit_arguments, emit_expr, emit_offset, span_of};
 use crate::jumps::put;
 use crate::known::{Known, object_cells, root_of};
+use ob_base::Boxed;
 use ob_code::instr::{Instr, Line, Target};
 use ob_code::made;
 use ob_mean::{Action, Designator, InputCall, OutputCall, Reader, TypedExpr};
@@ -30,7 +31,7 @@ pub fn emit_action<'a>(
         Action::Copy(d, e) => {
             let target = emit_offset(alloc, code, known, 0, 0, d)?;
             let source = emit_offset(alloc, code, known, 1, 0, e)?;
-            let cells = object_cells(target.object)?;
+            let cells = object_cells(target.object);
             let instr = made::copy(alloc, target.root, source.root, cells)?;
             put(code, 2, 0, instr)
         }
@@ -43,7 +44,8 @@ pub fn emit_action<'a>(
         Action::Adjust(adjustment, d, e) => {
             let found = emit_offset(alloc, code, known, 0, 0, d)?;
             emit_expr(alloc, code, known, 1, 0, e)?;
-            put(code, 2, 0, Instr::AdjustAt(*adjustment, found.root))
+            let root = Boxed::new(alloc, found.root)?;
+            put(code, 2, 0, Instr::AdjustAt(*adjustment, root))
         }
         Action::Assert(line, e) => {
             emit_expr(alloc, code, known, 0, 0, e)?;
@@ -123,7 +125,7 @@ fn emit_input<'a>(
         InputCall::Open => put(code, 0, 0, Instr::OpenInput),
         InputCall::Read(reader, d) => {
             let found = emit_offset(alloc, code, known, 0, 0, d)?;
-            let target = target_of(*reader, found);
+            let target = Boxed::new(alloc, target_of(*reader, found))?;
             put(code, 1, 0, Instr::CallInput)?;
             put(code, 1, 0, Instr::Read(target))?;
             put(code, 1, 0, Instr::AskLine)?;
@@ -150,7 +152,8 @@ fn emit_output<'a>(
         }
         OutputCall::String(d) => {
             let found = emit_offset(alloc, code, known, 0, 0, d)?;
-            put(code, 1, 0, Instr::PutText(span_of(found)))
+            let span = Boxed::new(alloc, span_of(found))?;
+            put(code, 1, 0, Instr::PutText(span))
         }
         OutputCall::Int(e, width) => {
             emit_expr(alloc, code, known, 0, 0, e.get())?;

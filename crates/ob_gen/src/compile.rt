@@ -15,18 +15,18 @@ use crate::statement::emit_statements;
 use ob_base::Items;
 use ob_code::instr::{Entries, Entry, Line, NameKind, Procedure};
 use ob_mean::{Face, ModuleVariable, Parameter, Shape, TypedExpr, TypedStatement};
-use ob_table::{Table, shape_cells};
+use ob_table::Table;
 use std::alloc::{AllocError, Global};
 
 // ---- where variables are
 
 #[tactic(auto, using(crate::proofs::emitting::Generated::text_size))]
-fn variable_cells(variable: &ModuleVariable) -> Result<usize, AllocError>
-    ensures { IfOk result (λ n. n ≡ size (opening_value variable.now)) }
+fn variable_cells(variable: &ModuleVariable) -> usize
+    ensures { result ≡ size (opening_value variable.now) }
 {
     match variable {
-        ModuleVariable::Declared(shape) => shape_cells(shape),
-        ModuleVariable::Text(_, length) => Ok(*length as usize),
+        ModuleVariable::Declared(shape) => shape.cells(),
+        ModuleVariable::Text(_, length) => *length as usize,
     }
 }
 
@@ -36,7 +36,7 @@ pub fn variable_table(alloc: Global, variables: &[ModuleVariable]) -> Result<Tab
 {
     let mut table = Table::new(alloc);
     for variable in variables {
-        table.push(variable_cells(variable)?)?;
+        table.push(variable_cells(variable))?;
     }
     Ok(table)
 }
@@ -47,7 +47,7 @@ fn face_table(alloc: Global, face: &Face) -> Result<Table, AllocError>
     let mut table = Table::new(alloc);
     let shapes = face.variables.as_slice();
     for shape in shapes {
-        table.push(shape_cells(shape)?)?;
+        table.push(shape.cells())?;
     }
     Ok(table)
 }
@@ -98,7 +98,7 @@ pub fn own_table(
         table.push(parameter_cells(parameter))?;
     }
     for shape in own {
-        table.push(shape_cells(shape)?)?;
+        table.push(shape.cells())?;
     }
     Ok(table)
 }
@@ -122,9 +122,9 @@ fn add_kind(kinds: &mut Items<NameKind>, parameter: &Parameter) -> Result<(), Al
 {
     match parameter {
         Parameter::Value => Ok(()),
-        Parameter::Place(shape) => kinds.push(NameKind::Cells(shape_cells(shape)?)),
-        Parameter::Open(shape) => kinds.push(NameKind::ArrayOf(shape_cells(shape)?)),
-        Parameter::Extended(shape) => kinds.push(NameKind::RecordOf(shape_cells(shape)?)),
+        Parameter::Place(shape) => kinds.push(NameKind::Cells(shape.cells())),
+        Parameter::Open(shape) => kinds.push(NameKind::ArrayOf(shape.cells())),
+        Parameter::Extended(shape) => kinds.push(NameKind::RecordOf(shape.cells())),
     }
 }
 

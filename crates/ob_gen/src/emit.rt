@@ -10,11 +10,12 @@ ghost use Rattle.ob_gen.specs.Code as spec;
 ghost use Rattle.ob_gen.specs.Emitted as emitted;
 ghost use Rattle.ob_gen.specs.Known.{names_in, object_seen, IsPlaced};
 
-use crate::jumps::{close, lead_to_end, put};
+use crate::jumps::{close, lead_to_end, make_room, put};
 use crate::known::{
     Known, Object, base_of, element_cells, element_of, field_of, length_of, name_number,
     object_cells, part_before, root_of, variable_object,
 };
+use ob_base::Boxed;
 use ob_code::instr::{Instr, Line, Root, Span};
 use ob_code::made;
 use ob_mean::{Argument, Designator, Operation, TrapKind, TypedExpr};
@@ -212,7 +213,7 @@ pub fn emit_offset<'a>(
             let found = emit_offset(alloc, code, known, operands, names, array.get())?;
             emit_expr(alloc, code, known, operands + 1, names, index.get())?;
             let length = length_of(found.object, found.root);
-            let cells = element_cells(found.object)?;
+            let cells = element_cells(found.object);
             put(
                 code,
                 operands + 2,
@@ -265,6 +266,7 @@ fn emit_operations<'a>(
     ensures code { OnOk result (code.new.items ≡ code.old.items ++ emitted.operations_list (names_in known.now) operands names operations.now) }
     ensures grows { OnOk result (vec_len code.old ≤ vec_len code.new) }
 {
+    make_room(code, operations.len())?;
     for operation in operations {
         emit_expr(alloc, code, known, operands + 1, names, &operation.operand)?;
         put(
@@ -379,34 +381,29 @@ fn emit_argument<'a>(
         }
         Argument::Place(d) => {
             let found = emit_offset(alloc, code, known, operands, names, d)?;
-            let cells = object_cells(found.object)?;
-            put_name(code, operands, names, Instr::NamePlace(found.root, cells))
+            let cells = object_cells(found.object);
+            let root = Boxed::new(alloc, found.root)?;
+            put_name(code, operands, names, Instr::NamePlace(root, cells))
         }
         Argument::Open(d) => {
             let found = emit_offset(alloc, code, known, operands, names, d)?;
             let length = length_of(found.object, found.root);
-            let cells = element_cells(found.object)?;
-            put_name(
-                code,
-                operands,
-                names,
-                Instr::NameArray(found.root, length, cells),
-            )
+            let cells = element_cells(found.object);
+            let root = Boxed::new(alloc, found.root)?;
+            let instr = Instr::NameArray(root, length, cells);
+            put_name(code, operands, names, instr)
         }
         Argument::Typed(d, kind, levels) => {
             let found = emit_offset(alloc, code, known, operands, names, d)?;
             let types = kind.names.another()?;
-            let cells = object_cells(base_of(found.object, *levels))?;
-            put_name(
-                code,
-                operands,
-                names,
-                Instr::NameRecord(found.root, types, cells),
-            )
+            let cells = object_cells(base_of(found.object, *levels));
+            let root = Boxed::new(alloc, found.root)?;
+            let instr = Instr::NameRecord(root, types, cells);
+            put_name(code, operands, names, instr)
         }
         Argument::Again(d, levels) => {
             let found = emit_offset(alloc, code, known, operands, names, d)?;
-            let cells = object_cells(base_of(found.object, *levels))?;
+            let cells = object_cells(base_of(found.object, *levels));
             let name = name_number(found.root);
             put_name(code, operands, names, Instr::NameAgain(name, cells))
         }

@@ -7,6 +7,24 @@ ghost use Rattle.ob_gen.specs.Emitted as emitted;
 use ob_code::instr::{Instr, Line};
 use std::alloc::AllocError;
 
+/// So many parts are a long list.
+const MANY: usize = 1_000;
+
+/// As many lines as a part of a long list may have. This is a guess: where it is wrong, the code is moved while it grows.
+const LINES: usize = 6;
+
+/// Room for the code of a list of so many parts, where it is long, so that what is moved while it grows leaves no holes in memory.
+pub fn make_room(code: &mut Vec<Line>, parts: usize) -> Result<(), AllocError>
+    ensures code { OnOk result (code.new.items ≡ code.old.items) }
+    ensures long { OnOk result (vec_len code.new ≡ vec_len code.old) }
+{
+    if parts < MANY {
+        return Ok(());
+    }
+    code.reserve(parts.saturating_mul(LINES))?;
+    Ok(())
+}
+
 /// One more instruction, before which `operands` operands and `names` names lie there.
 pub fn put(
     code: &mut Vec<Line>,

@@ -1,14 +1,16 @@
 //! What the names of a text stand for, and where it is.
 
-ghost use Rattle.std.specs.Prelude.{◌≡◌, IfOk, slice_get};
-ghost use Rattle.ob_mean.specs.Values.{before, size};
+ghost use Rattle.std.specs.Prelude.{◌≡◌, IfOk, Some, slice_get};
+ghost use Rattle.ob_mean.specs.Shapes.{zero_of};
+ghost use Rattle.ob_mean.specs.Values.{before, count, size};
 ghost use Rattle.ob_mean.specs.WellFormed as formed;
+ghost use Rattle.ob_mean.specs.WellFormed.{Of as of};
 ghost use Rattle.ob_gen.specs.Code as code;
 ghost use Rattle.ob_gen.specs.Known.{names_in, object_seen, IsPlaced};
 
 use ob_code::instr::{Extent, Length, Root};
-use ob_mean::{Face, ModuleVariable, Parameter, Shape, TypedProcedure, Variable};
-use ob_table::{Table, cells_before, shape_cells};
+use ob_mean::{Face, ModuleVariable, Parameter, Shape, ShapeForm, TypedProcedure, Variable};
+use ob_table::Table;
 use std::alloc::AllocError;
 
 /// What stands at a place.
@@ -147,8 +149,8 @@ pub fn variable_object<'a>(known: &Known<'a>, variable: Variable) -> Object<'a>
 fn element_in<'a>(shape: &'a Shape) -> Object<'a>
     ensures { object_seen result ≡ formed.shape_object (formed.element_shape shape.now) }
 {
-    match shape {
-        Shape::Array(_, element) => Object::Of(element.get()),
+    match shape.form() {
+        ShapeForm::Array(_, element) => Object::Of(element.get()),
         _ => Object::Nothing,
     }
 }
@@ -165,13 +167,22 @@ pub fn element_of<'a>(object: Object<'a>) -> Object<'a>
     }
 }
 
-/// What a field of it is.
 #[tactic(auto, using(crate::proofs::emitting::Known::record_field))]
+fn field_in<'a>(shape: &'a Shape, number: usize) -> Object<'a>
+    ensures { object_seen result ≡ formed.field_in (Some (of shape.now)) number }
+{
+    match shape.form() {
+        ShapeForm::Record(fields) => shape_at(fields.get().shapes.as_slice(), number),
+        _ => Object::Nothing,
+    }
+}
+
+/// What a field of it is.
 pub fn field_of<'a>(object: Object<'a>, number: usize) -> Object<'a>
     ensures { object_seen result ≡ formed.field_in (object_seen object.entry) number }
 {
     match object {
-        Object::Of(Shape::Record(fields)) => shape_at(fields.as_slice(), number),
+        Object::Of(shape) => field_in(shape, number),
         _ => Object::Nothing,
     }
 }
@@ -188,36 +199,37 @@ pub fn base_of<'a>(object: Object<'a>, levels: usize) -> Object<'a>
 }
 
 /// How many cells it has.
-pub fn object_cells(object: Object) -> Result<usize, AllocError>
-    ensures { IfOk result (λ n. n ≡ size (code.zero_in (object_seen object.entry))) }
+pub fn object_cells(object: Object) -> usize
+    ensures { result ≡ size (code.zero_in (object_seen object.entry)) }
 {
     match object {
-        Object::Nothing => Ok(0),
-        Object::Basic => Ok(1),
-        Object::Of(shape) => shape_cells(shape),
-        Object::Characters(length) => Ok(length as usize),
-        Object::Open(_) => Ok(0),
+        Object::Nothing => 0,
+        Object::Basic => 1,
+        Object::Of(shape) => shape.cells(),
+        Object::Characters(length) => length as usize,
+        Object::Open(_) => 0,
     }
 }
 
-fn cells_of_element(shape: &Shape) -> Result<usize, AllocError>
-    ensures { IfOk result (λ n. n ≡ size (code.zero_element (formed.element_shape shape.now))) }
+#[tactic(auto, using(crate::proofs::emitting::Known::array_element))]
+fn cells_of_element(shape: &Shape) -> usize
+    ensures { result ≡ size (code.zero_element (formed.element_shape shape.now)) }
 {
-    match shape {
-        Shape::Array(_, element) => shape_cells(element.get()),
-        _ => Ok(0),
+    match shape.form() {
+        ShapeForm::Array(_, element) => element.get().cells(),
+        _ => 0,
     }
 }
 
 /// How many cells an element of it has.
-pub fn element_cells(object: Object) -> Result<usize, AllocError>
-    ensures { IfOk result (λ n. n ≡ size (code.zero_element (formed.elements_in (object_seen object.entry)))) }
+pub fn element_cells(object: Object) -> usize
+    ensures { result ≡ size (code.zero_element (formed.elements_in (object_seen object.entry))) }
 {
     match object {
         Object::Of(shape) => cells_of_element(shape),
-        Object::Characters(_) => Ok(1),
-        Object::Open(element) => shape_cells(element),
-        _ => Ok(0),
+        Object::Characters(_) => 1,
+        Object::Open(element) => element.cells(),
+        _ => 0,
     }
 }
 
@@ -226,7 +238,7 @@ pub fn part_before(object: Object, part: usize) -> Result<usize, AllocError>
     ensures { IfOk result (λ n. n ≡ before (code.zero_in (object_seen object.entry)) part) }
 {
     match object {
-        Object::Of(shape) => cells_before(shape, part),
+        Object::Of(shape) => shape.before(part),
         Object::Characters(length) => Ok(part.min(length as usize)),
         _ => Ok(0),
     }
@@ -242,16 +254,26 @@ pub fn name_number(root: Root) -> usize
     }
 }
 
-/// How many elements it has, which begins at this root.
+/// How many parts a variable of this shape has.
 #[tactic(auto, using(crate::proofs::emitting::Known::array_count, crate::proofs::emitting::Known::record_count))]
+fn count_of(shape: &Shape) -> usize
+    ensures { result ≡ count (zero_of shape.now) }
+{
+    match shape.form() {
+        ShapeForm::Basic => 0,
+        ShapeForm::Array(length, _) => *length as usize,
+        ShapeForm::Record(fields) => fields.get().shapes.len().max(1),
+    }
+}
+
+/// How many elements it has, which begins at this root.
+#[tactic(auto, using(crate::proofs::emitting::Known::array_count))]
 pub fn length_of(object: Object, root: Root) -> Length
     ensures { result ≡ code.length_in (object_seen object.entry) root }
 {
     match object {
         Object::Nothing | Object::Basic => Length::Elements(0),
-        Object::Of(Shape::Basic) => Length::Elements(0),
-        Object::Of(Shape::Array(length, _)) => Length::Elements(*length as usize),
-        Object::Of(Shape::Record(fields)) => Length::Elements(fields.as_slice().len().max(1)),
+        Object::Of(shape) => Length::Elements(count_of(shape)),
         Object::Characters(length) => Length::Elements(length as usize),
         Object::Open(_) => Length::OfName(name_number(root)),
     }

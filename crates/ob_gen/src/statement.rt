@@ -7,7 +7,7 @@ ghost use Rattle.ob_gen.specs.Known.{names_in, IsPlaced};
 
 use crate::action::emit_action;
 use crate::emit::emit_expr;
-use crate::jumps::{lead_to_end, put, put_at};
+use crate::jumps::{lead_to_end, make_room, put, put_at};
 use crate::known::{Known, root_of};
 use ob_code::instr::{Instr, Line};
 use ob_mean::{
@@ -28,6 +28,7 @@ pub fn emit_statements<'a>(
     ensures code { OnOk result (code.new.items ≡ code.old.items ++ spec.list_code (names_in known.now) statements.now) }
     ensures grows { OnOk result (vec_len code.old ≤ vec_len code.new) }
 {
+    make_room(code, statements.len())?;
     for statement in statements {
         emit_statement(alloc, code, known, statement)?;
     }

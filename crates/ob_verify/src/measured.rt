@@ -415,7 +415,9 @@ fn object_keeps(
             && leads(procedure, rows, known, next, 1, None),
         Instr::LoadAt(root) => lie(own, *root, top, 1)
             && leads(procedure, rows, known, next, 1, Some(Kind::Number)),
-        Instr::StoreAt(root) | Instr::AdjustAt(_, root) => lie(own, *root, under, 1)
+        Instr::StoreAt(root) => lie(own, *root, under, 1)
+            && leads(procedure, rows, known, next, 2, None),
+        Instr::AdjustAt(_, root) => lie(own, *root.get(), under, 1)
             && leads(procedure, rows, known, next, 2, None),
         Instr::Copy(target, source, cells) => {
             lie(own, *target.get(), under, *cells)
@@ -430,16 +432,18 @@ fn object_keeps(
                 && leads(procedure, rows, known, next, 2, Some(Kind::Number))
         }
         Instr::NamePlace(root, cells) => {
-            lie(own, *root, top, *cells)
-                && is_few(*root)
+            let root = *root.get();
+            lie(own, root, top, *cells)
+                && is_few(root)
                 && names_one(procedure, rows, known, next, NameKind::Cells(*cells))
         }
         Instr::NameArray(root, length, size) => {
-            array_lies(own, *root, *length, *size, top)
-                && is_few(*root)
+            let root = *root.get();
+            array_lies(own, root, *length, *size, top)
+                && is_few(root)
                 && names_one(procedure, rows, known, next, NameKind::ArrayOf(*size))
         }
-        Instr::PutText(span) => text_lies(own, *span, top)
+        Instr::PutText(span) => text_lies(own, *span.get(), top)
             && leads(procedure, rows, known, next, 1, None),
         _ => record_keeps(code, procedure, rows, known, place, instr),
     }
@@ -463,8 +467,9 @@ fn record_keeps(
     match instr {
         Instr::NameRecord(root, types, cells) => {
             let taken = cells_of(types.as_slice());
-            lie(own, *root, top, taken)
-                && is_few(*root)
+            let root = *root.get();
+            lie(own, root, top, taken)
+                && is_few(root)
                 && *cells <= taken
                 && are_at_most(taken, types.as_slice())
                 && names_one(procedure, rows, known, next, NameKind::RecordOf(*cells))
@@ -531,7 +536,7 @@ fn jump_keeps(
             more > 2
                 && target_lies(
                     procedure.entry.kinds.as_slice(),
-                    *target,
+                    *target.get(),
                     first(known.operands.as_slice()),
                 )
                 && leads(procedure, rows, known, next, 0, None)

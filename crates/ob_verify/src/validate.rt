@@ -368,7 +368,7 @@ fn object_fits(code: &CodeModule, procedure: &Procedure, place: usize, line: &Li
                 && leads(procedure, next, operands - 2, names)
         }
         Instr::AdjustAt(_, root) => {
-            root_fits(code, procedure, *root)
+            root_fits(code, procedure, *root.get())
                 && operands >= 2
                 && leads(procedure, next, operands - 2, names)
         }
@@ -390,20 +390,20 @@ fn object_fits(code: &CodeModule, procedure: &Procedure, place: usize, line: &Li
                 && leads(procedure, next, operands - 1, names)
         }
         Instr::NamePlace(root, _) => {
-            root_fits(code, procedure, *root)
+            root_fits(code, procedure, *root.get())
                 && operands >= 1
                 && names < procedure.name_room
                 && names_one(procedure, next, operands - 1, names)
         }
         Instr::NameArray(root, length, _) => {
-            root_fits(code, procedure, *root)
+            root_fits(code, procedure, *root.get())
                 && length_fits(procedure, *length)
                 && operands >= 1
                 && names < procedure.name_room
                 && names_one(procedure, next, operands - 1, names)
         }
         Instr::PutText(span) => {
-            span_fits(code, procedure, *span)
+            span_fits(code, procedure, *span.get())
                 && operands >= 1
                 && leads(procedure, next, operands - 1, names)
         }
@@ -421,7 +421,7 @@ fn record_fits(code: &CodeModule, procedure: &Procedure, place: usize, line: &Li
     let next = place + 1;
     match &line.instr {
         Instr::NameRecord(root, _, _) => {
-            root_fits(code, procedure, *root)
+            root_fits(code, procedure, *root.get())
                 && operands >= 1
                 && names < procedure.name_room
                 && names_one(procedure, next, operands - 1, names)
@@ -469,7 +469,7 @@ fn jump_fits(code: &CodeModule, procedure: &Procedure, place: usize, line: &Line
         }
         Instr::Invoke(callee, _) => calls(code, procedure, place, operands, names, *callee),
         Instr::Read(target) => {
-            target_fits(code, procedure, *target)
+            target_fits(code, procedure, *target.get())
                 && operands >= 1
                 && leads(procedure, next, operands, names)
                 && jumps(procedure, place, 2, operands - 1, names)

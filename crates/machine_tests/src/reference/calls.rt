@@ -34,8 +34,8 @@ fn adding(alloc: Global) -> Result<TypedProcedure, AllocError> {
     );
     let parameters = two(
         alloc,
-        Ok(Parameter::Place(Shape::Basic)),
-        Ok(Parameter::Place(Shape::Basic)),
+        Ok(Parameter::Place(Shape::basic())),
+        Ok(Parameter::Place(Shape::basic())),
     );
     procedure(alloc, parameters, body)
 }
@@ -73,7 +73,7 @@ fn writing(alloc: Global) -> Result<TypedProcedure, AllocError> {
         out_int(alloc, length(by_parameter(0)), 0),
         out_text(by_parameter(0)),
     );
-    procedure(alloc, one(alloc, Ok(Parameter::Open(Shape::Basic))), body)
+    procedure(alloc, one(alloc, Ok(Parameter::Open(Shape::basic()))), body)
 }
 
 /// W("ab")
@@ -130,7 +130,7 @@ fn factorial(alloc: Global) -> Result<TypedProcedure, AllocError> {
     let body = one(alloc, choice(alloc, first, rest));
     function_procedure(
         one(alloc, Ok(Parameter::Value)),
-        one(alloc, Ok(Shape::Basic)),
+        one(alloc, Ok(Shape::basic())),
         body,
         read(local(1)),
     )
@@ -275,7 +275,7 @@ fn face(alloc: Global) -> Result<Face, AllocError> {
         is_function: false,
     };
     Ok(Face {
-        variables: one(alloc, Ok(Shape::Basic))?,
+        variables: one(alloc, Ok(Shape::basic()))?,
         procedures: one(alloc, Ok(heading))?,
     })
 }

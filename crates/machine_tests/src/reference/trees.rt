@@ -1,6 +1,6 @@
 //! Trees made by hand. A builder takes what other builders gave, so that a tree is one expression.
 
-use ob_base::{Boxed, Items, Shared, SharedItems, Text};
+use ob_base::{Boxed, Items, Text};
 use ob_mean::{
     Action, Adjustment, Argument, Branch, Callee, CaseArm, Designator, ForHead, InputCall,
     LabelRange, Loaded, ModuleVariable, Operation, Operator, OutputCall, Parameter, Reader, Shape,
@@ -412,7 +412,7 @@ pub(crate) fn function_procedure(
 
 /// A variable of basic type.
 pub(crate) fn basic() -> Result<ModuleVariable, AllocError> {
-    Ok(ModuleVariable::Declared(Shape::Basic))
+    Ok(ModuleVariable::Declared(Shape::basic()))
 }
 
 /// An array of values of basic type.
@@ -422,14 +422,13 @@ pub(crate) fn array(alloc: Global, length: u32) -> Result<ModuleVariable, AllocE
 
 /// An array of so many values of basic type.
 fn row(alloc: Global, length: u32) -> Result<Shape, AllocError> {
-    Ok(Shape::Array(length, Shared::new(alloc, Shape::Basic)?))
+    Shape::array(alloc, length, Shape::basic())
 }
 
 /// A record of a value of basic type and of an array of so many.
 pub(crate) fn record(alloc: Global, length: u32) -> Result<ModuleVariable, AllocError> {
-    let fields = two(alloc, Ok(Shape::Basic), row(alloc, length))?;
-    let fields = SharedItems::new(alloc, fields)?;
-    Ok(ModuleVariable::Declared(Shape::Record(fields)))
+    let fields = two(alloc, Ok(Shape::basic()), row(alloc, length))?;
+    Ok(ModuleVariable::Declared(Shape::record(alloc, fields)?))
 }
 
 /// A string, with 0X after it.

@@ -13,7 +13,7 @@ use Rattle.ob_table.specs.Tables.{extent_in, row_sizes}
 use Rattle.ob_gen.specs.Known.{face_sizes, object_seen}
 use Rattle.ob_gen.specs.declared.known.Object.{Object as Seen}
 use Rattle.ob_mean.proofs.Zeros.{array_zero, record_zero}
-use Rattle.ob_table.proofs.Tables.{array_size, array_before}
+use Rattle.ob_mean.proofs.Cells.{array_size, array_before}
 
 extent_from : (a : ℕ) (r : Value) (x : ℕ) → extent_in a (row_sizes r) x ≡ record { from = a + before r x; cells = size (item r x) }
 extent_from a (Cell z) x = ap (λ k. record { from = k; cells = 0 }) (omega arith)

@@ -1,5 +1,5 @@
 -- Each variable has so few cells that their numbers fit an operand.
-use Rattle.std.proofs.Common.{ℕ, zero, suc, ◌<◌, List, [], ◌∷◌, Option, Some, None, slice_get, arith}
+use Rattle.std.proofs.Common.{ℕ, zero, suc, ◌<◌, List, [], ◌∷◌, slice_get, arith}
 use Rattle.ob_mean.specs.declared.face.Face.{Face}
 use Rattle.ob_mean.specs.declared.module.ModuleVariable.{ModuleVariable}
 use Rattle.ob_mean.specs.declared.module.Parameter.{Parameter}

@@ -85,7 +85,7 @@ pub emit_offset-returns-in_ok-put-in-Element-clause-code : goal.emit_offset-retu
 emit_offset-returns-in_ok-put-in-Element-clause-code t c =
     element_emitted (names_in c.args.known.now) c.args.operands c.args.names c.args.code.now.items _ _ _ c.in-Element.array _ c.in-Element.index _ c.in-Element.line _ _ _ _
     c.in_ok-found-in-Element.ensures.code c.in_ok-emit_expr-in-Element.ensures.code c.in_ok-put-in-Element.ensures.code
-    c.in_ok-found-in-Element.ensures.root c.in_ok-found-in-Element.ensures.object c.length_of-length.ensures c.in_ok-cells-in-Element.ensures c.get.ensures c.get-in-Element.ensures
+    c.in_ok-found-in-Element.ensures.root c.in_ok-found-in-Element.ensures.object c.length_of-length.ensures c.element_cells-cells.ensures c.get.ensures c.get-in-Element.ensures
     ∙ ap (λ d. c.args.code.now.items ++ offset_code (names_in c.args.known.now) c.args.operands c.args.names d) (sym c.in-Element.is)
 
 pub emit_offset-returns-in_ok-put-in-Element-clause-root : goal.emit_offset-returns-in_ok-put-in-Element-clause-root
