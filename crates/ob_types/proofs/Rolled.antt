@@ -1,5 +1,5 @@
 -- What is known of a record by its name and its fields is so of the type.
-use Rattle.std.proofs.Common.{◌≡◌, ◌+◌, ℕ, List, max, ap, sym, subst, ◌∙◌}
+use Rattle.std.proofs.Common.{◌≡◌, ◌+◌, List, max, ap, sym, subst, ◌∙◌}
 use Rattle.std.specs.Prelude.{◌&&◌}
 use Rattle.ob_types.specs.declared.structure.Field.{Field}
 use Rattle.ob_types.specs.declared.structure.RecordName.{RecordName}
@@ -7,7 +7,8 @@ use Rattle.ob_types.specs.declared.structure.ObType.TheVariants.{Record}
 use Rattle.ob_types.specs.declared.structure.RecordType.{out-RecordType, roll-RecordType, out-roll-RecordType}
 use Rattle.ob_types.specs.Types.{cells, cells_in, levels, levels_in}
 use Rattle.ob_types.specs.Declarable.{is_plain, are_words, plain_fields}
-use Rattle.ob_types.specs.Spelling.{AreFirst}
+use Rattle.ob_types.specs.declared.form.Ends.{Ends}
+use Rattle.ob_types.specs.Spelling.{AreEnds}
 use Rattle.ob_types.proofs.Equations.{cells_record, levels_record}
 use Rattle.ob_types.proofs.DeclarableForms.{plain_record}
 
@@ -20,8 +21,8 @@ levels_rolled r = levels_record (roll-RecordType r) ∙ ap (λ x. levels_in x.fi
 pub plain_rolled : (r : _) → is_plain (Record (roll-RecordType r)) ≡ (are_words r.name && plain_fields r.fields)
 plain_rolled r = plain_record (roll-RecordType r) ∙ ap (λ x. are_words x.name && plain_fields x.fields) (out-roll-RecordType r)
 
-pub firsts_rolled : (name : RecordName) (fields : List Field) (firsts : List ℕ) → AreFirst firsts fields → AreFirst firsts (out-RecordType (roll-RecordType (record { name = name; fields = fields }))).fields
-firsts_rolled name fields firsts h = subst (λ fs. AreFirst firsts fs) (sym (ap (λ x. x.fields) (out-roll-RecordType (record { name = name; fields = fields })))) h
+pub ends_rolled : (name : RecordName) (fields : List Field) (ends : Ends) → AreEnds ends fields → AreEnds ends (out-RecordType (roll-RecordType (record { name = name; fields = fields }))).fields
+ends_rolled name fields ends h = subst (λ fs. AreEnds ends fs) (sym (ap (λ x. x.fields) (out-roll-RecordType (record { name = name; fields = fields })))) h
 
 pub parts_rolled : (r : _) → out-RecordType (roll-RecordType r) ≡ r
 parts_rolled r = out-roll-RecordType r

@@ -1,6 +1,7 @@
 -- Two records that are spelled alike have one name, and fields that are alike; and where these end with the same records, they are
 -- equal.
-use Rattle.std.proofs.Common.{◌≡◌, ◌<◌, ◌+◌, ◌/◌, ◌%◌, ℕ, zero, suc, Bool, true, false, List, [], ◌∷◌, ◌++◌, Option, Some, None, refl, ap, sym, ◌∙◌, arith, append_assoc}
+use Rattle.std.proofs.Common.{◌≡◌, ◌<◌, ◌≤◌, ◌/◌, ◌%◌, ◌⊎◌, inl, inr, ℕ, zero, suc, nat_lt, Bool, true, false, List, [], ◌∷◌, ◌++◌, Option, Some, None, refl, ap, sym, ◌∙◌, arith, append_assoc, ltb-false}
+use Rattle.std.specs.Prelude.{if◌then◌else◌}
 use Rattle.ob_types.specs.declared.structure.Field.{Field}
 use Rattle.ob_types.specs.declared.structure.Basic.{Basic}
 use Rattle.ob_types.specs.declared.structure.Basic.TheVariants as basic
@@ -8,7 +9,7 @@ use Rattle.ob_types.specs.declared.structure.RecordName.{RecordName}
 use Rattle.ob_types.specs.declared.structure.ObType.{ObType, end_of-ObType, more_of-ObType}
 use Rattle.ob_types.specs.declared.structure.ObType.TheVariants.{Basic as OfBasic, Array, Open, Array', Open', Record}
 use Rattle.ob_types.specs.declared.structure.RecordType.{RecordType}
-use Rattle.ob_types.specs.Spelling.{letters, number_spelled, basic_number, enclosing_spelled, name_spelled, mark, type_spelled, fields_spelled, record_spelled, end_in, Alike, AreAlike}
+use Rattle.ob_types.specs.Spelling.{letter, letters, number_spelled, basic_number, enclosing_spelled, name_spelled, mark, type_spelled, fields_spelled, record_spelled, end_in, Alike, AreAlike}
 
 -- ---- words in front of a list
 
@@ -17,11 +18,11 @@ enclosing_onto [] r = 0 ∷ r
 enclosing_onto (p ∷ ps) r = 1 ∷ (letters p ++ (2 ∷ enclosing_onto ps r))
 
 abbrev name_onto : RecordName → List ℕ → List ℕ
-name_onto n r = letters n.module_name ++ (3 ∷ enclosing_onto n.enclosing (letters n.declared ++ (4 ∷ n.before % 65536 ∷ n.before / 65536 ∷ r)))
+name_onto n r = letters n.module_name ++ (3 ∷ enclosing_onto n.enclosing (letters n.declared ++ (4 ∷ (number_spelled n.before ++ r))))
 
 abbrev type_onto : ObType → List ℕ → List ℕ
 type_onto (OfBasic b) r = basic_number b ∷ r
-type_onto (Array' n p (more_of-ObType element end_of-ObType)) r = 4 ∷ n % 65536 ∷ n / 65536 ∷ type_onto element r
+type_onto (Array' n p (more_of-ObType element end_of-ObType)) r = 4 ∷ (number_spelled n ++ type_onto element r)
 type_onto (Open' p (more_of-ObType element end_of-ObType)) r = 5 ∷ type_onto element r
 type_onto (Record x) r = 6 ∷ r
 
@@ -42,7 +43,7 @@ name_is n r =
 
 type_is : (t : ObType) (r : List ℕ) → type_spelled t ++ r ≡ type_onto t r
 type_is (OfBasic b) r = refl
-type_is (Array' n p (more_of-ObType element end_of-ObType)) r = ap (λ l. 4 ∷ n % 65536 ∷ n / 65536 ∷ l) (type_is element r)
+type_is (Array' n p (more_of-ObType element end_of-ObType)) r = ap (λ l. 4 ∷ (number_spelled n ++ l)) (type_is element r)
 type_is (Open' p (more_of-ObType element end_of-ObType)) r = ap (λ l. 5 ∷ l) (type_is element r)
 type_is (Record x) r = refl
 
@@ -61,14 +62,57 @@ heads x y r s h = cc
 tails : (x y : ℕ) (r s : List ℕ) → x ∷ r ≡ y ∷ s → r ≡ s
 tails x y r s h = cc
 
-letters_apart : (a b : List ℕ) (x y : ℕ) (r s : List ℕ) → x < 16 → y < 16 → letters a ++ (x ∷ r) ≡ letters b ++ (y ∷ s) → (a ≡ b) × (x ≡ y) × (r ≡ s)
+letter_low : (c : ℕ) → nat_lt c 16 ≡ true → letter c ≡ 11 ∷ c ∷ []
+letter_low c e = ap (λ b. if b then 11 ∷ c ∷ [] else c ∷ []) e
+
+letter_high : (c : ℕ) → nat_lt c 16 ≡ false → letter c ≡ c ∷ []
+letter_high c e = ap (λ b. if b then 11 ∷ c ∷ [] else c ∷ []) e
+
+-- one of both forms
+abbrev LetterIs : ℕ → Type 0
+LetterIs c = (letter c ≡ 11 ∷ c ∷ []) ⊎ ((16 ≤ c) × (letter c ≡ c ∷ []))
+
+letter_by : (c : ℕ) (b : Bool) → nat_lt c 16 ≡ b → LetterIs c
+letter_by c true e = inl (letter_low c e)
+letter_by c false e = inr (ltb-false c 16 e, letter_high c e)
+
+letter_is : (c : ℕ) → LetterIs c
+letter_is c = letter_by c (nat_lt c 16) refl
+
+letter_apart_by : (c d : ℕ) (r s : List ℕ) → letter c ++ r ≡ letter d ++ s → LetterIs c → LetterIs d → (c ≡ d) × (r ≡ s)
+letter_apart_by c d r s h (inl e) (inl f) =
+    let k = tails 11 11 (c ∷ r) (d ∷ s) (sym (ap (λ l. l ++ r) e) ∙ h ∙ ap (λ l. l ++ s) f) in
+    (heads c d r s k, tails c d r s k)
+letter_apart_by c d r s h (inl e) (inr f) =
+    absurd (omega (arith, f.0, heads 11 d (c ∷ r) s (sym (ap (λ l. l ++ r) e) ∙ h ∙ ap (λ l. l ++ s) f.1)))
+letter_apart_by c d r s h (inr e) (inl f) =
+    absurd (omega (arith, e.0, heads c 11 r (d ∷ s) (sym (ap (λ l. l ++ r) e.1) ∙ h ∙ ap (λ l. l ++ s) f)))
+letter_apart_by c d r s h (inr e) (inr f) =
+    let k = sym (ap (λ l. l ++ r) e.1) ∙ h ∙ ap (λ l. l ++ s) f.1 in
+    (heads c d r s k, tails c d r s k)
+
+letter_apart : (c d : ℕ) (r s : List ℕ) → letter c ++ r ≡ letter d ++ s → (c ≡ d) × (r ≡ s)
+letter_apart c d r s h = letter_apart_by c d r s h (letter_is c) (letter_is d)
+
+-- no letter begins with a mark
+letter_mark_by : (c x : ℕ) (r s : List ℕ) → x < 11 → letter c ++ r ≡ x ∷ s → LetterIs c → ⊥
+letter_mark_by c x r s l h (inl e) = omega (arith, l, heads 11 x (c ∷ r) s (sym (ap (λ l. l ++ r) e) ∙ h))
+letter_mark_by c x r s l h (inr e) = omega (arith, l, e.0, heads c x r s (sym (ap (λ l. l ++ r) e.1) ∙ h))
+
+letter_mark : (c x : ℕ) (r s : List ℕ) → x < 11 → letter c ++ r ≡ x ∷ s → ⊥
+letter_mark c x r s l h = letter_mark_by c x r s l h (letter_is c)
+
+letters_apart : (a b : List ℕ) (x y : ℕ) (r s : List ℕ) → x < 11 → y < 11 → letters a ++ (x ∷ r) ≡ letters b ++ (y ∷ s) → (a ≡ b) × (x ≡ y) × (r ≡ s)
 letters_apart [] [] x y r s lx ly h = (refl, heads x y r s h, tails x y r s h)
-letters_apart [] (d ∷ ds) x y r s lx ly h = absurd (omega (arith, lx, heads x (d + 16) r (letters ds ++ (y ∷ s)) h))
-letters_apart (c ∷ cs) [] x y r s lx ly h = absurd (omega (arith, ly, heads (c + 16) y (letters cs ++ (x ∷ r)) s h))
+letters_apart [] (d ∷ ds) x y r s lx ly h =
+    absurd (letter_mark d x (letters ds ++ (y ∷ s)) r lx (sym (append_assoc (letter d) (letters ds) (y ∷ s)) ∙ sym h))
+letters_apart (c ∷ cs) [] x y r s lx ly h =
+    absurd (letter_mark c y (letters cs ++ (x ∷ r)) s ly (sym (append_assoc (letter c) (letters cs) (x ∷ r)) ∙ h))
 letters_apart (c ∷ cs) (d ∷ ds) x y r s lx ly h =
-    let k = letters_apart cs ds x y r s lx ly (tails (c + 16) (d + 16) (letters cs ++ (x ∷ r)) (letters ds ++ (y ∷ s)) h) in
-    let e : c ≡ d = omega (arith, heads (c + 16) (d + 16) (letters cs ++ (x ∷ r)) (letters ds ++ (y ∷ s)) h) in
-    ((λ i. e i ∷ k.0 i), k.1, k.2)
+    let one = letter_apart c d (letters cs ++ (x ∷ r)) (letters ds ++ (y ∷ s))
+    (sym (append_assoc (letter c) (letters cs) (x ∷ r)) ∙ h ∙ append_assoc (letter d) (letters ds) (y ∷ s)) in
+    let k = letters_apart cs ds x y r s lx ly one.1 in
+    ((λ i. one.0 i ∷ k.0 i), k.1, k.2)
 
 enclosing_apart : (xs ys : List (List ℕ)) (r s : List ℕ) → enclosing_onto xs r ≡ enclosing_onto ys s → (xs ≡ ys) × (r ≡ s)
 enclosing_apart [] [] r s h = (refl, tails 0 0 r s h)
@@ -79,17 +123,26 @@ enclosing_apart (p ∷ ps) (q ∷ qs) r s h =
     let m = enclosing_apart ps qs r s k.2 in
     ((λ i. k.0 i ∷ m.0 i), m.1)
 
-number_apart : (n m : ℕ) → n % 65536 ≡ m % 65536 → n / 65536 ≡ m / 65536 → n ≡ m
-number_apart n m e f = omega (arith, e, f)
+rejoin : (n m : ℕ) → n % 256 ≡ m % 256 → n / 256 ≡ m / 256 → n ≡ m
+rejoin n m e f = omega (arith, e, f)
+
+number_apart : (n m : ℕ) (r s : List ℕ) → number_spelled n ++ r ≡ number_spelled m ++ s → (n ≡ m) × (r ≡ s)
+number_apart n m r s h =
+    let t = tails _ _ _ _ h in
+    let u = tails _ _ _ _ t in
+    let v = tails _ _ _ _ u in
+    let third = rejoin (n / 256 / 256) (m / 256 / 256) (heads _ _ _ _ u) (heads _ _ _ _ v) in
+    let second = rejoin (n / 256) (m / 256) (heads _ _ _ _ t) third in
+    (rejoin n m (heads _ _ _ _ h) second, tails _ _ _ _ v)
 
 name_apart : (x y : RecordName) (r s : List ℕ) → name_onto x r ≡ name_onto y s → (x ≡ y) × (r ≡ s)
 name_apart x y r s h =
-    let a = letters_apart x.module_name y.module_name 3 3 (enclosing_onto x.enclosing (letters x.declared ++ (4 ∷ x.before % 65536 ∷ x.before / 65536 ∷ r))) (enclosing_onto y.enclosing (letters y.declared ++ (4 ∷ y.before % 65536 ∷ y.before / 65536 ∷ s))) (omega arith) (omega arith) h in
-    let b = enclosing_apart x.enclosing y.enclosing (letters x.declared ++ (4 ∷ x.before % 65536 ∷ x.before / 65536 ∷ r)) (letters y.declared ++ (4 ∷ y.before % 65536 ∷ y.before / 65536 ∷ s)) a.2 in
-    let c = letters_apart x.declared y.declared 4 4 (x.before % 65536 ∷ x.before / 65536 ∷ r) (y.before % 65536 ∷ y.before / 65536 ∷ s) (omega arith) (omega arith) b.1 in
-    let t = tails (x.before % 65536) (y.before % 65536) (x.before / 65536 ∷ r) (y.before / 65536 ∷ s) c.2 in
-    let n = number_apart x.before y.before (heads (x.before % 65536) (y.before % 65536) (x.before / 65536 ∷ r) (y.before / 65536 ∷ s) c.2) (heads (x.before / 65536) (y.before / 65536) r s t) in
-    ((λ i. record { module_name = a.0 i; enclosing = b.0 i; declared = c.0 i; before = n i }), tails (x.before / 65536) (y.before / 65536) r s t)
+    let after : RecordName → List ℕ → List ℕ = λ n l. letters n.declared ++ (4 ∷ (number_spelled n.before ++ l)) in
+    let a = letters_apart x.module_name y.module_name 3 3 (enclosing_onto x.enclosing (after x r)) (enclosing_onto y.enclosing (after y s)) (omega arith) (omega arith) h in
+    let b = enclosing_apart x.enclosing y.enclosing (after x r) (after y s) a.2 in
+    let c = letters_apart x.declared y.declared 4 4 (number_spelled x.before ++ r) (number_spelled y.before ++ s) (omega arith) (omega arith) b.1 in
+    let n = number_apart x.before y.before r s c.2 in
+    ((λ i. record { module_name = a.0 i; enclosing = b.0 i; declared = c.0 i; before = n.0 i }), n.1)
 
 abbrev basic_of : ℕ → Basic
 basic_of zero = basic.Integer
@@ -129,10 +182,9 @@ type_apart (OfBasic b) (Open' q (more_of-ObType y end_of-ObType)) r s h = absurd
 type_apart (OfBasic b) (Record y) r s h = absurd (omega (arith, basic_low b, heads _ _ _ _ h))
 type_apart (Array' n p (more_of-ObType x end_of-ObType)) (OfBasic c) r s h = absurd (omega (arith, basic_low c, heads _ _ _ _ h))
 type_apart (Array' n p (more_of-ObType x end_of-ObType)) (Array' m q (more_of-ObType y end_of-ObType)) r s h =
-    let t = tails _ _ _ _ h in
-    let u = tails _ _ _ _ t in
-    let k = type_apart x y r s (tails _ _ _ _ u) in
-    ((number_apart n m (heads _ _ _ _ t) (heads _ _ _ _ u), k.0), k.1)
+    let l = number_apart n m (type_onto x r) (type_onto y s) (tails _ _ _ _ h) in
+    let k = type_apart x y r s l.1 in
+    ((l.0, k.0), k.1)
 type_apart (Array' n p (more_of-ObType x end_of-ObType)) (Open' q (more_of-ObType y end_of-ObType)) r s h = absurd (omega (arith, heads 4 5 _ _ h))
 type_apart (Array' n p (more_of-ObType x end_of-ObType)) (Record y) r s h = absurd (omega (arith, heads 4 6 _ _ h))
 type_apart (Open' p (more_of-ObType x end_of-ObType)) (OfBasic c) r s h = absurd (omega (arith, basic_low c, heads _ _ _ _ h))

@@ -16,7 +16,7 @@ use Rattle.ob_types.specs.declared.form.Form.{Form}
 use Rattle.ob_types.specs.declared.form.Form.TheVariants as form
 use Rattle.ob_types.specs.Types.{cells_in, levels_in}
 use Rattle.ob_types.specs.Declarable.{are_words, plain_fields}
-use Rattle.ob_types.specs.Spelling.{record_spelled, AreFirst}
+use Rattle.ob_types.specs.Spelling.{record_spelled, AreEnds}
 
 -- the type of a form
 abbrev pub type_of : Form → ObType
@@ -48,5 +48,5 @@ AreFacts facts name fields =
     × (facts.levels ≡ min (levels_in fields + 1) 4294967295)
     × (facts.plain ≡ (are_words name && plain_fields fields))
     × (facts.spelling.items ≡ record_spelled name fields)
-    × AreFirst facts.firsts.items fields
+    × AreEnds facts.ends fields
     × IfSome facts.places (λ p. IsIndexFrom 0 p fields)

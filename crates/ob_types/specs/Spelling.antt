@@ -1,6 +1,6 @@
--- A record as a list of numbers below 65,536: its name and, of each field, the name, the mark, and the type down to a basic type or
--- a record. And where fields end with one record.
-use Rattle.std.specs.Prelude.{◌≡◌, ℕ, zero, suc, ◌+◌, ◌/◌, ◌%◌, ◌<◌, ⊤, Bool, true, false, List, [], ◌∷◌, ◌++◌, length, get_or, Option, Some, None}
+-- A record as a list of bytes: its name and, of each field, the name, the mark, and the type down to a basic type or a record. And
+-- where fields end with one record.
+use Rattle.std.specs.Prelude.{◌≡◌, ℕ, zero, suc, ◌/◌, ◌%◌, ◌<◌, ◌⊎◌, ⊤, Bool, true, false, nat_lt, if◌then◌else◌, List, [], ◌∷◌, ◌++◌, length, get_or, Option, Some, None}
 use Rattle.ob_types.specs.declared.structure.Basic.{Basic}
 use Rattle.ob_types.specs.declared.structure.Basic.TheVariants as basic
 use Rattle.ob_types.specs.declared.structure.RecordName.{RecordName}
@@ -8,14 +8,18 @@ use Rattle.ob_types.specs.declared.structure.Field.{Field}
 use Rattle.ob_types.specs.declared.structure.ObType.{ObType, end_of-ObType, more_of-ObType}
 use Rattle.ob_types.specs.declared.structure.ObType.TheVariants.{Basic as OfBasic, Array', Open', Record}
 use Rattle.ob_types.specs.declared.structure.RecordType.{RecordType}
+use Rattle.ob_types.specs.declared.form.Ends.{Ends}
 
--- the characters of a name, each above the marks, which are below 16
+-- a character of a name: one below 16 has 11 before it, for the marks are below 11
+abbrev pub letter : ℕ → List ℕ
+letter c = if nat_lt c 16 then 11 ∷ c ∷ [] else c ∷ []
+
 abbrev pub letters : List ℕ → List ℕ
 letters [] = []
-letters (c ∷ cs) = (c + 16) ∷ letters cs
+letters (c ∷ cs) = letter c ++ letters cs
 
 abbrev pub number_spelled : ℕ → List ℕ
-number_spelled n = n % 65536 ∷ n / 65536 ∷ []
+number_spelled n = n % 256 ∷ n / 256 % 256 ∷ n / 256 / 256 % 256 ∷ n / 256 / 256 / 256 ∷ []
 
 abbrev pub basic_number : Basic → ℕ
 basic_number basic.Integer = 0
@@ -68,9 +72,27 @@ end_at (f ∷ fs) (suc k) = end_at fs k
 abbrev pub AreFirst : List ℕ → List Field → Type 0
 AreFirst firsts fields = (k : ℕ) → k < length firsts → end_at fields (get_or firsts k k) ≡ end_at fields k
 
--- the fields below a number end with the same records
+abbrev pub IsAmong : ℕ → List ℕ → Type 0
+IsAmong k [] = ⊥
+IsAmong k (n ∷ ns) = (k ≡ n) ⊎ IsAmong k ns
+
+-- each field below a number ends with no record, or has a field before it that stands for it, or is kept
+abbrev pub AreKept : ℕ → List ℕ → List ℕ → List Field → Type 0
+AreKept n kept firsts fields = (k : ℕ) → k < n → (end_at fields k ≡ None) ⊎ (get_or firsts k k < k) ⊎ IsAmong k kept
+
+abbrev pub AreWithin : List ℕ → List Field → Type 0
+AreWithin kept fields = (k : ℕ) → IsAmong k kept → k < length fields
+
+abbrev pub AreEnds : Ends → List Field → Type 0
+AreEnds ends fields = AreFirst ends.firsts.items fields × AreKept (length fields) ends.kept.items ends.firsts.items fields × AreWithin ends.kept.items fields
+
+-- the fields of these numbers end with the same records
+abbrev pub AmongAlike : List ℕ → List Field → List Field → Type 0
+AmongAlike kept xs ys = (k : ℕ) → IsAmong k kept → end_at xs k ≡ end_at ys k
+
+-- all fields below a number do
 abbrev pub EndAlike : List Field → List Field → ℕ → Type 0
-EndAlike xs ys k = (j : ℕ) → j < k → end_at xs j ≡ end_at ys j
+EndAlike xs ys n = (k : ℕ) → k < n → end_at xs k ≡ end_at ys k
 
 -- two types that are spelled alike
 abbrev pub Alike : ObType → ObType → Type 0

@@ -1,12 +1,11 @@
 //! Whether two types are the same, and what may be assigned.
 
-ghost use Rattle.std.specs.Prelude.{◌≡◌, option_map};
+ghost use Rattle.std.specs.Prelude.{◌≡◌, length, option_map};
 ghost use Rattle.std.specs.Cmp.Lexicographic.{pointwise};
 ghost use Rattle.ob_types.specs.declared.structure.ObType.TheVariants.{Record as OfRecord};
-ghost use Rattle.ob_types.specs.Spelling.{AreAlike, AreFirst};
+ghost use Rattle.ob_types.specs.Spelling.{AreAlike, AmongAlike, AreWithin, EndAlike};
 ghost use Rattle.ob_types.specs.Types as spec;
 
-use crate::firsts::passes;
 use crate::form::{Field, Form, ObType, RecordType};
 use crate::structure::Basic;
 
@@ -32,23 +31,42 @@ pub fn same(left: &ObType, right: &ObType) -> bool
 pub(crate) fn same_record(left: &RecordType, right: &RecordType) -> bool
     ensures { result ≡ spec.same (OfRecord left.now) (OfRecord right.now) }
 {
-    left.spelling() == right.spelling()
-        && same_fields(left.fields(), right.fields(), left.firsts(), right.firsts())
+    if left.spelling() == right.spelling() {
+        let (ends, others) = (left.ends(), right.ends());
+        if ends.firsts.as_slice() == others.firsts.as_slice() {
+            same_kept(left.fields(), right.fields(), ends.kept.as_slice())
+        } else {
+            same_each(left.fields(), right.fields())
+        }
+    } else {
+        false
+    }
 }
 
-/// Whether fields that are spelled alike are the same. One that ends on both sides with the record of a field before it is passed
-/// over.
+/// Whether fields that are spelled alike are the same, where those are whose numbers are kept: where they end with the same
+/// records, all do.
 #[cycle(same)]
-fn same_fields(left: &[Field], right: &[Field], firsts: &[usize], others: &[usize]) -> bool
+fn same_kept(left: &[Field], right: &[Field], kept: &[usize]) -> bool
     requires alike { AreAlike left.now right.now }
-    requires firsts { AreFirst firsts.now left.now }
-    requires others { AreFirst others.now right.now }
+    requires within { AreWithin kept.now left.now }
+    requires enough { AmongAlike kept.now left.now right.now → EndAlike left.now right.now (length left.now) }
+    ensures { result ≡ pointwise spec.same_field left.now right.now }
+{
+    for &number in kept {
+        if !same(left[number].of(), right[number].of()) {
+            return false;
+        }
+    }
+    true
+}
+
+/// Whether fields that are spelled alike are the same.
+#[cycle(same)]
+fn same_each(left: &[Field], right: &[Field]) -> bool
+    requires alike { AreAlike left.now right.now }
     ensures { result ≡ pointwise spec.same_field left.now right.now }
 {
     for i in 0..left.len() {
-        if passes(firsts, others, i) {
-            continue;
-        }
         if !same(left[i].of(), right[i].of()) {
             return false;
         }

@@ -4,7 +4,7 @@ ghost use Rattle.std.specs.Prelude.{◌≡◌, IfOk};
 ghost use Rattle.ob_types.specs.Forms as spec;
 
 use crate::declarable::{are_plain, are_words};
-use crate::firsts::firsts_of;
+use crate::firsts::ends_of;
 use crate::form::{Facts, Field};
 use crate::places::places_of;
 use crate::size::{fields_levels, fields_size};
@@ -21,13 +21,13 @@ pub(crate) fn facts_of(
     ensures { IfOk result (λ facts. spec.AreFacts facts name.now fields.now) }
 {
     let spelling = spelling_of(alloc, name, fields)?;
-    let firsts = firsts_of(alloc, fields)?;
+    let ends = ends_of(alloc, fields)?;
     Ok(Facts {
         cells: fields_size(fields).max(1),
         levels: fields_levels(fields).saturating_add(1),
         plain: are_words(name) && are_plain(fields),
         spelling,
-        firsts,
+        ends,
         places: places_of(alloc, fields)?,
     })
 }

@@ -1,11 +1,10 @@
 //! Fields that end with one record, so that it is compared once.
 
-ghost use Rattle.std.specs.Prelude.{◌≡◌, ◌<◌, List, length, option_map, IfOk, IsTrue};
-ghost use Rattle.ob_types.specs.declared.structure.Field.{Field as FieldOf};
+ghost use Rattle.std.specs.Prelude.{◌≡◌, ◌<◌, ◌⊎◌, length, get_or, option_map, None, IfOk, IsFalse, IsTrue};
 ghost use Rattle.ob_types.specs.Spelling as spec;
 
 use crate::compatible::same_record;
-use crate::form::{Field, Form, ObType, RecordType};
+use crate::form::{Ends, Field, Form, ObType, RecordType};
 use std::alloc::{AllocError, Global};
 
 /// So many fields before a field are looked at.
@@ -37,22 +36,13 @@ fn same_end(one: &ObType, other: &ObType) -> bool
 
 /// The number that stands for a field: of a field that ends with the same record.
 fn first_of(firsts: &[usize], number: usize) -> usize
-    ensures { (fields : List FieldOf) → spec.AreFirst firsts.now fields → spec.end_at fields result ≡ spec.end_at fields number }
+    ensures { result ≡ get_or firsts.now number number }
 {
     if number < firsts.len() {
         firsts[number]
     } else {
         number
     }
-}
-
-/// Whether a field ends on both sides with the record of a field before it.
-#[tactic(auto, using(crate::proofs::FieldEnds::ends_told))]
-pub(crate) fn passes(firsts: &[usize], others: &[usize], number: usize) -> bool
-    ensures { IsTrue result → (left right : List FieldOf) → spec.AreFirst firsts.now left → spec.AreFirst others.now right → spec.EndAlike left right number → spec.end_at left number ≡ spec.end_at right number }
-{
-    let first = first_of(firsts, number);
-    first < number && first_of(others, number) == first
 }
 
 /// The number of a field before that ends with the same record, if one is found, else its own. These stand for those before.
@@ -86,7 +76,7 @@ fn have_records(fields: &[Field]) -> bool {
 }
 
 /// For each field the number of one that ends with the same record, where two may. Or lack of memory.
-pub(crate) fn firsts_of(alloc: Global, fields: &[Field]) -> Result<Vec<usize>, AllocError>
+fn firsts_of(alloc: Global, fields: &[Field]) -> Result<Vec<usize>, AllocError>
     ensures { IfOk result (λ v. spec.AreFirst v.items fields.now) }
 {
     let mut firsts = Vec::new(alloc);
@@ -98,4 +88,38 @@ pub(crate) fn firsts_of(alloc: Global, fields: &[Field]) -> Result<Vec<usize>, A
         firsts.push(first)?;
     }
     Ok(firsts)
+}
+
+/// Whether a field ends with a record for which no field before stands.
+fn is_kept(fields: &[Field], firsts: &[usize], number: usize) -> bool
+    requires there { number < length fields.now }
+    ensures { IsFalse result → (spec.end_at fields.now number ≡ None) ⊎ (get_or firsts.now number number < number) }
+{
+    if first_of(firsts, number) < number {
+        return false;
+    }
+    end_of(fields[number].of()).is_some()
+}
+
+/// The numbers of these fields. Or lack of memory.
+fn kept_of(alloc: Global, fields: &[Field], firsts: &[usize]) -> Result<Vec<usize>, AllocError>
+    ensures kept { IfOk result (λ v. spec.AreKept (length fields.now) v.items firsts.now fields.now) }
+    ensures within { IfOk result (λ v. spec.AreWithin v.items fields.now) }
+{
+    let mut kept = Vec::new(alloc);
+    for number in 0..fields.len() {
+        if is_kept(fields, firsts, number) {
+            kept.push(number)?;
+        }
+    }
+    Ok(kept)
+}
+
+/// Which of these fields end with one record. Or lack of memory.
+pub(crate) fn ends_of(alloc: Global, fields: &[Field]) -> Result<Ends, AllocError>
+    ensures { IfOk result (λ ends. spec.AreEnds ends fields.now) }
+{
+    let firsts = firsts_of(alloc, fields)?;
+    let kept = kept_of(alloc, fields, firsts.as_slice())?;
+    Ok(Ends { firsts, kept })
 }

@@ -53,11 +53,19 @@ pub struct Facts {
     /// Whether the names in it are words and its arrays have elements.
     pub(crate) plain: bool,
     /// How it is spelled: which records that are spelled alike are one, the records in them decide.
-    pub(crate) spelling: Vec<u16>,
-    /// For each field the number of one that ends with the same record, where two may.
-    pub(crate) firsts: Vec<usize>,
+    pub(crate) spelling: Vec<u8>,
+    pub(crate) ends: Ends,
     /// The first place of each name among the fields, where they are many.
     pub(crate) places: Option<HashMap<Vec<u8>, usize>>,
+}
+
+/// Which fields of a record end with one record, behind their arrays.
+#[derive(Drop)]
+pub struct Ends {
+    /// For each field the number of one that ends with the same record, where two may.
+    pub(crate) firsts: Vec<usize>,
+    /// The numbers of the fields that end with a record for which no field before stands.
+    pub(crate) kept: Vec<usize>,
 }
 
 impl Model for ObType {

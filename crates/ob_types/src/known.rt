@@ -4,10 +4,10 @@ ghost use Rattle.std.specs.Prelude.{◌≡◌, min};
 ghost use Rattle.ob_types.specs.declared.structure.ObType.TheVariants.{Record as OfRecord};
 ghost use Rattle.ob_types.specs.Types.{cells, levels};
 ghost use Rattle.ob_types.specs.Declarable as spec;
-ghost use Rattle.ob_types.specs.Spelling.{record_spelled, AreFirst};
+ghost use Rattle.ob_types.specs.Spelling.{record_spelled, AreEnds};
 ghost use Rattle.ob_types.specs.declared.structure.RecordType.{out-RecordType};
 
-use crate::form::RecordType;
+use crate::form::{Ends, RecordType};
 
 impl RecordType {
     /// How many cells a value takes: `u32::MAX` stands for that many or more.
@@ -36,17 +36,16 @@ impl RecordType {
 
     /// How it is spelled.
     #[tactic(auto, using(crate::proofs::Rolled::parts_rolled))]
-    pub(crate) fn spelling(&self) -> &[u16]
+    pub(crate) fn spelling(&self) -> &[u8]
         ensures { result.now ≡ record_spelled (out-RecordType self.now).name (out-RecordType self.now).fields }
     {
         self.facts.spelling.as_slice()
     }
 
-    /// For each field the number of one that ends with the same record, where two may.
-    #[tactic(auto, using(crate::proofs::Rolled::firsts_rolled))]
-    pub(crate) fn firsts(&self) -> &[usize]
-        ensures { AreFirst result.now (out-RecordType self.now).fields }
+    /// Which of its fields end with one record.
+    pub(crate) fn ends(&self) -> &Ends
+        ensures { AreEnds result.now (out-RecordType self.now).fields }
     {
-        self.facts.firsts.as_slice()
+        &self.facts.ends
     }
 }

@@ -1,4 +1,4 @@
-//! Records as lists of numbers, by which two are compared at once down to the records in them.
+//! Records as lists of bytes, by which two are compared at once down to the records in them.
 
 ghost use Rattle.std.specs.Prelude.{◌≡◌, ◌++◌, IfOk, OnOk};
 ghost use Rattle.ob_types.specs.Spelling as spec;
@@ -8,24 +8,36 @@ use crate::structure::{Basic, RecordName};
 use ob_base::Text;
 use std::alloc::{AllocError, Global};
 
-fn put_letters(output: &mut Vec<u16>, name: &Text) -> Result<(), AllocError>
+fn put_letter(output: &mut Vec<u8>, c: u8) -> Result<(), AllocError>
+    ensures { OnOk result (output.new.items ≡ output.old.items ++ spec.letter c) }
+{
+    if c < 16 {
+        output.push(11)?;
+    }
+    output.push(c)?;
+    Ok(())
+}
+
+fn put_letters(output: &mut Vec<u8>, name: &Text) -> Result<(), AllocError>
     ensures { OnOk result (output.new.items ≡ output.old.items ++ spec.letters name.now) }
 {
     for &c in name.as_slice() {
-        output.push(c as u16 + 16)?;
+        put_letter(output, c)?;
     }
     Ok(())
 }
 
-fn put_number(output: &mut Vec<u16>, number: u32) -> Result<(), AllocError>
+fn put_number(output: &mut Vec<u8>, number: u32) -> Result<(), AllocError>
     ensures { OnOk result (output.new.items ≡ output.old.items ++ spec.number_spelled number) }
 {
-    output.push((number % 65536) as u16)?;
-    output.push((number / 65536) as u16)?;
+    output.push((number % 256) as u8)?;
+    output.push((number / 256 % 256) as u8)?;
+    output.push((number / 256 / 256 % 256) as u8)?;
+    output.push((number / 256 / 256 / 256) as u8)?;
     Ok(())
 }
 
-fn basic_number(of: Basic) -> u16
+fn basic_number(of: Basic) -> u8
     ensures { result ≡ spec.basic_number of }
 {
     match of {
@@ -36,7 +48,7 @@ fn basic_number(of: Basic) -> u16
     }
 }
 
-fn put_enclosing(output: &mut Vec<u16>, procedures: &[Text]) -> Result<(), AllocError>
+fn put_enclosing(output: &mut Vec<u8>, procedures: &[Text]) -> Result<(), AllocError>
     ensures { OnOk result (output.new.items ≡ output.old.items ++ spec.enclosing_spelled procedures.now) }
 {
     for procedure in procedures {
@@ -48,7 +60,7 @@ fn put_enclosing(output: &mut Vec<u16>, procedures: &[Text]) -> Result<(), Alloc
     Ok(())
 }
 
-fn put_name(output: &mut Vec<u16>, name: &RecordName) -> Result<(), AllocError>
+fn put_name(output: &mut Vec<u8>, name: &RecordName) -> Result<(), AllocError>
     ensures { OnOk result (output.new.items ≡ output.old.items ++ spec.name_spelled name.now) }
 {
     put_letters(output, &name.module_name)?;
@@ -59,7 +71,7 @@ fn put_name(output: &mut Vec<u16>, name: &RecordName) -> Result<(), AllocError>
     put_number(output, name.before)
 }
 
-fn mark(exported: bool) -> u16
+fn mark(exported: bool) -> u8
     ensures { result ≡ spec.mark exported }
 {
     if exported { 9 } else { 8 }
@@ -67,7 +79,7 @@ fn mark(exported: bool) -> u16
 
 /// Appends a type, down to a basic type or a record.
 #[tactic(auto, using(crate::proofs::Measures::array_size, crate::proofs::Measures::open_size, crate::proofs::SpellingForms::array_spelled, crate::proofs::SpellingForms::open_spelled))]
-fn put_type(output: &mut Vec<u16>, of: &ObType) -> Result<(), AllocError>
+fn put_type(output: &mut Vec<u8>, of: &ObType) -> Result<(), AllocError>
     ensures { OnOk result (output.new.items ≡ output.old.items ++ spec.type_spelled of.now) }
 {
     match of.form() {
@@ -91,7 +103,7 @@ fn put_type(output: &mut Vec<u16>, of: &ObType) -> Result<(), AllocError>
     }
 }
 
-fn put_field(output: &mut Vec<u16>, field: &Field) -> Result<(), AllocError>
+fn put_field(output: &mut Vec<u8>, field: &Field) -> Result<(), AllocError>
     ensures { OnOk result (output.new.items ≡ output.old.items ++ spec.field_spelled field.now) }
 {
     put_letters(output, field.name())?;
@@ -99,7 +111,7 @@ fn put_field(output: &mut Vec<u16>, field: &Field) -> Result<(), AllocError>
     put_type(output, field.of())
 }
 
-fn put_fields(output: &mut Vec<u16>, fields: &[Field]) -> Result<(), AllocError>
+fn put_fields(output: &mut Vec<u8>, fields: &[Field]) -> Result<(), AllocError>
     ensures { OnOk result (output.new.items ≡ output.old.items ++ spec.fields_spelled fields.now) }
 {
     for field in fields {
@@ -114,7 +126,7 @@ pub(crate) fn spelling_of(
     alloc: Global,
     name: &RecordName,
     fields: &[Field],
-) -> Result<Vec<u16>, AllocError>
+) -> Result<Vec<u8>, AllocError>
     ensures { IfOk result (λ v. v.items ≡ spec.record_spelled name.now fields.now) }
 {
     let mut spelling = Vec::new(alloc);

@@ -1,11 +1,9 @@
-use Rattle.std.proofs.Common.{◌≡◌, drop}
-use Rattle.std.specs.Cmp.Lexicographic.{pointwise}
-use Rattle.ob_types.specs.Types as spec
-use Rattle.ob_types.specs.Spelling.{EndAlike}
+use Rattle.std.proofs.Common.{◌⊎◌, ◌≡◌, ℕ, drop}
+use Rattle.ob_types.specs.Spelling.{end_at, EndAlike, IsAmong}
 use Rattle.ob_types.proofs.compatible.+same.Given as goal
 
-abbrev pub invariant-same_fields-loop-i : goal.invariant-same_fields-loop-i
-invariant-same_fields-loop-i l = record {
-  rest : pointwise spec.same_field l.left l.right ≡ pointwise spec.same_field (drop l.i l.left) (drop l.i l.right);
-  ends : EndAlike l.left l.right l.i;
-}
+abbrev pub invariant-same_kept-loop-number : goal.invariant-same_kept-loop-number
+invariant-same_kept-loop-number l = (k : ℕ) → IsAmong k l.kept → (end_at l.left k ≡ end_at l.right k) ⊎ IsAmong k (drop l.number-index l.kept)
+
+abbrev pub invariant-same_each-loop-i : goal.invariant-same_each-loop-i
+invariant-same_each-loop-i l = EndAlike l.left l.right l.i

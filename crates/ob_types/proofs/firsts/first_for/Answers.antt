@@ -1,6 +1,6 @@
 use Rattle.std.proofs.Common.{◌<◌, ◌-◌, length, refl, ap, sym, ◌∙◌, arith}
-use Rattle.ob_types.specs.Spelling.{end_in}
-use Rattle.ob_types.proofs.FieldEnds.{end_found}
+use Rattle.ob_types.specs.Spelling.{end_in, end_at}
+use Rattle.ob_types.proofs.FieldEnds.{end_found, stands}
 use Rattle.ob_types.proofs.firsts.first_for.Goals as goal
 
 pub returns-then-same_end : goal.returns-then-same_end
@@ -9,7 +9,8 @@ returns-then-same_end c =
     let one = c.index-fields-before.result in
     let other = c.index-fields-number.result in
     let within : c.loop-before.before - 1 < length fields = omega (arith, c.loop-before-test.true, c.loop-before.invariant, c.requires.there) in
-    c.first_of.ensures fields c.requires.firsts
+    ap (end_at fields) c.first_of.ensures
+    ∙ stands c.args.firsts.now fields (c.loop-before.before - 1) c.requires.firsts
     ∙ end_found fields (c.loop-before.before - 1) one within c.index-fields-before.is
     ∙ ap end_in (sym c.of.ensures)
     ∙ c.if-same_end.ensures refl
