@@ -14,4 +14,4 @@ mod running;
 pub use driver::{Driver, Parts};
 pub use law::{act_law, drive_law};
 pub use round::drive_some;
-pub use running::drive;
+pub use running::{Following, drive};

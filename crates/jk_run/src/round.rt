@@ -20,6 +20,23 @@ const SLICE: u64 = 1_000;
 /// How many bytes may be unread by one who is lent a place at the board, before the kernel waits.
 const UNREAD: usize = 67_108_864;
 
+/// What a round made: how many marks its slice did, and whether it published anything.
+#[derive(Clone, Copy)]
+pub(crate) struct Made {
+    pub(crate) marks: usize,
+    pub(crate) shown: bool,
+}
+
+impl Made {
+    /// Nothing yet.
+    fn nothing() -> Made {
+        Made {
+            marks: 0,
+            shown: false,
+        }
+    }
+}
+
 /// Makes `rounds` rounds, and answers the slice of the last one, or `NoMemory` where a call of that round was refused for
 /// memory. A round takes what arrived, gives jobs, hands results to the kernel, works one slice and publishes. While a
 /// follower that is lent is more than 67,108,864 bytes behind, it works no slice, unless the kernel was shut down: a budget
@@ -42,24 +59,27 @@ pub fn drive_some<L: Language, R: Wait>(rt: &R, rounds: u64, driver: Driver<L>) 
     (driver, work)
 }
 
-/// One round, whose slice has at most `turns` turns. It says also how many marks its slice made. Where entries in hand find no memory
-/// again, it is over.
+/// One round, whose slice has at most `turns` turns. It says also what it made. Where entries in hand find no memory again, it is
+/// over.
 pub(crate) fn round<L: Language, R: Wait>(
     rt: &R,
     turns: u64,
     driver: Driver<L>,
-) -> (Driver<L>, Work, usize)
+) -> (Driver<L>, Work, Made)
     requires { 1 ≤ turns }
     ensures acts { HasDriven L.spoken driver result.0 }
     ensures same { AreSameEnds driver result.0 }
     ensures shown { result.1 ≢ NoMemory → (result.0.entries ≡ None) × (result.0.kernel.pending ≡ []) }
     ensures done { IsRound L.spoken turns result.1 driver result.0 }
 {
+    let held = driver.entries.is_some();
     let driver = show_hand(rt, driver);
     if driver.entries.is_some() {
-        return (driver, Work::NoMemory, 0);
+        return (driver, Work::NoMemory, Made::nothing());
     }
-    go_round(rt, turns, driver)
+    let (driver, work, made) = go_round(rt, turns, driver);
+    let shown = held || made.shown;
+    (driver, work, Made { shown, ..made })
 }
 
 /// Publishes the entries in hand.
@@ -93,7 +113,7 @@ fn show_hand<L: Language, R: Wait>(rt: &R, driver: Driver<L>) -> Driver<L>
 }
 
 /// A round of a driver with no entries in hand.
-fn go_round<L: Language, R: Wait>(rt: &R, turns: u64, driver: Driver<L>) -> (Driver<L>, Work, usize)
+fn go_round<L: Language, R: Wait>(rt: &R, turns: u64, driver: Driver<L>) -> (Driver<L>, Work, Made)
     requires { driver.entries ≡ None }
     ensures acts { HasDriven L.spoken driver result.0 }
     ensures same { AreSameEnds driver result.0 }
@@ -118,7 +138,11 @@ fn go_round<L: Language, R: Wait>(rt: &R, turns: u64, driver: Driver<L>) -> (Dri
     let room = kernel.ended() || publisher.unread() <= UNREAD;
     let before = kernel.pending_marks();
     let work = work_slice(&mut kernel, turns, room);
-    let marks = kernel.pending_marks().saturating_sub(before);
+    let pending = kernel.pending_marks();
+    let made = Made {
+        marks: pending.saturating_sub(before),
+        shown: pending > 0,
+    };
     let (publisher, entries, shown) = publish_pending(
         rt,
         alloc,
@@ -138,7 +162,7 @@ fn go_round<L: Language, R: Wait>(rt: &R, turns: u64, driver: Driver<L>) -> (Dri
         entries,
         spare,
     };
-    (next, answer_of(taken, gave, shown, work), marks)
+    (next, answer_of(taken, gave, shown, work), made)
 }
 
 /// Works one slice, where there is room for what it shows. Else the answer is that there is no memory.

@@ -15,10 +15,17 @@ use jk_queues::pauses::Pauses;
 use std::sync::Wait;
 use std::time::{Clock, Instant};
 
+/// Those who follow a board, and may rest.
+pub trait Following {
+    /// The board has entries that it did not have before.
+    fn shown(&self);
+}
+
 /// Makes rounds until the kernel was shut down, not to start again, and all is published. Then it stops the pool and hands
 /// the driver back, whose publisher has to outlive the followers. While there is nothing to do it pauses between rounds, the
-/// longer the longer that has been so. How many turns the slice of a round has follows from how long the last round took.
-pub fn drive<L: Language, R: Wait + Clock>(rt: &R, driver: Driver<L>) -> Driver<L>
+/// longer the longer that has been so. How many turns the slice of a round has follows from how long the last round took. Those who
+/// follow the board are told of each round that published something.
+pub fn drive<L: Language, R: Wait + Clock + Following>(rt: &R, driver: Driver<L>) -> Driver<L>
     ensures acts { HasDriven L.spoken driver result }
     ensures same { AreSameEnds driver result }
     ensures last { (turns : ℕ) × (answer : Worked) × HasDone L.spoken turns answer driver result }
@@ -32,13 +39,16 @@ pub fn drive<L: Language, R: Wait + Clock>(rt: &R, driver: Driver<L>) -> Driver<
     let mut driver = driver;
     for _ in rt.forever() {
         let start = Instant::now(rt);
-        let (next, work, marks) = round(rt, pace.turns, driver);
+        let (next, work, made) = round(rt, pace.turns, driver);
         driver = next;
+        if made.shown {
+            rt.shown();
+        }
         if found_memory(work) && driver.kernel.ended() {
             driver.pool.stop(rt);
             return driver;
         }
-        pace = next_pace(pace, work, micros_since(rt, start), marks);
+        pace = next_pace(pace, work, micros_since(rt, start), made.marks);
         pauses.pause_unless(rt, goes_on(last, work));
         last = work;
     }

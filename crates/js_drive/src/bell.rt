@@ -1,7 +1,8 @@
 //! The rests of threads that look for something to do, and the bells that end them.
 ghost use Rattle.std.specs.Prelude.{◌≡◌, ◌+◌, ◌<◌, ◌≤◌, true, false};
 
-use crate::wakes::Wakes;
+use crate::wakes::{SERVER, Wakes};
+use jk_run::Following;
 use std::alloc::{AllocError, Global};
 use std::cell::Cell;
 use std::io;
@@ -25,6 +26,10 @@ const REST: u64 = 1_000_000;
 const PART: u64 = 200;
 
 const PARTS: u64 = 100;
+
+/// How many microseconds pass at least between two times that a driver wakes its channels. One that was woken looks for something new
+/// for longer than that.
+const AGAIN: u64 = 20_000;
 
 /// A bell. One thread rests by it, and others ring it.
 #[derive(Drop)]
@@ -100,7 +105,7 @@ impl<R: Wait + Clock> Clock for Belled<'_, R> {
 
 /// The handle of a driver. Its sleeps end where its bell is rung, and not while a channel has read something that is not submitted
 /// yet. A driver that has just done something sleeps shortly; before such a sleep it rings the bells of its parsers, which may have
-/// been given a job.
+/// been given a job. Its channels are woken where it has shown something, since they may have gone to rest in a long round.
 #[derive(Drop)]
 pub(crate) struct Driving<'b, R> {
     pub(crate) rt: &'b R,
@@ -108,6 +113,8 @@ pub(crate) struct Driving<'b, R> {
     pub(crate) parsers: &'b [Bell],
     /// How many microseconds it has slept since it rang.
     pub(crate) slept: Cell<u64>,
+    /// When it woke its channels last, in microseconds of the clock.
+    pub(crate) woke: Cell<u64>,
 }
 
 impl<R> Driving<'_, R> {
@@ -146,6 +153,28 @@ impl<R: Wait> Driving<'_, R> {
                 return;
             }
             self.wakes.driver.rest(self.rt, Duration::from_micros(PART));
+        }
+    }
+}
+
+/// Whether a driver wakes its channels at the microsecond `now` that woke them last at `woke`.
+fn is_again(woke: u64, now: u64) -> bool
+    ensures again { result ≡ true → woke + 20000 ≤ now }
+    ensures soon { result ≡ false → now < woke + 20000 }
+{
+    now.saturating_sub(woke) >= AGAIN
+}
+
+impl<R: Wait + Clock> Following for Driving<'_, R> {
+    fn shown(&self) {
+        let Ok(now) = self.rt.monotonic() else {
+            self.wakes.channels.wake(self.rt, SERVER);
+            return;
+        };
+        let now = micros_of(now);
+        if is_again(self.woke.get(), now) {
+            self.woke.set(now);
+            self.wakes.channels.wake(self.rt, SERVER);
         }
     }
 }

@@ -124,6 +124,7 @@ fn run<L: Language, R: Wait + Clock>(
         wakes: &bells.wakes,
         parsers: bells.parsers.as_slice(),
         slept: Cell::new(0),
+        woke: Cell::new(0),
     };
     let driver = drive(&driving, driver);
     bells.wakes.channels.end();
