@@ -1,8 +1,8 @@
 //! What constants are worth.
 
 ghost use Rattle.std.specs.Prelude.{◌≡◌, IfOk, option_map, pos};
-ghost use Rattle.ob_mean.specs.Arithmetic.{truth};
-ghost use Rattle.ob_mean.specs.Texts.{natural};
+ghost use Rattle.ob_mean.specs.Arithmetic.{texts_relate, truth};
+ghost use Rattle.ob_mean.specs.Texts.{before_zero as text_of, natural};
 ghost use Rattle.ob_mean.specs.declared.operator.UnaryOperator.TheVariants as one;
 ghost use Rattle.ob_check_const.specs.Folding as spec;
 
@@ -267,6 +267,17 @@ fn related_character(relation: Relation, left: &Text, right: Option<u8>) -> Opti
     }
 }
 
+/// Whether a relation holds of two strings. Those that are the same are compared in one go.
+fn texts_related(relation: Relation, left: &[u8], right: &[u8]) -> bool
+    ensures { result ≡ texts_relate relation (text_of left.now) (text_of right.now) }
+{
+    if left == right {
+        holds(relation, true, false)
+    } else {
+        texts_relate(relation, before_zero(left), before_zero(right))
+    }
+}
+
 /// The worth of a relation. None where the types don't fit.
 pub fn related_of(relation: Written, left: &Folded, right: &Folded) -> Option<Folded>
     ensures { result ≡ spec.related_of (spec.relation_of relation) left.now right.now }
@@ -286,10 +297,10 @@ pub fn related_of(relation: Written, left: &Folded, right: &Folded) -> Option<Fo
         ))),
         (Folded::Char(left), Folded::Text(right)) => character_related(relation, *left, right),
         (Folded::Text(left), Folded::Char(right)) => related_character(relation, left, *right),
-        (Folded::Text(left), Folded::Text(right)) => Some(Folded::Boolean(Some(texts_relate(
+        (Folded::Text(left), Folded::Text(right)) => Some(Folded::Boolean(Some(texts_related(
             relation,
-            before_zero(left.as_slice()),
-            before_zero(right.as_slice()),
+            left.as_slice(),
+            right.as_slice(),
         )))),
         _ => None,
     }
