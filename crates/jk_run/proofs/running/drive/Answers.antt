@@ -63,3 +63,6 @@ returns-then-ended-clause-last g c =
         worked = done.worked;
       },
     )
+
+pub returns-then-ended-clause-shown : goal.returns-then-ended-clause-shown
+returns-then-ended-clause-shown g c = c.round-next.ensures.shown (c.found_memory.ensures c.if-found_memory.true)
