@@ -2,10 +2,12 @@
 #![tactic(auto)]
 
 mod calls;
+mod held;
 mod image;
 mod kept;
 mod machine;
 mod paying;
+mod places;
 mod quick;
 mod run;
 
