@@ -6,6 +6,7 @@ mod held;
 mod image;
 mod kept;
 mod machine;
+mod passing;
 mod paying;
 mod places;
 mod quick;
