@@ -1,6 +1,6 @@
 -- A record as a list of bytes: its name and, of each field, the name, the mark, and the type down to a basic type or a record. And
 -- where fields end with one record.
-use Rattle.std.specs.Prelude.{◌≡◌, ℕ, zero, suc, ◌/◌, ◌%◌, ◌<◌, ◌⊎◌, ⊤, Bool, true, false, nat_lt, if◌then◌else◌, List, [], ◌∷◌, ◌++◌, length, get_or, Option, Some, None}
+use Rattle.std.specs.Prelude.{◌≡◌, ℕ, zero, suc, ◌-◌, ◌/◌, ◌%◌, ◌<◌, ◌⊎◌, ⊤, Bool, true, false, nat_lt, if◌then◌else◌, List, [], ◌∷◌, ◌++◌, length, get_or, Option, Some, None}
 use Rattle.ob_types.specs.declared.structure.Basic.{Basic}
 use Rattle.ob_types.specs.declared.structure.Basic.TheVariants as basic
 use Rattle.ob_types.specs.declared.structure.RecordName.{RecordName}
@@ -68,9 +68,13 @@ end_at [] k = None
 end_at (f ∷ fs) zero = end_in f.of
 end_at (f ∷ fs) (suc k) = end_at fs k
 
--- each field ends with the record of the field whose number stands for it
+-- the number of the field that stands for one: so many before it
+abbrev pub first_at : List ℕ → ℕ → ℕ
+first_at backs k = k - get_or backs k 0
+
+-- each field ends with the record of the field that stands for it
 abbrev pub AreFirst : List ℕ → List Field → Type 0
-AreFirst firsts fields = (k : ℕ) → k < length firsts → end_at fields (get_or firsts k k) ≡ end_at fields k
+AreFirst backs fields = (k : ℕ) → k < length backs → end_at fields (first_at backs k) ≡ end_at fields k
 
 abbrev pub IsAmong : ℕ → List ℕ → Type 0
 IsAmong k [] = ⊥
@@ -78,13 +82,13 @@ IsAmong k (n ∷ ns) = (k ≡ n) ⊎ IsAmong k ns
 
 -- each field below a number ends with no record, or has a field before it that stands for it, or is kept
 abbrev pub AreKept : ℕ → List ℕ → List ℕ → List Field → Type 0
-AreKept n kept firsts fields = (k : ℕ) → k < n → (end_at fields k ≡ None) ⊎ (get_or firsts k k < k) ⊎ IsAmong k kept
+AreKept n kept backs fields = (k : ℕ) → k < n → (end_at fields k ≡ None) ⊎ (first_at backs k < k) ⊎ IsAmong k kept
 
 abbrev pub AreWithin : List ℕ → List Field → Type 0
 AreWithin kept fields = (k : ℕ) → IsAmong k kept → k < length fields
 
 abbrev pub AreEnds : Ends → List Field → Type 0
-AreEnds ends fields = AreFirst ends.firsts.items fields × AreKept (length fields) ends.kept.items ends.firsts.items fields × AreWithin ends.kept.items fields
+AreEnds ends fields = AreFirst ends.backs.items fields × AreKept (length fields) ends.kept.items ends.backs.items fields × AreWithin ends.kept.items fields
 
 -- the fields of these numbers end with the same records
 abbrev pub AmongAlike : List ℕ → List Field → List Field → Type 0
