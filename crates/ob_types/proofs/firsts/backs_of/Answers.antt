@@ -1,4 +1,4 @@
-use Rattle.std.proofs.Common.{◌≡◌, ◌+◌, ◌-◌, ◌++◌, ◌∷◌, [], length, ap, subst, sym, ◌∙◌, arith}
+use Rattle.std.proofs.Common.{◌≡◌, ◌+◌, ◌-◌, ◌++◌, ◌∷◌, [], length, ap, subst, sym, ◌∙◌}
 use Rattle.ob_types.specs.Spelling.{AreFirst, end_at}
 use Rattle.ob_types.proofs.FieldEnds.{backs_more, one_longer}
 use Rattle.ob_types.proofs.firsts.backs_of.Goals as goal
