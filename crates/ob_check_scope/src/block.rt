@@ -75,7 +75,8 @@ impl Model for Block {
 /// So few declarations are looked through, which takes less time than the map.
 const FEW: usize = 4;
 
-/// What a name of these characters stands for among these.
+/// What a name of these characters stands for among these. It stands where it is called, as `find_spelled` does.
+#[inline(always)]
 fn find_among<'a>(declared: &'a [Declared], name: &[u8]) -> Option<&'a Entry>
     ensures { option_copied result ≡ find declared.now name.now }
 {
