@@ -75,12 +75,13 @@ impl Model for Block {
 /// So few declarations are looked through, which takes less time than the map.
 const FEW: usize = 4;
 
-/// What a name stands for among these.
-fn find_among<'a>(declared: &'a [Declared], name: &Text) -> Option<&'a Entry>
+/// What a name of these characters stands for among these. It stands where it is called, as `find_spelled` does.
+#[inline(always)]
+fn find_among<'a>(declared: &'a [Declared], name: &[u8]) -> Option<&'a Entry>
     ensures { option_copied result ≡ find declared.now name.now }
 {
     for each in declared {
-        if each.name.same(name) {
+        if each.name.as_slice() == name {
             return Some(&each.entry);
         }
     }
@@ -109,6 +110,14 @@ impl Block {
     pub fn find(&self, name: &Text) -> Option<&Entry>
         ensures { option_copied result ≡ find self.now name.now }
     {
+        self.find_spelled(name.as_slice())
+    }
+
+    /// The same for a name of these characters. It stands where it is called, for a name is looked up in many blocks.
+    #[inline(always)]
+    pub(crate) fn find_spelled(&self, name: &[u8]) -> Option<&Entry>
+        ensures { option_copied result ≡ find self.now name.now }
+    {
         if self.declared.len() <= FEW {
             find_among(self.declared.as_slice(), name)
         } else {
@@ -117,10 +126,11 @@ impl Block {
     }
 
     /// The same by the map.
-    fn find_placed(&self, name: &Text) -> Option<&Entry>
+    #[inline(never)]
+    fn find_placed(&self, name: &[u8]) -> Option<&Entry>
         ensures { option_copied result ≡ find self.now name.now }
     {
-        match self.places.get(name.as_slice()) {
+        match self.places.get(name) {
             Some(place) => Some(&self.declared[*place].entry),
             None => None,
         }

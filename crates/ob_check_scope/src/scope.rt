@@ -39,10 +39,11 @@ pub struct Scope {
 fn nearest<'a>(blocks: &'a [Block], name: &Text) -> Option<&'a Entry>
     ensures { option_copied result ≡ spec.nearest (reverse blocks.now) name.now }
 {
+    let name = name.as_slice();
     let mut i = blocks.len();
     while i > 0 {
         i -= 1;
-        if let Some(entry) = blocks[i].find(name) {
+        if let Some(entry) = blocks[i].find_spelled(name) {
             return Some(entry);
         }
     }

@@ -1,6 +1,6 @@
 //! Statements.
 
-ghost use Rattle.std.specs.Prelude.{◌≡◌, []};
+ghost use Rattle.std.specs.Prelude.{◌≡◌, ◌≤◌, [], length, IfOk};
 ghost use Rattle.ob_tree.specs.declared.tree.Branch.{out-Branch};
 ghost use Rattle.ob_tree.specs.declared.tree.Case.{out-Case};
 ghost use Rattle.ob_check_scope.specs.Rule.{Given, Judges, through};
@@ -23,7 +23,10 @@ use ob_mean::{Branch as TypedBranch, CaseArm, ForHead as TypedHead, TypedExpr, T
 use ob_scan::Span;
 use ob_tree::tree::{Branch, Case, Expr, ForHead, LabelRange, Statement};
 use ob_types::Basic;
-use std::alloc::Global;
+use std::alloc::{AllocError, Global};
+
+/// So many statements are a long sequence.
+const MANY: usize = 1_000;
 
 /// All labels of a CASE so far, its arms, and the variables of the module.
 type Arms = (Labels, Items<CaseArm>, Variables);
@@ -374,6 +377,31 @@ fn next_statement(
     }
 }
 
+/// How many of these statements are not empty.
+fn count_of(xs: &[Statement]) -> usize
+    ensures { result ≤ length xs.now }
+{
+    let mut count = 0usize;
+    for x in xs {
+        match x {
+            Statement::Empty => {}
+            _ => count += 1,
+        }
+    }
+    count
+}
+
+/// No statements yet, with room for those of a long sequence: none of them is moved while they come, which would leave holes in memory.
+fn none_yet(alloc: Global, xs: &[Statement]) -> Result<Items<TypedStatement>, AllocError>
+    ensures { IfOk result (λ none. none ≡ []) }
+{
+    let mut none = Items::new(alloc);
+    if xs.len() >= MANY {
+        none.make_room(count_of(xs))?;
+    }
+    Ok(none)
+}
+
 #[cycle(statement)]
 fn sequence(
     site: Site<'_>,
@@ -382,7 +410,7 @@ fn sequence(
 ) -> Result<(Items<TypedStatement>, Variables), Rejected>
     ensures { Judges (through (on spec.next_statement site.entry (on spec.statements_at site.entry)) ([], variables) xs.now) result }
 {
-    let mut done = Items::new(site.alloc);
+    let mut done = none_yet(site.alloc, xs)?;
     let mut so_far = variables;
     for x in xs {
         let (more, variables) = next_statement(site, done, so_far, x)?;

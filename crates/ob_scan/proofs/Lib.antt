@@ -1,3 +1,4 @@
+mod Beginnings
 mod Comments
 mod FrontReading
 mod Gaps

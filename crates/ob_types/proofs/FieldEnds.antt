@@ -1,5 +1,5 @@
 -- Fields that are spelled alike, and fields that end with the record of a field before them.
-use Rattle.std.proofs.Common.{◌≡◌, ◌<◌, ◌≤◌, ◌+◌, ◌⊎◌, inl, inr, ℕ, zero, suc, Bool, true, false, ◌&&◌, List, [], ◌∷◌, ◌++◌, length, get_or, drop, nat_lt, Option, Some, None, refl, ap, sym, subst, ◌∙◌, arith, ltb-true, ltb-false}
+use Rattle.std.proofs.Common.{◌≡◌, ◌<◌, ◌≤◌, ◌+◌, ◌-◌, ◌⊎◌, inl, inr, ℕ, zero, suc, Bool, true, false, ◌&&◌, List, [], ◌∷◌, ◌++◌, length, get_or, drop, nat_lt, Option, Some, None, refl, ap, sym, subst, ◌∙◌, arith, ltb-true, ltb-false}
 use Rattle.std.proofs.lemmas.Bool.Decides.{Decides-eqb}
 use Rattle.std.proofs.lemmas.Slice.Eq.{slice_eq-Decides}
 use Rattle.std.specs.Prelude.{eqb, is_some, option_map}
@@ -10,7 +10,7 @@ use Rattle.ob_types.specs.declared.structure.ObType.{ObType, end_of-ObType, more
 use Rattle.ob_types.specs.declared.structure.ObType.TheVariants.{Basic as OfBasic, Array', Open', Record}
 use Rattle.ob_types.specs.declared.structure.RecordType.{RecordType, out-RecordType}
 use Rattle.ob_types.specs.declared.form.Ends.{Ends}
-use Rattle.ob_types.specs.Spelling.{end_in, end_at, record_spelled, Alike, AreAlike, AreFirst, AreKept, AreWithin, AreEnds, AmongAlike, EndAlike, IsAmong}
+use Rattle.ob_types.specs.Spelling.{end_in, end_at, record_spelled, Alike, AreAlike, AreFirst, AreKept, AreWithin, AreEnds, AmongAlike, EndAlike, IsAmong, first_at}
 use Rattle.ob_types.specs.Types.{same, same_field, same_record, same_truth}
 use Rattle.ob_types.proofs.Equations.{fields_decide}
 use Rattle.ob_types.proofs.SameType.{same_true, field_own, name_own}
@@ -100,11 +100,13 @@ beyond [] k d le = refl
 beyond (x ∷ xs) zero d le = absurd (omega (arith, le))
 beyond (x ∷ xs) (suc k) d le = beyond xs k d (omega (arith, le))
 
-stands_by : (firsts : List ℕ) (fields : List Field) (k : ℕ) (b : Bool) → nat_lt k (length firsts) ≡ b → AreFirst firsts fields → end_at fields (get_or firsts k k) ≡ end_at fields k
+stands_by : (firsts : List ℕ) (fields : List Field) (k : ℕ) (b : Bool) → nat_lt k (length firsts) ≡ b → AreFirst firsts fields → end_at fields (first_at firsts k) ≡ end_at fields k
 stands_by firsts fields k true e h = h k (ltb-true k (length firsts) e)
-stands_by firsts fields k false e h = ap (end_at fields) (beyond firsts k k (ltb-false k (length firsts) e))
+stands_by firsts fields k false e h =
+    let own : k - 0 ≡ k = omega arith in
+    ap (λ b. end_at fields (k - b)) (beyond firsts k 0 (ltb-false k (length firsts) e)) ∙ ap (end_at fields) own
 
-pub stands : (firsts : List ℕ) (fields : List Field) (k : ℕ) → AreFirst firsts fields → end_at fields (get_or firsts k k) ≡ end_at fields k
+pub stands : (firsts : List ℕ) (fields : List Field) (k : ℕ) → AreFirst firsts fields → end_at fields (first_at firsts k) ≡ end_at fields k
 stands firsts fields k h = stands_by firsts fields k (nat_lt k (length firsts)) refl h
 
 -- ---- fields that are kept
@@ -134,9 +136,9 @@ none_at (x ∷ xs) [] k h e = absurd h
 none_at (x ∷ xs) (y ∷ ys) zero h e = none_alike x.of y.of h.2 e
 none_at (x ∷ xs) (y ∷ ys) (suc k) h e = none_at xs ys k h.3 e
 
-end_kept : (firsts kept : List ℕ) (xs ys : List Field) (k : ℕ) → AreAlike xs ys → AreFirst firsts xs → AreFirst firsts ys → AmongAlike kept xs ys → EndAlike xs ys k → (end_at xs k ≡ None) ⊎ (get_or firsts k k < k) ⊎ IsAmong k kept → end_at xs k ≡ end_at ys k
+end_kept : (firsts kept : List ℕ) (xs ys : List Field) (k : ℕ) → AreAlike xs ys → AreFirst firsts xs → AreFirst firsts ys → AmongAlike kept xs ys → EndAlike xs ys k → (end_at xs k ≡ None) ⊎ (first_at firsts k < k) ⊎ IsAmong k kept → end_at xs k ≡ end_at ys k
 end_kept firsts kept xs ys k h fx fy among ends (inl none) = none ∙ sym (none_at xs ys k h none)
-end_kept firsts kept xs ys k h fx fy among ends (inr (inl lower)) = sym (stands firsts xs k fx) ∙ ends (get_or firsts k k) lower ∙ stands firsts ys k fy
+end_kept firsts kept xs ys k h fx fy among ends (inr (inl lower)) = sym (stands firsts xs k fx) ∙ ends (first_at firsts k) lower ∙ stands firsts ys k fy
 end_kept firsts kept xs ys k h fx fy among ends (inr (inr is)) = among k is
 
 ends_kept : (firsts kept : List ℕ) (xs ys : List Field) (n : ℕ) → AreAlike xs ys → AreFirst firsts xs → AreFirst firsts ys → AreKept n kept firsts xs → AmongAlike kept xs ys → EndAlike xs ys n
@@ -146,10 +148,10 @@ ends_kept firsts kept xs ys (suc n) h fx fy all among k lt =
     ends_at xs ys k n lower (end_kept firsts kept xs ys n h fx fy among lower (all n (omega arith))) (below k n (omega (arith, lt)))
 
 -- where both have the same fields that stand for others, those that are kept are enough
-pub enough : (left right : Ends) (firsts others kept : List ℕ) (xs ys : List Field) → AreAlike xs ys → AreEnds left xs → AreEnds right ys → firsts ≡ left.firsts.items → others ≡ right.firsts.items → pointwise eqb firsts others ≡ true → kept ≡ left.kept.items → AmongAlike kept xs ys → EndAlike xs ys (length xs)
+pub enough : (left right : Ends) (firsts others kept : List ℕ) (xs ys : List Field) → AreAlike xs ys → AreEnds left xs → AreEnds right ys → firsts ≡ left.backs.items → others ≡ right.backs.items → pointwise eqb firsts others ≡ true → kept ≡ left.kept.items → AmongAlike kept xs ys → EndAlike xs ys (length xs)
 enough left right firsts others kept xs ys h l r f g e k among =
     let same_firsts : firsts ≡ others = (slice_eq-Decides Decides-eqb firsts others (pointwise eqb firsts others) refl).0 e in
-    ends_kept left.firsts.items left.kept.items xs ys (length xs) h l.0 (subst (λ n. AreFirst n ys) (sym g ∙ sym same_firsts ∙ f) r.0) l.1 (subst (λ n. AmongAlike n xs ys) k among)
+    ends_kept left.backs.items left.kept.items xs ys (length xs) h l.0 (subst (λ n. AreFirst n ys) (sym g ∙ sym same_firsts ∙ f) r.0) l.1 (subst (λ n. AmongAlike n xs ys) k among)
 
 pub among_at : (kept : List ℕ) (i : ℕ) → i < length kept → IsAmong (get_or kept i 0) kept
 among_at [] i lt = absurd (omega (arith, lt))
@@ -191,12 +193,12 @@ among_last : (xs : List ℕ) (x : ℕ) → IsAmong x (xs ++ x ∷ [])
 among_last [] x = inl refl
 among_last (y ∷ xs) x = inr (among_last xs x)
 
-kept_front : (kept firsts : List ℕ) (number k : ℕ) (fields : List Field) → (end_at fields k ≡ None) ⊎ (get_or firsts k k < k) ⊎ IsAmong k kept → (end_at fields k ≡ None) ⊎ (get_or firsts k k < k) ⊎ IsAmong k (kept ++ number ∷ [])
+kept_front : (kept firsts : List ℕ) (number k : ℕ) (fields : List Field) → (end_at fields k ≡ None) ⊎ (first_at firsts k < k) ⊎ IsAmong k kept → (end_at fields k ≡ None) ⊎ (first_at firsts k < k) ⊎ IsAmong k (kept ++ number ∷ [])
 kept_front kept firsts number k fields (inl e) = inl e
 kept_front kept firsts number k fields (inr (inl l)) = inr (inl l)
 kept_front kept firsts number k fields (inr (inr h)) = inr (inr (among_front kept number k h))
 
-kept_at : (kept firsts : List ℕ) (number k : ℕ) (fields : List Field) → AreKept number kept firsts fields → (k < number) ⊎ (k ≡ number) → (end_at fields k ≡ None) ⊎ (get_or firsts k k < k) ⊎ IsAmong k (kept ++ number ∷ [])
+kept_at : (kept firsts : List ℕ) (number k : ℕ) (fields : List Field) → AreKept number kept firsts fields → (k < number) ⊎ (k ≡ number) → (end_at fields k ≡ None) ⊎ (first_at firsts k < k) ⊎ IsAmong k (kept ++ number ∷ [])
 kept_at kept firsts number k fields h (inl l) = kept_front kept firsts number k fields (h k l)
 kept_at kept firsts number k fields h (inr e) = inr (inr (subst (λ n. IsAmong n (kept ++ number ∷ [])) (sym e) (among_last kept number)))
 
@@ -209,12 +211,12 @@ within_more [] number fields h lt k (inr never_there) = absurd never_there
 within_more (x ∷ kept) number fields h lt k (inl e) = h k (inl e)
 within_more (x ∷ kept) number fields h lt k (inr more) = within_more kept number fields (λ j is. h j (inr is)) lt k more
 
-passed_at : (kept firsts : List ℕ) (number k : ℕ) (fields : List Field) → AreKept number kept firsts fields → (end_at fields number ≡ None) ⊎ (get_or firsts number number < number) → (k < number) ⊎ (k ≡ number) → (end_at fields k ≡ None) ⊎ (get_or firsts k k < k) ⊎ IsAmong k kept
+passed_at : (kept firsts : List ℕ) (number k : ℕ) (fields : List Field) → AreKept number kept firsts fields → (end_at fields number ≡ None) ⊎ (first_at firsts number < number) → (k < number) ⊎ (k ≡ number) → (end_at fields k ≡ None) ⊎ (first_at firsts k < k) ⊎ IsAmong k kept
 passed_at kept firsts number k fields h n (inl l) = h k l
 passed_at kept firsts number k fields h (inl none) (inr e) = inl (ap (end_at fields) e ∙ none)
-passed_at kept firsts number k fields h (inr lower) (inr e) = inr (inl (subst (λ j. get_or firsts j j < j) (sym e) lower))
+passed_at kept firsts number k fields h (inr lower) (inr e) = inr (inl (subst (λ j. first_at firsts j < j) (sym e) lower))
 
-pub passed_more : (kept firsts : List ℕ) (number : ℕ) (fields : List Field) → AreKept number kept firsts fields → (end_at fields number ≡ None) ⊎ (get_or firsts number number < number) → AreKept (number + 1) kept firsts fields
+pub passed_more : (kept firsts : List ℕ) (number : ℕ) (fields : List Field) → AreKept number kept firsts fields → (end_at fields number ≡ None) ⊎ (first_at firsts number < number) → AreKept (number + 1) kept firsts fields
 passed_more kept firsts number fields h n k lt = passed_at kept firsts number k fields h n (below k number lt)
 
 -- ---- one number more
@@ -228,17 +230,18 @@ get_last : (xs : List ℕ) (x d : ℕ) → get_or (xs ++ x ∷ []) (length xs) d
 get_last [] x d = refl
 get_last (y ∷ xs) x d = get_last xs x d
 
-one_longer : (xs : List ℕ) (x : ℕ) → length (xs ++ x ∷ []) ≡ length xs + 1
+pub one_longer : (xs : List ℕ) (x : ℕ) → length (xs ++ x ∷ []) ≡ length xs + 1
 one_longer [] x = omega arith
 one_longer (y ∷ xs) x = let e = one_longer xs x in omega (arith, e)
 
-firsts_at : (firsts : List ℕ) (first : ℕ) (fields : List Field) (k : ℕ) → AreFirst firsts fields → end_at fields first ≡ end_at fields (length firsts) → (k < length firsts) ⊎ (k ≡ length firsts) → end_at fields (get_or (firsts ++ first ∷ []) k k) ≡ end_at fields k
-firsts_at firsts first fields k h e (inl l) = ap (end_at fields) (get_front firsts first k k l) ∙ h k l
-firsts_at firsts first fields k h e (inr m) =
-    ap (λ n. end_at fields (get_or (firsts ++ first ∷ []) n k)) m ∙ ap (end_at fields) (get_last firsts first k) ∙ e ∙ ap (end_at fields) (sym m)
+back_at : (backs : List ℕ) (back k : ℕ) (fields : List Field) → AreFirst backs fields → end_at fields (length backs - back) ≡ end_at fields (length backs) → (k < length backs) ⊎ (k ≡ length backs) → end_at fields (first_at (backs ++ back ∷ []) k) ≡ end_at fields k
+back_at backs back k fields h e (inl l) = ap (λ b. end_at fields (k - b)) (get_front backs back k 0 l) ∙ h k l
+back_at backs back k fields h e (inr m) =
+    subst (λ j. end_at fields (first_at (backs ++ back ∷ []) j) ≡ end_at fields j) (sym m)
+    (ap (λ b. end_at fields (length backs - b)) (get_last backs back 0) ∙ e)
 
-pub firsts_more : (firsts : List ℕ) (first : ℕ) (fields : List Field) → AreFirst firsts fields → end_at fields first ≡ end_at fields (length firsts) → AreFirst (firsts ++ first ∷ []) fields
-firsts_more firsts first fields h e k lt = firsts_at firsts first fields k h e (below k (length firsts) (omega (arith, lt, one_longer firsts first)))
+pub backs_more : (backs : List ℕ) (back : ℕ) (fields : List Field) → AreFirst backs fields → end_at fields (length backs - back) ≡ end_at fields (length backs) → AreFirst (backs ++ back ∷ []) fields
+backs_more backs back fields h e k lt = back_at backs back k fields h e (below k (length backs) (omega (arith, lt, one_longer backs back)))
 
 -- ---- records that are the same
 

@@ -4,6 +4,7 @@ pub mod Numbering
 pub mod Numbers
 pub mod SameType
 pub mod DeclarableForms
+pub mod SharedFronts
 pub mod SpellingForms
 pub mod Rolled
 pub mod Layers

@@ -1,7 +1,8 @@
 -- Two records that are spelled alike have one name, and fields that are alike; and where these end with the same records, they are
 -- equal.
-use Rattle.std.proofs.Common.{◌≡◌, ◌<◌, ◌≤◌, ◌/◌, ◌%◌, ◌⊎◌, inl, inr, ℕ, zero, suc, nat_lt, Bool, true, false, List, [], ◌∷◌, ◌++◌, Option, Some, None, refl, ap, sym, ◌∙◌, arith, append_assoc, ltb-false}
+use Rattle.std.proofs.Common.{◌≡◌, ◌<◌, ◌≤◌, ◌+◌, ◌*◌, ◌/◌, ◌%◌, ◌⊎◌, inl, inr, ℕ, zero, suc, nat_lt, ◌==◌, drop, Bool, true, false, List, [], ◌∷◌, ◌++◌, Option, Some, None, refl, ap, sym, ◌∙◌, arith, append_assoc, ltb-false}
 use Rattle.std.specs.Prelude.{if◌then◌else◌}
+use Rattle.std.proofs.lemmas.Bool.{eqb-true}
 use Rattle.ob_types.specs.declared.structure.Field.{Field}
 use Rattle.ob_types.specs.declared.structure.Basic.{Basic}
 use Rattle.ob_types.specs.declared.structure.Basic.TheVariants as basic
@@ -9,7 +10,7 @@ use Rattle.ob_types.specs.declared.structure.RecordName.{RecordName}
 use Rattle.ob_types.specs.declared.structure.ObType.{ObType, end_of-ObType, more_of-ObType}
 use Rattle.ob_types.specs.declared.structure.ObType.TheVariants.{Basic as OfBasic, Array, Open, Array', Open', Record}
 use Rattle.ob_types.specs.declared.structure.RecordType.{RecordType}
-use Rattle.ob_types.specs.Spelling.{letter, letters, number_spelled, basic_number, enclosing_spelled, name_spelled, mark, type_spelled, fields_spelled, record_spelled, end_in, Alike, AreAlike}
+use Rattle.ob_types.specs.Spelling.{letter, letters, number_spelled, basic_number, enclosing_spelled, name_spelled, mark, shared, type_spelled, fields_spelled, record_spelled, end_in, Alike, AreAlike}
 
 -- ---- words in front of a list
 
@@ -26,9 +27,15 @@ type_onto (Array' n p (more_of-ObType element end_of-ObType)) r = 4 ∷ (number_
 type_onto (Open' p (more_of-ObType element end_of-ObType)) r = 5 ∷ type_onto element r
 type_onto (Record x) r = 6 ∷ r
 
-abbrev fields_onto : List Field → List ℕ → List ℕ
-fields_onto [] r = 10 ∷ r
-fields_onto (f ∷ fs) r = letters f.name ++ (mark f.exported ∷ type_onto f.of (fields_onto fs r))
+abbrev first_of : List ℕ → Field → ℕ
+first_of p f = 16 + 2 * shared 100 p f.name + mark f.exported
+
+abbrev rest_of : List ℕ → Field → List ℕ
+rest_of p f = letters (drop (shared 100 p f.name) f.name)
+
+abbrev fields_onto : List ℕ → List Field → List ℕ → List ℕ
+fields_onto p [] r = 10 ∷ r
+fields_onto p (f ∷ fs) r = first_of p f ∷ (rest_of p f ++ type_onto f.of (fields_onto f.name fs r))
 
 enclosing_is : (ps : List (List ℕ)) (r : List ℕ) → enclosing_spelled ps ++ r ≡ enclosing_onto ps r
 enclosing_is [] r = refl
@@ -47,12 +54,12 @@ type_is (Array' n p (more_of-ObType element end_of-ObType)) r = ap (λ l. 4 ∷ 
 type_is (Open' p (more_of-ObType element end_of-ObType)) r = ap (λ l. 5 ∷ l) (type_is element r)
 type_is (Record x) r = refl
 
-fields_are : (fs : List Field) (r : List ℕ) → fields_spelled fs ++ r ≡ fields_onto fs r
-fields_are [] r = refl
-fields_are (f ∷ fs) r =
-    append_assoc (letters f.name ++ (mark f.exported ∷ type_spelled f.of)) (fields_spelled fs) r
-    ∙ append_assoc (letters f.name) (mark f.exported ∷ type_spelled f.of) (fields_spelled fs ++ r)
-    ∙ ap (λ l. letters f.name ++ (mark f.exported ∷ l)) (ap (λ l. type_spelled f.of ++ l) (fields_are fs r) ∙ type_is f.of (fields_onto fs r))
+fields_are : (p : List ℕ) (fs : List Field) (r : List ℕ) → fields_spelled p fs ++ r ≡ fields_onto p fs r
+fields_are p [] r = refl
+fields_are p (f ∷ fs) r =
+    append_assoc (first_of p f ∷ (rest_of p f ++ type_spelled f.of)) (fields_spelled f.name fs) r
+    ∙ ap (λ l. first_of p f ∷ l) (append_assoc (rest_of p f) (type_spelled f.of) (fields_spelled f.name fs ++ r))
+    ∙ ap (λ l. first_of p f ∷ (rest_of p f ++ l)) (ap (λ l. type_spelled f.of ++ l) (fields_are f.name fs r) ∙ type_is f.of (fields_onto f.name fs r))
 
 -- ---- what stands in front is told apart
 
@@ -165,15 +172,64 @@ basic_low basic.Byte = omega arith
 basic_apart : (b c : Basic) → basic_number b ≡ basic_number c → b ≡ c
 basic_apart b c e = sym (basic_back b) ∙ ap basic_of e ∙ basic_back c
 
-mark_low : (m : Bool) → mark m < 10
-mark_low true = omega arith
-mark_low false = omega arith
+marks_apart : (c d : ℕ) (m n : Bool) → 16 + 2 * c + mark m ≡ 16 + 2 * d + mark n → (c ≡ d) × (m ≡ n)
+marks_apart c d true true e = (omega (arith, e), refl)
+marks_apart c d false false e = (omega (arith, e), refl)
+marks_apart c d true false e = absurd (omega (arith, e))
+marks_apart c d false true e = absurd (omega (arith, e))
 
-mark_apart : (m n : Bool) → mark m ≡ mark n → m ≡ n
-mark_apart true true e = refl
-mark_apart false false e = refl
-mark_apart true false e = absurd (omega (arith, e))
-mark_apart false true e = absurd (omega (arith, e))
+-- ---- names that have as much in common with one, and the same rest
+
+abbrev Rests : ℕ → ℕ → List ℕ → List ℕ → Type 0
+Rests m n a b = (m ≡ n) → drop m a ≡ drop n b → a ≡ b
+
+same_by : (x y z : ℕ) (b c : Bool) (m n : ℕ) (us vs : List ℕ) → (x == y) ≡ b → (x == z) ≡ c → Rests m n us vs → (if b then suc m else zero) ≡ (if c then suc n else zero) → drop (if b then suc m else zero) (y ∷ us) ≡ drop (if c then suc n else zero) (z ∷ vs) → y ∷ us ≡ z ∷ vs
+same_by x y z true true m n us vs e f go i h =
+    let one : y ≡ z = sym (eqb-true x y e) ∙ eqb-true x z f in
+    let rest : us ≡ vs = go (omega (arith, i)) h in
+    λ j. one j ∷ rest j
+same_by x y z true false m n us vs e f go i h = absurd (omega (arith, i))
+same_by x y z false true m n us vs e f go i h = absurd (omega (arith, i))
+same_by x y z false false m n us vs e f go i h = h
+
+none_by : (x z : ℕ) (c : Bool) (n : ℕ) (vs : List ℕ) → (x == z) ≡ c → zero ≡ (if c then suc n else zero) → [] ≡ drop (if c then suc n else zero) (z ∷ vs) → [] ≡ z ∷ vs
+none_by x z true n vs f i h = absurd (omega (arith, i))
+none_by x z false n vs f i h = h
+
+same_name : (n : ℕ) (p a b : List ℕ) → shared n p a ≡ shared n p b → drop (shared n p a) a ≡ drop (shared n p b) b → a ≡ b
+same_name zero p a b i h = h
+same_name (suc n) [] a b i h = h
+same_name (suc n) (x ∷ p) [] [] i h = refl
+same_name (suc n) (x ∷ p) [] (z ∷ b) i h = none_by x z (x == z) (shared n p b) b refl i h
+same_name (suc n) (x ∷ p) (y ∷ a) [] i h = sym (none_by x y (x == y) (shared n p a) a refl (sym i) (sym h))
+same_name (suc n) (x ∷ p) (y ∷ a) (z ∷ b) i h =
+    same_by x y z (x == y) (x == z) (shared n p a) (shared n p b) a b refl refl (same_name n p a b) i h
+
+-- ---- types
+
+abbrev head_of : ObType → ℕ
+head_of (OfBasic b) = basic_number b
+head_of (Array' n p (more_of-ObType element end_of-ObType)) = 4
+head_of (Open' p (more_of-ObType element end_of-ObType)) = 5
+head_of (Record x) = 6
+
+abbrev behind_head : ObType → List ℕ → List ℕ
+behind_head (OfBasic b) r = r
+behind_head (Array' n p (more_of-ObType element end_of-ObType)) r = number_spelled n ++ type_onto element r
+behind_head (Open' p (more_of-ObType element end_of-ObType)) r = type_onto element r
+behind_head (Record x) r = r
+
+head_is : (t : ObType) (r : List ℕ) → type_onto t r ≡ head_of t ∷ behind_head t r
+head_is (OfBasic b) r = refl
+head_is (Array' n p (more_of-ObType element end_of-ObType)) r = refl
+head_is (Open' p (more_of-ObType element end_of-ObType)) r = refl
+head_is (Record x) r = refl
+
+head_low : (t : ObType) → head_of t < 11
+head_low (OfBasic b) = omega (arith, basic_low b)
+head_low (Array' n p (more_of-ObType element end_of-ObType)) = omega arith
+head_low (Open' p (more_of-ObType element end_of-ObType)) = omega arith
+head_low (Record x) = omega arith
 
 type_apart : (a b : ObType) (r s : List ℕ) → type_onto a r ≡ type_onto b s → Alike a b × (r ≡ s)
 type_apart (OfBasic b) (OfBasic c) r s h = (basic_apart b c (heads _ _ _ _ h), tails _ _ _ _ h)
@@ -196,26 +252,27 @@ type_apart (Record x) (Array' m q (more_of-ObType y end_of-ObType)) r s h = absu
 type_apart (Record x) (Open' q (more_of-ObType y end_of-ObType)) r s h = absurd (omega (arith, heads 6 5 _ _ h))
 type_apart (Record x) (Record y) r s h = (tt, tails _ _ _ _ h)
 
-fields_apart : (xs ys : List Field) (r s : List ℕ) → fields_onto xs r ≡ fields_onto ys s → AreAlike xs ys × (r ≡ s)
-fields_apart [] [] r s h = (tt, tails _ _ _ _ h)
-fields_apart [] (y ∷ ys) r s h =
-    let l = letters_apart [] y.name 10 (mark y.exported) r (type_onto y.of (fields_onto ys s)) (omega arith) (omega (arith, mark_low y.exported)) h in
-    absurd (omega (arith, mark_low y.exported, l.1))
-fields_apart (x ∷ xs) [] r s h =
-    let l = letters_apart x.name [] (mark x.exported) 10 (type_onto x.of (fields_onto xs r)) s (omega (arith, mark_low x.exported)) (omega arith) h in
-    absurd (omega (arith, mark_low x.exported, l.1))
-fields_apart (x ∷ xs) (y ∷ ys) r s h =
-    let l = letters_apart x.name y.name (mark x.exported) (mark y.exported) (type_onto x.of (fields_onto xs r)) (type_onto y.of (fields_onto ys s)) (omega (arith, mark_low x.exported)) (omega (arith, mark_low y.exported)) h in
-    let m = type_apart x.of y.of (fields_onto xs r) (fields_onto ys s) l.2 in
-    let n = fields_apart xs ys r s m.1 in
-    ((l.0, mark_apart x.exported y.exported l.1, m.0, n.0), n.1)
+fields_apart : (p : List ℕ) (xs ys : List Field) (r s : List ℕ) → fields_onto p xs r ≡ fields_onto p ys s → AreAlike xs ys × (r ≡ s)
+fields_apart p [] [] r s h = (tt, tails _ _ _ _ h)
+fields_apart p [] (y ∷ ys) r s h = absurd (omega (arith, heads 10 (first_of p y) _ _ h))
+fields_apart p (x ∷ xs) [] r s h = absurd (omega (arith, heads (first_of p x) 10 _ _ h))
+fields_apart p (x ∷ xs) (y ∷ ys) r s h =
+    let m = marks_apart (shared 100 p x.name) (shared 100 p y.name) x.exported y.exported (heads (first_of p x) (first_of p y) _ _ h) in
+    let l = letters_apart (drop (shared 100 p x.name) x.name) (drop (shared 100 p y.name) y.name) (head_of x.of) (head_of y.of)
+    (behind_head x.of (fields_onto x.name xs r)) (behind_head y.of (fields_onto y.name ys s)) (head_low x.of) (head_low y.of)
+    (ap (λ l. rest_of p x ++ l) (sym (head_is x.of (fields_onto x.name xs r))) ∙ tails (first_of p x) (first_of p y) _ _ h ∙ ap (λ l. rest_of p y ++ l) (head_is y.of (fields_onto y.name ys s))) in
+    let name = same_name 100 p x.name y.name m.0 l.0 in
+    let t = type_apart x.of y.of (fields_onto x.name xs r) (fields_onto y.name ys s)
+    (head_is x.of (fields_onto x.name xs r) ∙ (λ i. l.1 i ∷ l.2 i) ∙ sym (head_is y.of (fields_onto y.name ys s))) in
+    let n = fields_apart x.name xs ys r s (t.1 ∙ ap (λ q. fields_onto q ys s) (sym name)) in
+    ((name, m.1, t.0, n.0), n.1)
 
 pub record_apart : (x y : RecordName) (xs ys : List Field) → record_spelled x xs ≡ record_spelled y ys → (x ≡ y) × AreAlike xs ys
 record_apart x y xs ys h =
-    let shown : (n : RecordName) (fs : List Field) → record_spelled n fs ++ [] ≡ name_onto n (fields_onto fs []) =
-    λ n fs. append_assoc (name_spelled n) (fields_spelled fs) [] ∙ ap (λ l. name_spelled n ++ l) (fields_are fs []) ∙ name_is n (fields_onto fs []) in
-    let a = name_apart x y (fields_onto xs []) (fields_onto ys []) (sym (shown x xs) ∙ ap (λ l. l ++ []) h ∙ shown y ys) in
-    (a.0, (fields_apart xs ys [] [] a.1).0)
+    let shown : (n : RecordName) (fs : List Field) → record_spelled n fs ++ [] ≡ name_onto n (fields_onto [] fs []) =
+    λ n fs. append_assoc (name_spelled n) (fields_spelled [] fs) [] ∙ ap (λ l. name_spelled n ++ l) (fields_are [] fs []) ∙ name_is n (fields_onto [] fs []) in
+    let a = name_apart x y (fields_onto [] xs []) (fields_onto [] ys []) (sym (shown x xs) ∙ ap (λ l. l ++ []) h ∙ shown y ys) in
+    (a.0, (fields_apart [] xs ys [] [] a.1).0)
 
 -- ---- types that are alike, and end with one record
 

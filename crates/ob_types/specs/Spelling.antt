@@ -1,6 +1,6 @@
--- A record as a list of bytes: its name and, of each field, the name, the mark, and the type down to a basic type or a record. And
--- where fields end with one record.
-use Rattle.std.specs.Prelude.{◌≡◌, ℕ, zero, suc, ◌/◌, ◌%◌, ◌<◌, ◌⊎◌, ⊤, Bool, true, false, nat_lt, if◌then◌else◌, List, [], ◌∷◌, ◌++◌, length, get_or, Option, Some, None}
+-- A record as a list of bytes: its name and, of each field, the name (but for what it has in common with that of the field before),
+-- whether it is exported, and the type down to a basic type or a record. And where fields end with one record.
+use Rattle.std.specs.Prelude.{◌≡◌, ℕ, zero, suc, ◌+◌, ◌-◌, ◌*◌, ◌/◌, ◌%◌, ◌<◌, ◌⊎◌, ⊤, Bool, true, false, nat_lt, ◌==◌, if◌then◌else◌, List, [], ◌∷◌, ◌++◌, length, drop, get_or, Option, Some, None}
 use Rattle.ob_types.specs.declared.structure.Basic.{Basic}
 use Rattle.ob_types.specs.declared.structure.Basic.TheVariants as basic
 use Rattle.ob_types.specs.declared.structure.RecordName.{RecordName}
@@ -36,8 +36,8 @@ abbrev pub name_spelled : RecordName → List ℕ
 name_spelled r = letters r.module_name ++ 3 ∷ enclosing_spelled r.enclosing ++ letters r.declared ++ 4 ∷ number_spelled r.before
 
 abbrev pub mark : Bool → ℕ
-mark true = 9
-mark false = 8
+mark true = 1
+mark false = 0
 
 abbrev pub type_spelled : ObType → List ℕ
 type_spelled (OfBasic b) = basic_number b ∷ []
@@ -45,15 +45,24 @@ type_spelled (Array' n p (more_of-ObType element end_of-ObType)) = 4 ∷ number_
 type_spelled (Open' p (more_of-ObType element end_of-ObType)) = 5 ∷ type_spelled element
 type_spelled (Record r) = 6 ∷ []
 
-abbrev pub field_spelled : Field → List ℕ
-field_spelled f = letters f.name ++ mark f.exported ∷ type_spelled f.of
+-- how many characters, so many at most, two names begin with in common
+abbrev pub shared : ℕ → List ℕ → List ℕ → ℕ
+shared zero xs ys = zero
+shared (suc n) [] ys = zero
+shared (suc n) (x ∷ xs) [] = zero
+shared (suc n) (x ∷ xs) (y ∷ ys) = if x == y then suc (shared n xs ys) else zero
 
-abbrev pub fields_spelled : List Field → List ℕ
-fields_spelled [] = 10 ∷ []
-fields_spelled (f ∷ fs) = field_spelled f ++ fields_spelled fs
+-- A field after one of a name: what they have in common and whether it is exported, in one number; the rest of its name; its type.
+abbrev pub field_spelled : List ℕ → Field → List ℕ
+field_spelled previous f =
+    (16 + 2 * shared 100 previous f.name + mark f.exported) ∷ letters (drop (shared 100 previous f.name) f.name) ++ type_spelled f.of
+
+abbrev pub fields_spelled : List ℕ → List Field → List ℕ
+fields_spelled previous [] = 10 ∷ []
+fields_spelled previous (f ∷ fs) = field_spelled previous f ++ fields_spelled f.name fs
 
 abbrev pub record_spelled : RecordName → List Field → List ℕ
-record_spelled name fields = name_spelled name ++ fields_spelled fields
+record_spelled name fields = name_spelled name ++ fields_spelled [] fields
 
 -- the record that a type ends with, behind its arrays
 abbrev pub end_in : ObType → Option RecordType
@@ -68,9 +77,13 @@ end_at [] k = None
 end_at (f ∷ fs) zero = end_in f.of
 end_at (f ∷ fs) (suc k) = end_at fs k
 
--- each field ends with the record of the field whose number stands for it
+-- the number of the field that stands for one: so many before it
+abbrev pub first_at : List ℕ → ℕ → ℕ
+first_at backs k = k - get_or backs k 0
+
+-- each field ends with the record of the field that stands for it
 abbrev pub AreFirst : List ℕ → List Field → Type 0
-AreFirst firsts fields = (k : ℕ) → k < length firsts → end_at fields (get_or firsts k k) ≡ end_at fields k
+AreFirst backs fields = (k : ℕ) → k < length backs → end_at fields (first_at backs k) ≡ end_at fields k
 
 abbrev pub IsAmong : ℕ → List ℕ → Type 0
 IsAmong k [] = ⊥
@@ -78,13 +91,13 @@ IsAmong k (n ∷ ns) = (k ≡ n) ⊎ IsAmong k ns
 
 -- each field below a number ends with no record, or has a field before it that stands for it, or is kept
 abbrev pub AreKept : ℕ → List ℕ → List ℕ → List Field → Type 0
-AreKept n kept firsts fields = (k : ℕ) → k < n → (end_at fields k ≡ None) ⊎ (get_or firsts k k < k) ⊎ IsAmong k kept
+AreKept n kept backs fields = (k : ℕ) → k < n → (end_at fields k ≡ None) ⊎ (first_at backs k < k) ⊎ IsAmong k kept
 
 abbrev pub AreWithin : List ℕ → List Field → Type 0
 AreWithin kept fields = (k : ℕ) → IsAmong k kept → k < length fields
 
 abbrev pub AreEnds : Ends → List Field → Type 0
-AreEnds ends fields = AreFirst ends.firsts.items fields × AreKept (length fields) ends.kept.items ends.firsts.items fields × AreWithin ends.kept.items fields
+AreEnds ends fields = AreFirst ends.backs.items fields × AreKept (length fields) ends.kept.items ends.backs.items fields × AreWithin ends.kept.items fields
 
 -- the fields of these numbers end with the same records
 abbrev pub AmongAlike : List ℕ → List Field → List Field → Type 0

@@ -33,7 +33,7 @@ pub(crate) fn same_record(left: &RecordType, right: &RecordType) -> bool
 {
     if left.spelling() == right.spelling() {
         let (ends, others) = (left.ends(), right.ends());
-        if ends.firsts.as_slice() == others.firsts.as_slice() {
+        if ends.backs.as_slice() == others.backs.as_slice() {
             same_kept(left.fields(), right.fields(), ends.kept.as_slice())
         } else {
             same_each(left.fields(), right.fields())

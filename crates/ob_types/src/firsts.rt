@@ -1,6 +1,6 @@
 //! Fields that end with one record, so that it is compared once.
 
-ghost use Rattle.std.specs.Prelude.{◌≡◌, ◌<◌, ◌⊎◌, length, get_or, option_map, None, IfOk, IsFalse, IsTrue};
+ghost use Rattle.std.specs.Prelude.{◌≡◌, ◌-◌, ◌<◌, ◌⊎◌, length, option_map, None, IfOk, IsFalse, IsTrue};
 ghost use Rattle.ob_types.specs.Spelling as spec;
 
 use crate::compatible::same_record;
@@ -34,31 +34,28 @@ fn same_end(one: &ObType, other: &ObType) -> bool
     }
 }
 
-/// The number that stands for a field: of a field that ends with the same record.
-fn first_of(firsts: &[usize], number: usize) -> usize
-    ensures { result ≡ get_or firsts.now number number }
+/// The number of the field that stands for one: of a field before it that ends with the same record, or its own.
+fn first_of(backs: &[u8], number: usize) -> usize
+    ensures { result ≡ spec.first_at backs.now number }
 {
-    if number < firsts.len() {
-        firsts[number]
+    if number < backs.len() {
+        number.saturating_sub(backs[number] as usize)
     } else {
         number
     }
 }
 
-/// The number of a field before that ends with the same record, if one is found, else its own. These stand for those before.
-fn first_for(fields: &[Field], firsts: &[usize], number: usize) -> usize
+/// How many fields before a field one stands that ends with the same record, if one is found, else 0.
+fn back_for(fields: &[Field], number: usize) -> u8
     requires there { number < length fields.now }
-    requires firsts { spec.AreFirst firsts.now fields.now }
-    ensures { spec.end_at fields.now result ≡ spec.end_at fields.now number }
+    ensures { spec.end_at fields.now (number - result) ≡ spec.end_at fields.now number }
 {
-    let mut before = number;
-    while before > 0 && number - before < LOOKED {
-        before -= 1;
-        if same_end(fields[before].of(), fields[number].of()) {
-            return first_of(firsts, before);
+    for back in 1..=LOOKED.min(number) {
+        if same_end(fields[number - back].of(), fields[number].of()) {
+            return back as u8;
         }
     }
-    number
+    0
 }
 
 /// Whether two of these fields or more end with records.
@@ -75,40 +72,40 @@ fn have_records(fields: &[Field]) -> bool {
     false
 }
 
-/// For each field the number of one that ends with the same record, where two may. Or lack of memory.
-fn firsts_of(alloc: Global, fields: &[Field]) -> Result<Vec<usize>, AllocError>
+/// For each field how many fields before it one stands that ends with the same record, where two may. Or lack of memory.
+fn backs_of(alloc: Global, fields: &[Field]) -> Result<Vec<u8>, AllocError>
     ensures { IfOk result (λ v. spec.AreFirst v.items fields.now) }
 {
-    let mut firsts = Vec::new(alloc);
+    let mut backs = Vec::new(alloc);
     if !have_records(fields) {
-        return Ok(firsts);
+        return Ok(backs);
     }
     for number in 0..fields.len() {
-        let first = first_for(fields, firsts.as_slice(), number);
-        firsts.push(first)?;
+        let back = back_for(fields, number);
+        backs.push(back)?;
     }
-    Ok(firsts)
+    Ok(backs)
 }
 
 /// Whether a field ends with a record for which no field before stands.
-fn is_kept(fields: &[Field], firsts: &[usize], number: usize) -> bool
+fn is_kept(fields: &[Field], backs: &[u8], number: usize) -> bool
     requires there { number < length fields.now }
-    ensures { IsFalse result → (spec.end_at fields.now number ≡ None) ⊎ (get_or firsts.now number number < number) }
+    ensures { IsFalse result → (spec.end_at fields.now number ≡ None) ⊎ (spec.first_at backs.now number < number) }
 {
-    if first_of(firsts, number) < number {
+    if first_of(backs, number) < number {
         return false;
     }
     end_of(fields[number].of()).is_some()
 }
 
 /// The numbers of these fields. Or lack of memory.
-fn kept_of(alloc: Global, fields: &[Field], firsts: &[usize]) -> Result<Vec<usize>, AllocError>
-    ensures kept { IfOk result (λ v. spec.AreKept (length fields.now) v.items firsts.now fields.now) }
+fn kept_of(alloc: Global, fields: &[Field], backs: &[u8]) -> Result<Vec<usize>, AllocError>
+    ensures kept { IfOk result (λ v. spec.AreKept (length fields.now) v.items backs.now fields.now) }
     ensures within { IfOk result (λ v. spec.AreWithin v.items fields.now) }
 {
     let mut kept = Vec::new(alloc);
     for number in 0..fields.len() {
-        if is_kept(fields, firsts, number) {
+        if is_kept(fields, backs, number) {
             kept.push(number)?;
         }
     }
@@ -119,7 +116,7 @@ fn kept_of(alloc: Global, fields: &[Field], firsts: &[usize]) -> Result<Vec<usiz
 pub(crate) fn ends_of(alloc: Global, fields: &[Field]) -> Result<Ends, AllocError>
     ensures { IfOk result (λ ends. spec.AreEnds ends fields.now) }
 {
-    let firsts = firsts_of(alloc, fields)?;
-    let kept = kept_of(alloc, fields, firsts.as_slice())?;
-    Ok(Ends { firsts, kept })
+    let backs = backs_of(alloc, fields)?;
+    let kept = kept_of(alloc, fields, backs.as_slice())?;
+    Ok(Ends { backs, kept })
 }

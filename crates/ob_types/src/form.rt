@@ -62,8 +62,8 @@ pub struct Facts {
 /// Which fields of a record end with one record, behind their arrays.
 #[derive(Drop)]
 pub struct Ends {
-    /// For each field the number of one that ends with the same record, where two may.
-    pub(crate) firsts: Vec<usize>,
+    /// For each field how many fields before it one stands that ends with the same record, where two may; 0 where none is known.
+    pub(crate) backs: Vec<u8>,
     /// The numbers of the fields that end with a record for which no field before stands.
     pub(crate) kept: Vec<usize>,
 }

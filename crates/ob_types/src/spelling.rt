@@ -1,6 +1,6 @@
 //! Records as lists of bytes, by which two are compared at once down to the records in them.
 
-ghost use Rattle.std.specs.Prelude.{◌≡◌, ◌++◌, IfOk, OnOk};
+ghost use Rattle.std.specs.Prelude.{◌≡◌, ◌≤◌, ◌++◌, [], length, IfOk, OnOk};
 ghost use Rattle.ob_types.specs.Spelling as spec;
 
 use crate::form::{Field, Form, ObType};
@@ -18,10 +18,10 @@ fn put_letter(output: &mut Vec<u8>, c: u8) -> Result<(), AllocError>
     Ok(())
 }
 
-fn put_letters(output: &mut Vec<u8>, name: &Text) -> Result<(), AllocError>
+fn put_letters(output: &mut Vec<u8>, name: &[u8]) -> Result<(), AllocError>
     ensures { OnOk result (output.new.items ≡ output.old.items ++ spec.letters name.now) }
 {
-    for &c in name.as_slice() {
+    for &c in name {
         put_letter(output, c)?;
     }
     Ok(())
@@ -53,7 +53,7 @@ fn put_enclosing(output: &mut Vec<u8>, procedures: &[Text]) -> Result<(), AllocE
 {
     for procedure in procedures {
         output.push(1)?;
-        put_letters(output, procedure)?;
+        put_letters(output, procedure.as_slice())?;
         output.push(2)?;
     }
     output.push(0)?;
@@ -63,18 +63,18 @@ fn put_enclosing(output: &mut Vec<u8>, procedures: &[Text]) -> Result<(), AllocE
 fn put_name(output: &mut Vec<u8>, name: &RecordName) -> Result<(), AllocError>
     ensures { OnOk result (output.new.items ≡ output.old.items ++ spec.name_spelled name.now) }
 {
-    put_letters(output, &name.module_name)?;
+    put_letters(output, name.module_name.as_slice())?;
     output.push(3)?;
     put_enclosing(output, name.enclosing.as_slice())?;
-    put_letters(output, &name.declared)?;
+    put_letters(output, name.declared.as_slice())?;
     output.push(4)?;
     put_number(output, name.before)
 }
 
-fn mark(exported: bool) -> u8
+fn mark(exported: bool) -> usize
     ensures { result ≡ spec.mark exported }
 {
-    if exported { 9 } else { 8 }
+    if exported { 1 } else { 0 }
 }
 
 /// Appends a type, down to a basic type or a record.
@@ -103,19 +103,39 @@ fn put_type(output: &mut Vec<u8>, of: &ObType) -> Result<(), AllocError>
     }
 }
 
-fn put_field(output: &mut Vec<u8>, field: &Field) -> Result<(), AllocError>
-    ensures { OnOk result (output.new.items ≡ output.old.items ++ spec.field_spelled field.now) }
+/// How many characters two names begin with in common, 100 at most.
+fn shared(previous: &[u8], name: &[u8]) -> usize
+    ensures shared { result ≡ spec.shared 100 previous.now name.now }
+    ensures within { result ≤ length name.now }
+    ensures few { result ≤ 100 }
 {
-    put_letters(output, field.name())?;
-    output.push(mark(field.exported()))?;
+    let most = previous.len().min(name.len()).min(100);
+    for count in 0..most {
+        if previous[count] != name[count] {
+            return count;
+        }
+    }
+    most
+}
+
+/// Appends a field that stands after one of this name.
+fn put_field(output: &mut Vec<u8>, previous: &[u8], field: &Field) -> Result<(), AllocError>
+    ensures { OnOk result (output.new.items ≡ output.old.items ++ spec.field_spelled previous.now field.now) }
+{
+    let name = field.name().as_slice();
+    let common = shared(previous, name);
+    output.push((16 + 2 * common + mark(field.exported())) as u8)?;
+    put_letters(output, &name[common..])?;
     put_type(output, field.of())
 }
 
 fn put_fields(output: &mut Vec<u8>, fields: &[Field]) -> Result<(), AllocError>
-    ensures { OnOk result (output.new.items ≡ output.old.items ++ spec.fields_spelled fields.now) }
+    ensures { OnOk result (output.new.items ≡ output.old.items ++ spec.fields_spelled [] fields.now) }
 {
+    let mut previous: &[u8] = &[];
     for field in fields {
-        put_field(output, field)?;
+        put_field(output, previous, field)?;
+        previous = field.name().as_slice();
     }
     output.push(10)?;
     Ok(())

@@ -7,7 +7,7 @@ use Rattle.ob_types.proofs.firsts.kept_of.Goals as goal
 pub loop-number-preserved : goal.loop-number-preserved
 loop-number-preserved c =
     let fields = c.args.fields.now in
-    let firsts = c.args.firsts.now in
+    let firsts = c.args.backs.now in
     let number = c.loop-number.number in
     let before = c.loop-number.kept.items in
     elim c.if-is_kept.branch [
